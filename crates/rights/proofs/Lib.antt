@@ -1,0 +1,5 @@
+pub mod Ranges
+pub mod Facts
+pub mod Lists
+pub mod LabelLaws
+pub mod Records
