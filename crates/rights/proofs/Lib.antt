@@ -3,3 +3,5 @@ pub mod Facts
 pub mod Lists
 pub mod LabelLaws
 pub mod Records
+pub mod Texts
+pub mod Held

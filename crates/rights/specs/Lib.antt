@@ -1,3 +1,6 @@
 pub mod Bytes
 pub mod Labels
 pub mod Table
+pub mod Path
+pub mod Policy
+pub mod PolicyBytes

@@ -3,3 +3,4 @@ pub mod limits;
 pub mod bytes;
 pub mod labels;
 pub mod table;
+pub mod policy;

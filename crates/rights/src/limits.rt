@@ -10,3 +10,5 @@ pub const RECORD_BYTES: usize = 32;
 pub const LABEL_AT: usize = 2;
 // A table holds at most 16,384 records.
 pub const RECORDS_MAX: usize = 16384;
+// A policy's subjects start at byte 8.
+pub const SUBJECTS_AT: usize = 8;
