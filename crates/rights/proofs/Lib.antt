@@ -5,3 +5,9 @@ pub mod LabelLaws
 pub mod Records
 pub mod Texts
 pub mod Held
+pub mod Runs
+pub mod PathLaws
+pub mod PathTexts
+pub mod PathSound
+pub mod PathComplete
+pub mod PathWritten

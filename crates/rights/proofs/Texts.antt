@@ -44,4 +44,3 @@ module _ (b : List ℕ) (at : ℕ) where
 
   pub text-eq : Text b at → (n : ℕ) → n ≡ getD b (at + 1) 0 → take n (drop (at + 2) b) ≡ label (recAt b at)
   text-eq x n e = ap (λ (k : ℕ). take k (drop (at + 2) b)) e ∙ sym (text-at (x .short))
-

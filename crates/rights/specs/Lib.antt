@@ -4,3 +4,5 @@ pub mod Table
 pub mod Path
 pub mod Policy
 pub mod PolicyBytes
+pub mod PathReader
+pub mod PathText

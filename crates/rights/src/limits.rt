@@ -6,7 +6,9 @@ pub const LABEL_MAX: usize = 24;
 pub const LEVEL_MAX: usize = 11;
 // A table starts with its count, in 4 bytes; a record has 32 bytes: level, label's length, label, zeros.
 pub const COUNT_BYTES: usize = 4;
+
 pub const RECORD_BYTES: usize = 32;
+
 pub const LABEL_AT: usize = 2;
 // A table holds at most 16,384 records.
 pub const RECORDS_MAX: usize = 16384;

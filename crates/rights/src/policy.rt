@@ -1,7 +1,9 @@
 // The policy part of a state (document 01, "Lines" and "Rights"; docs/FORMAT.md): its names, and what they pass.
 use crate::bytes::wide;
 use crate::labels::same_label;
-use crate::limits::{LABEL_AT, RECORD_BYTES, SUBJECTS_AT};
+use crate::limits::LABEL_AT;
+use crate::limits::RECORD_BYTES;
+use crate::limits::SUBJECTS_AT;
 ghost use mathlib.Core.Path.{_≡_};
 ghost use Prim.Native.Nat.{_+_, _*_, _≤_};
 ghost use lib.ListN.{length, take, drop};
