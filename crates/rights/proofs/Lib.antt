@@ -11,3 +11,9 @@ pub mod PathTexts
 pub mod PathSound
 pub mod PathComplete
 pub mod PathWritten
+pub mod Masks
+pub mod Lanes
+pub mod Chains
+pub mod Eaches
+pub mod Roles
+pub mod Model

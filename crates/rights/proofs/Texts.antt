@@ -8,7 +8,12 @@ use lib.Dec.{lit<, eqb}
 use lib.ListN.{length, take, drop, getD, length-drop}
 use lib.Seq.{getD-take, getD-drop, take-take, drop-drop, take-add, length-take-le}
 use Rattle.rights.specs.Table.{recAt, level, label}
-use Rattle.rights.specs.PolicyBytes.{Text}
+use borrow.Author.Tests.{eq-eqb, ne-eqb}
+use mathlib.Core.Bool.{Bool, true}
+use Rattle.rights.specs.Labels.{sameLabel}
+use Rattle.rights.specs.Path as path
+use Rattle.rights.specs.Path.{passes}
+use Rattle.rights.specs.PolicyBytes.{Text, testOf}
 
 -- a part of a part
 drop-take : (a n : ℕ) (l : List ℕ) → drop a (take (a + n) l) ≡ take n (drop a l)
@@ -44,3 +49,30 @@ module _ (b : List ℕ) (at : ℕ) where
 
   pub text-eq : Text b at → (n : ℕ) → n ≡ getD b (at + 1) 0 → take n (drop (at + 2) b) ≡ label (recAt b at)
   text-eq x n e = ap (λ (k : ℕ). take k (drop (at + 2) b)) e ∙ sym (text-at (x .short))
+
+-- which test the text of a step is, by its first byte
+module _ (w : List ℕ) where
+  pub test-any : getD w 0 0 ≡ 42 → testOf w ≡ path.any
+  unfolding testOf
+  test-any e = rw (eq-eqb _ _ e)
+
+  pub test-own : (getD w 0 0 ≡ 42 → ⊥) → getD w 0 0 ≡ 36 → testOf w ≡ path.own
+  unfolding testOf
+  test-own h e = rw (ne-eqb _ _ h, eq-eqb _ _ e)
+
+  pub test-label : (getD w 0 0 ≡ 42 → ⊥) → (getD w 0 0 ≡ 36 → ⊥) → testOf w ≡ path.label w
+  unfolding testOf
+  test-label h k = rw (ne-eqb _ _ h, ne-eqb _ _ k)
+
+module _ (mine : List ℕ → Bool) (w x : List ℕ) where
+  pub passes-any : getD w 0 0 ≡ 42 → passes mine (testOf w) x ≡ true
+  unfolding passes
+  passes-any e = rw (test-any w e)
+
+  pub passes-mine : (getD w 0 0 ≡ 42 → ⊥) → getD w 0 0 ≡ 36 → passes mine (testOf w) x ≡ mine x
+  unfolding passes
+  passes-mine h e = rw (test-own w h e)
+
+  pub passes-label : (getD w 0 0 ≡ 42 → ⊥) → (getD w 0 0 ≡ 36 → ⊥) → passes mine (testOf w) x ≡ sameLabel x w
+  unfolding passes
+  passes-label h k = rw (test-label w h k)

@@ -6,3 +6,5 @@ pub mod Policy
 pub mod PolicyBytes
 pub mod PathReader
 pub mod PathText
+pub mod Rights
+pub mod Automaton

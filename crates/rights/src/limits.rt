@@ -14,3 +14,23 @@ pub const LABEL_AT: usize = 2;
 pub const RECORDS_MAX: usize = 16384;
 // A policy's subjects start at byte 8.
 pub const SUBJECTS_AT: usize = 8;
+// At most 64 subjects, 128 isa lines, 128 rules; a path has at most 16 steps.
+pub const SUBJECTS_MAX: usize = 64;
+
+pub const ISA_MAX: usize = 128;
+
+pub const RULES_MAX: usize = 128;
+
+pub const STEPS_MAX: usize = 16;
+// Where a policy's isa lines and rules start, and how long they and a whole policy are; a rule's steps start at its byte 8.
+pub const ISA_AT: usize = 2056;
+
+pub const ISA_BYTES: usize = 2;
+
+pub const RULES_AT: usize = 2312;
+
+pub const RULE_BYTES: usize = 520;
+
+pub const STEPS_AT: usize = 8;
+
+pub const POLICY_BYTES: usize = 68872;

@@ -1,0 +1,142 @@
+-- One step of a loop that makes a mask from the last step down to the first. Assumes nothing.
+use Prim.Native.Nat.{ℕ, suc, zero, _+_, _*_, _-_, _/_, _%_, _^_, _≤_, _<_}
+use mathlib.Core.Bool.{Bool, true, false, _&&_, not, and-false}
+use mathlib.Core.Path.{_≡_, refl, sym, ap, ap₂, _∙_}
+use mathlib.Core.List.{List, [], _∷_}
+use native.Mathlib.Nat.{mod-eq-of-lt, zero-div, pow-suc, le-of-suc-le-suc, sub-self}
+use native.Mathlib.Omega.{arith}
+use lib.Bits.{bitAnd, bitOr, and-zero-l, or-zero-l}
+use lib.Dec.{lit<, eqb}
+use lib.Pow.{pow-mono, shr-shr}
+use lib.ListN.{length, take, drop, getD}
+use Rattle.rights.specs.Table.{level, label, recAt}
+use Rattle.rights.specs.Rights.{Step, stepFor, finds}
+use Rattle.rights.specs.Automaton.{bit, value, meet, join, deeps, passedBy, moved, someState, states, stepsFor}
+use Rattle.rights.specs.Path.{passes, far}
+use Rattle.rights.specs.PolicyBytes.{stepOf, axisOf, testOf}
+use Rattle.rights.proofs.Masks.{bit-lt, value-lt, value-meet, value-join}
+use Rattle.rights.proofs.Texts.{first-at}
+
+-- a bit of a mask is an element of the set
+pub bit-of : (st : List Bool) (j : ℕ) → value st / 2 ^ j % 2 ≡ bit (getD st j false)
+unfolding value
+bit-of [] zero = refl
+bit-of [] (suc j) = rw (zero-div (2 ^ suc j))
+bit-of (b ∷ bs) zero = go b
+  where
+    go : (b : Bool) → (value bs * 2 + bit b) / 2 ^ 0 % 2 ≡ bit b
+    go true = omega arith
+    go false = omega arith
+bit-of (b ∷ bs) (suc j) =
+    let e : 1 + j ≡ suc j = omega arith in
+    let h : (value bs * 2 + bit b) / 2 ^ 1 ≡ value bs = omega (arith, bit-lt b) in
+    ap (λ (k : ℕ). (value bs * 2 + bit b) / 2 ^ k % 2) (sym e)
+    ∙ ap (λ (k : ℕ). k % 2) (sym (shr-shr (value bs * 2 + bit b) 1 j))
+    ∙ ap (λ (k : ℕ). k / 2 ^ j % 2) h
+    ∙ bit-of bs j
+
+one-bit : (b : Bool) → eqb (bit b) 1 ≡ b
+one-bit true = refl
+one-bit false = refl
+
+pub bit-test : (st : List Bool) (j : ℕ) → eqb (value st / 2 ^ j % 2) 1 ≡ getD st j false
+bit-test st j = ap (λ (k : ℕ). eqb k 1) (bit-of st j) ∙ one-bit _
+
+meet-step : (st : List Bool) (j : ℕ) (q : Bool) (qs : List Bool)
+    → value (meet (drop j st) (q ∷ qs)) ≡ value (meet (drop (suc j) st) qs) * 2 + bit (getD st j false && q)
+unfolding value meet
+meet-step [] zero q qs = refl
+meet-step [] (suc j) q qs = refl
+meet-step (b ∷ bs) zero q qs = refl
+meet-step (b ∷ bs) (suc j) q qs = meet-step bs j q qs
+
+length-meet-r : (xs ys : List Bool) → length (meet xs ys) ≤ length ys
+unfolding meet
+length-meet-r [] ys = omega arith
+length-meet-r (x ∷ xs) [] = omega arith
+length-meet-r (x ∷ xs) (y ∷ ys) = omega (arith, length-meet-r xs ys)
+
+-- a doubled mask of at most 31 bits does not wrap
+pub doubled : (xs : List Bool) → length xs ≤ 31 → value xs * 2 ^ 1 % 2 ^ 32 ≡ value xs * 2
+doubled xs h = mod-eq-of-lt (omega (arith, value-lt xs, pow-mono {i = length xs} {j = 31} h))
+
+pub shl-add : (p x : ℕ) → x ≤ 1 → p * 2 ^ 1 % 2 ^ 32 + x < 2 ^ 32
+shl-add p x e = omega arith
+
+module _ (mine : List ℕ → Bool) (s : List ℕ) (b : ℕ) where
+  pub length-steps : (n i : ℕ) → length (stepsFor mine s b n i) ≡ n
+  unfolding stepsFor
+  length-steps zero i = refl
+  length-steps (suc n) i = ap suc (length-steps n (suc i))
+
+  pub steps-step : (n i : ℕ) → i < n → stepsFor mine s b (n - i) i ≡ stepFor mine (stepOf (recAt s (b + i * 32))) ∷ stepsFor mine s b (n - suc i) (suc i)
+  unfolding stepsFor
+  steps-step n i h = let e : n - i ≡ suc (n - suc i) = omega arith in rw e
+
+pub few-steps : (mine : List ℕ → Bool) (s : List ℕ) (b n i : ℕ) → n ≤ 16 → length (stepsFor mine s b n i) ≤ 16
+few-steps mine s b n i h = omega (arith, length-steps mine s b n i)
+
+length-passedBy : (ss : List Step) (x : List ℕ) → length (passedBy ss x) ≡ length ss
+unfolding passedBy
+length-passedBy [] x = refl
+length-passedBy (s ∷ ss) x = ap suc (length-passedBy ss x)
+
+length-deeps : (ss : List Step) → length (deeps ss) ≡ length ss
+unfolding deeps
+length-deeps [] = refl
+length-deeps (s ∷ ss) = ap suc (length-deeps ss)
+
+pub passing-end : (st : List Bool) (n : ℕ) (ss : List Step) (x : List ℕ) → length ss ≡ 0 → value (meet (drop n st) (passedBy ss x)) ≡ 0
+unfolding value meet passedBy
+passing-end st n [] x e = go (drop n st)
+  where
+    go : (l : List Bool) → value (meet l []) ≡ 0
+    go [] = refl
+    go (y ∷ l) = refl
+passing-end st n (s ∷ ss) x e = absurd (omega arith)
+
+module _ (mine : List ℕ → Bool) (s : List ℕ) (b n i : ℕ) (few : n ≤ 16) (h : i < n) where
+  pub passing-step : (st : List Bool) (y : List ℕ) (p x m : ℕ) → m ≡ value st
+      → p ≡ value (meet (drop (suc i) st) (passedBy (stepsFor mine s b (n - suc i) (suc i)) y))
+      → x ≡ bit (eqb (m / 2 ^ i % 2) 1 && passes mine (testOf (label (recAt s (b + i * 32)))) y)
+      → p * 2 ^ 1 % 2 ^ 32 + x ≡ value (meet (drop i st) (passedBy (stepsFor mine s b (n - i) i) y))
+  unfolding passedBy
+  passing-step st y p x m em ep ex =
+      let ss = stepsFor mine s b (n - suc i) (suc i) in
+      let k : length (meet (drop (suc i) st) (passedBy ss y)) ≤ 31 = omega (arith, length-meet-r (drop (suc i) st) (passedBy ss y), length-passedBy ss y, length-steps mine s b (n - suc i) (suc i)) in
+      ap₂ _+_ (ap (λ (z : ℕ). z * 2 ^ 1 % 2 ^ 32) ep ∙ doubled (meet (drop (suc i) st) (passedBy ss y)) k)
+      (ex ∙ ap (λ (z : ℕ). bit (eqb (z / 2 ^ i % 2) 1 && passes mine (testOf (label (recAt s (b + i * 32)))) y)) em
+      ∙ ap (λ (z : Bool). bit (z && passes mine (testOf (label (recAt s (b + i * 32)))) y)) (bit-test st i))
+      ∙ sym (meet-step st i (passes mine (testOf (label (recAt s (b + i * 32)))) y) (passedBy ss y))
+      ∙ ap (λ (z : List Step). value (meet (drop i st) (passedBy z y))) (sym (steps-step mine s b n i h))
+
+  pub deep-step : (p x : ℕ) → p ≡ value (deeps (stepsFor mine s b (n - suc i) (suc i)))
+      → x ≡ bit (far (axisOf (getD s (b + i * 32) 0)))
+      → p * 2 ^ 1 % 2 ^ 32 + x ≡ value (deeps (stepsFor mine s b (n - i) i))
+  unfolding value deeps
+  deep-step p x ep ex =
+      let ss = stepsFor mine s b (n - suc i) (suc i) in
+      let k : length (deeps ss) ≤ 31 = omega (arith, length-deeps ss, length-steps mine s b (n - suc i) (suc i)) in
+      ap₂ _+_ (ap (λ (z : ℕ). z * 2 ^ 1 % 2 ^ 32) ep ∙ doubled (deeps ss) k)
+      (ex ∙ ap (λ (z : ℕ). bit (far (axisOf z))) (sym (first-at s (b + i * 32))))
+      ∙ ap (λ (z : List Step). value (deeps z)) (sym (steps-step mine s b n i h))
+
+-- the states after a node, by masks
+pub moved-mask : (ss : List Step) (st : List Bool) (x : List ℕ) (m d p : ℕ) → length ss ≤ 16 → m ≡ value st → d ≡ value (deeps ss) → p ≡ value (meet st (passedBy ss x))
+    → bitOr (bitAnd m d) (p * 2 ^ 1 % 2 ^ 32) ≡ value (moved ss st x)
+unfolding value
+moved-mask ss st x m d p h em ed ep =
+    let a = meet st (passedBy ss x) in
+    let k : length a ≤ 31 = omega (arith, length-meet-r st (passedBy ss x), length-passedBy ss x) in
+    let z : value a * 2 ≡ value (false ∷ a) = omega arith in
+    ap₂ (λ (u v : ℕ). bitOr u v) (ap₂ (λ (u v : ℕ). bitAnd u v) em ed ∙ value-meet st (deeps ss)) (ap (λ (u : ℕ). u * 2 ^ 1 % 2 ^ 32) ep ∙ doubled a k ∙ z)
+    ∙ value-join (meet st (deeps ss)) (false ∷ a)
+
+pub moved-none : (ss : List Step) (st : List Bool) (x : List ℕ) → length ss ≤ 16 → 0 ≡ value st → 0 ≡ value (moved ss st x)
+unfolding value
+moved-none ss st x h e =
+    let a : value (meet st (passedBy ss x)) ≡ 0 = sym (value-meet st (passedBy ss x)) ∙ ap (λ (z : ℕ). bitAnd z (value (passedBy ss x))) (sym e) ∙ and-zero-l (value (passedBy ss x)) in
+    ap (λ (z : ℕ). bitOr z 0) (sym (and-zero-l (value (deeps ss)))) ∙ moved-mask ss st x 0 (value (deeps ss)) 0 h e refl (sym a)
+
+pub passing-none : (mine : List ℕ → Bool) (s : List ℕ) (b n : ℕ) (st : List Bool) (x : List ℕ) → 0 ≡ value (meet (drop n st) (passedBy (stepsFor mine s b (n - n) n) x))
+passing-none mine s b n st x = sym (passing-end st n (stepsFor mine s b (n - n) n) x (length-steps mine s b (n - n) n ∙ sub-self n))

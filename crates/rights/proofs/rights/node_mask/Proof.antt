@@ -1,0 +1,19 @@
+use Rattle.rights.proofs.Lanes.{moved-mask, moved-none, few-steps}
+use mathlib.Core.Path.{_≡_, refl, sym, _∙_, ap, ap₂}
+use native.Mathlib.Omega.{arith}
+use Rattle.rights.proofs.Lanes.{moved-mask, moved-none, length-steps}
+use borrow.Author.Needs.{needs}
+use Rattle.rights.proofs.rights.node_mask.Statement.{statement}
+use Rattle.rights.proofs.rights.node_mask.Tie as tie
+
+returns : tie.Need-returns
+returns c = λ st em. moved-none _ st _ (few-steps _ _ _ _ _ (c .before .before .before .pre .0 .few)) (sym (c .if1 .taken) ∙ em)
+
+passing-requires : tie.Need-passing-requires
+passing-requires c κs = search needs
+
+returns-2 : tie.Need-returns-2
+returns-2 c = λ st em. moved-mask _ st _ _ _ _ (few-steps _ _ _ _ _ (c .before .before .before .before .pre .0 .few)) em (c .before .before .before .before .pre .3) (c .passing .ensures st em)
+
+pub node-mask-spec : {M : Type 1} → statement M
+node-mask-spec = tie.close (tie.spec returns passing-requires returns-2)
