@@ -17,3 +17,6 @@ pub mod Chains
 pub mod Eaches
 pub mod Roles
 pub mod Model
+pub mod Every
+pub mod Words
+pub mod Sounds

@@ -8,3 +8,4 @@ pub mod PathReader
 pub mod PathText
 pub mod Rights
 pub mod Automaton
+pub mod PolicyCheck

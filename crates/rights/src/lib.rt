@@ -4,5 +4,6 @@ pub mod labels;
 pub mod limits;
 pub mod path;
 pub mod policy;
+pub mod policy_check;
 pub mod rights;
 pub mod table;
