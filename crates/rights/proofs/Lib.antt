@@ -20,3 +20,4 @@ pub mod Model
 pub mod Every
 pub mod Words
 pub mod Sounds
+pub mod PolicyWords

@@ -11,6 +11,7 @@ use crate::limits::RULE_BYTES;
 use crate::limits::RULES_AT;
 use crate::limits::STEPS_AT;
 use crate::policy::passes_own;
+use crate::table::count_of;
 ghost use mathlib.Core.Path.{_≡_};
 ghost use mathlib.Core.List.{List, [], _++_, map};
 ghost use mathlib.Core.Bool.{Bool, true, false, cond, not, _&&_};
@@ -19,7 +20,8 @@ ghost use lib.ListN.{length, take, drop, getD};
 ghost use lib.Dec.{eqb};
 ghost use Rattle.rights.specs.Path.{far, passes};
 ghost use Rattle.rights.specs.Policy.{passesOwn};
-ghost use Rattle.rights.specs.Table.{recAt, recordsFrom, recordsOk, level, label};
+ghost use Rattle.rights.specs.Table.{recAt, recordsFrom, recordsOk, records, count, tableOk, level, label};
+ghost use Rattle.rights.specs.PolicyCheck.{policyOk};
 ghost use Rattle.rights.specs.PolicyBytes.{policyOf, subjectCount, isaCount, ruleCount, accepts, rightBit, whose, axisOf, testOf, Text, Subject};
 ghost use Rattle.rights.specs.Rights.{tried, withRule, rightsOn};
 ghost use Rattle.rights.specs.Automaton.{bit, value, meet, deeps, passedBy, moved, stepsFor, rulePath, chainOf, isAt, lined, widened, Each, Steps, Sound};
@@ -283,4 +285,13 @@ fn rights_of(policy: &[u8], u: usize, t: &[u8], n: usize, out: &mut [u8])
         try_rule_for(policy, k, u, &roles, t, n, out);
         k += 1;
     }
+}
+
+// Writes the rights that subject u has on each node of a table: one byte a node, one bit a right.
+pub fn rights_on(policy: &[u8], u: usize, table: &[u8], out: &mut [u8])
+    requires { ⌜ (policyOk (now policy) ≡ true) × (u < subjectCount (now policy)) × (tableOk (now table) ≡ true) × (count (now table) ≤ length (now out)) ⌝ }
+    ensures { λ _. ⌜ now (out .exit) ≡ rightsOn (policyOf (now (policy .entry))) u (records (now (table .entry))) ++ drop (count (now (table .entry))) (now (out .entry)) ⌝ }
+{
+    let n = count_of(table);
+    rights_of(policy, u, table, n, out);
 }
