@@ -21,3 +21,4 @@ pub mod Every
 pub mod Words
 pub mod Sounds
 pub mod PolicyWords
+pub mod RightsLaws
