@@ -6,4 +6,5 @@ pub mod path;
 pub mod policy;
 pub mod policy_check;
 pub mod rights;
+pub mod record;
 pub mod table;
