@@ -11,3 +11,6 @@ pub mod PathTexts
 pub mod PathSound
 pub mod PathComplete
 pub mod PathWritten
+pub mod PassLaws
+pub mod MatcherLaws
+pub mod WalkLaws

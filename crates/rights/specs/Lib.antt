@@ -6,3 +6,6 @@ pub mod Policy
 pub mod PolicyBytes
 pub mod PathReader
 pub mod PathText
+pub mod Nodes
+pub mod XPath
+pub mod Selection

@@ -2,6 +2,8 @@
 pub mod bytes;
 pub mod labels;
 pub mod limits;
+pub mod passes;
 pub mod path;
 pub mod policy;
+pub mod selection;
 pub mod table;

@@ -14,3 +14,9 @@ pub const LABEL_AT: usize = 2;
 pub const RECORDS_MAX: usize = 16384;
 // A policy's subjects start at byte 8.
 pub const SUBJECTS_AT: usize = 8;
+// A path is 1 to 16 steps, a step has at most 2 brackets, and brackets nest at most 3 deep.
+pub const STEPS_MAX: usize = 16;
+
+pub const BRACKETS_MAX: usize = 2;
+
+pub const NESTING_MAX: usize = 3;
