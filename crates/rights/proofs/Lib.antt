@@ -14,3 +14,9 @@ pub mod PathWritten
 pub mod PassLaws
 pub mod MatcherLaws
 pub mod WalkLaws
+pub mod XPathLists
+pub mod XPathAxes
+pub mod XPathLaws
+pub mod ViewNested
+pub mod StarredPaths
+pub mod NodeLaws
