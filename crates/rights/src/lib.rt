@@ -2,7 +2,7 @@
 pub mod bytes;
 pub mod labels;
 pub mod limits;
-pub mod passes;
+mod passes;
 pub mod path;
 pub mod policy;
 pub mod selection;
