@@ -10,3 +10,6 @@ pub mod Rights
 pub mod Automaton
 pub mod PolicyCheck
 pub mod Record
+pub mod Nodes
+pub mod XPath
+pub mod Selection

@@ -2,9 +2,11 @@
 pub mod bytes;
 pub mod labels;
 pub mod limits;
+mod passes;
 pub mod path;
 pub mod policy;
 pub mod policy_check;
 pub mod rights;
 pub mod record;
+pub mod selection;
 pub mod table;
