@@ -34,3 +34,13 @@ pub const RULE_BYTES: usize = 520;
 pub const STEPS_AT: usize = 8;
 
 pub const POLICY_BYTES: usize = 68872;
+// The bit of each right in a set of rights.
+pub const POSITION: u8 = 1;
+
+pub const READ: u8 = 2;
+
+pub const INSERT: u8 = 4;
+
+pub const UPDATE: u8 = 8;
+
+pub const DELETE: u8 = 16;
