@@ -1,0 +1,4 @@
+pub mod Fill
+pub mod Depth
+pub mod StoredNodes
+pub mod ViewLaws
