@@ -2,3 +2,4 @@ pub mod Fill
 pub mod Depth
 pub mod StoredNodes
 pub mod ViewLaws
+pub mod MarkLaws
