@@ -1,7 +1,17 @@
 // Which records a change does (document 01, "Changes"), decided before anything changes.
 use crate::marks::is_set;
 use crate::marks::mark_of;
+use rights::bytes::wide;
+use rights::limits::COUNT_BYTES;
+use rights::limits::DELETE;
+use rights::limits::INSERT;
+use rights::limits::LABEL_AT;
+use rights::limits::READ;
+use rights::limits::RECORD_BYTES;
 use rights::limits::RECORDS_MAX;
+use rights::limits::UPDATE;
+use rights::policy::is_policy_word;
+use rights::rights::holds_right;
 ghost use mathlib.Core.Path.{_≡_};
 ghost use mathlib.Core.Bool.{Bool, true, false, cond, not, _&&_};
 ghost use mathlib.Core.List.{List, [], _∷_, _++_, map};
@@ -10,7 +20,12 @@ ghost use lib.Dec.{eqb, ltb};
 ghost use lib.ListN.{length, take, drop, getD};
 ghost use Rattle.rights.specs.Automaton.{bit};
 ghost use Rattle.views.specs.Marks.{marksOf};
-ghost use Rattle.views.specs.Done.{isNext, byNumbers};
+ghost use Rattle.rights.specs.Policy.{read, update, policyWord};
+ghost use Rattle.rights.specs.PolicyBytes.{policyOf, Text};
+ghost use Rattle.rights.specs.PolicyCheck.{policyOk};
+ghost use Rattle.rights.specs.Rights.{holds};
+ghost use Rattle.rights.specs.Table.{recordAt, label};
+ghost use Rattle.views.specs.Done.{byNumbers, does};
 
 // The six changes.
 pub enum Change {
@@ -88,5 +103,77 @@ fn pass_down(slots: &mut [u8; 16], level: usize, v: u8)
     while l < 15 {
         l += 1;
         slots[l] = v;
+    }
+}
+
+// Whether the label of record i is a policy word.
+fn is_word(policy: &[u8], table: &[u8], i: usize) -> bool
+    requires { ⌜ (policyOk (now policy) ≡ true) × Text (now table) (4 + i * 32) ⌝ }
+    ensures { λ r. ⌜ r ≡ policyWord (policyOf (now (policy .entry))) (label (recordAt (now (table .entry)) i)) ⌝ }
+{
+    let at = COUNT_BYTES + i * RECORD_BYTES;
+    let n = wide(table[at + 1]);
+    is_policy_word(policy, table, at + LABEL_AT, n)
+}
+
+// Whether both hold.
+fn both(a: bool, b: bool) -> bool
+    ensures { λ r. ⌜ r ≡ (a && b) ⌝ }
+{
+    if a {
+        return b;
+    }
+    false
+}
+
+// Whether a node at this level is not the root, and may be done otherwise.
+fn is_inner(may: bool, level: u8) -> bool
+    ensures { λ r. ⌜ r ≡ (may && not (eqb level 0)) ⌝ }
+{
+    if may {
+        return level != 0;
+    }
+    false
+}
+
+// Whether record i, with these rights, is concerned and may be renamed.
+fn is_renamable(concerned: bool, policy: &[u8], table: &[u8], i: usize, set: u8) -> bool
+    requires { ⌜ (policyOk (now policy) ≡ true) × Text (now table) (4 + i * 32) ⌝ }
+    ensures { λ r. ⌜ r ≡ (concerned && (holds read set && (holds update set && not (policyWord (policyOf (now (policy .entry))) (label (recordAt (now (table .entry)) i)))))) ⌝ }
+{
+    if concerned {
+        if holds_right(set, READ) {
+            if holds_right(set, UPDATE) {
+                return !is_word(policy, table, i);
+            }
+        }
+    }
+    false
+}
+
+// Whether the change does record i: the user's rights on it, its level, whether it is shown and selected; whether its parent is selected
+// (chosen) and the user has insert on its parent (granting).
+fn is_done(
+    change: Change,
+    policy: &[u8],
+    table: &[u8],
+    i: usize,
+    set: u8,
+    level: u8,
+    shown: bool,
+    selected: bool,
+    chosen: bool,
+    granting: bool,
+) -> bool
+    requires { ⌜ (policyOk (now policy) ≡ true) × Text (now table) (4 + i * 32) ⌝ }
+    ensures { λ r. ⌜ r ≡ does change (record { level = level; rights = set; shown = shown; selected = selected; word = policyWord (policyOf (now (policy .entry))) (label (recordAt (now (table .entry)) i)); parentSelected = chosen; parentInsert = granting }) ⌝ }
+{
+    match change {
+        Change::Rename => is_renamable(selected, policy, table, i, set),
+        Change::Update => is_renamable(both(shown, chosen), policy, table, i, set),
+        Change::Append => both(selected, holds_right(set, INSERT)),
+        Change::Before => both(selected, is_inner(granting, level)),
+        Change::After => both(selected, is_inner(granting, level)),
+        Change::Remove => both(selected, is_inner(holds_right(set, DELETE), level)),
     }
 }
