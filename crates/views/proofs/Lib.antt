@@ -3,3 +3,4 @@ pub mod Depth
 pub mod StoredNodes
 pub mod ViewLaws
 pub mod MarkLaws
+pub mod DonePass

@@ -12,7 +12,9 @@ use lib.ListN.{length, take, drop, getD, set}
 use lib.Seq.{drop-cons, getD-take, getD-drop}
 use Rattle.rights.specs.Table.{recordAt, recordsFrom, records, level, recordOk, recordsOk, tableOk, count, capacity}
 use Rattle.rights.proofs.Records.{records-step, records-end}
-use Rattle.rights.proofs.Facts.{both}
+use Rattle.rights.specs.PolicyBytes.{Text}
+use Rattle.rights.proofs.Texts.{byte-at}
+use Rattle.rights.proofs.Facts.{Sound, all-sound, both}
 use Rattle.views.specs.Shown.{Stored, storedFrom, stored, storedLevel, grants, granted, depthAfter, isShownAt, shown, shownFrom, keep, numberOf, shownNumbers, numbersFrom}
 use Rattle.views.proofs.Fill.{put-take, put-drop, put-length, put-next, filled, filled-length}
 use Rattle.views.proofs.Depth.{Steps, shown-by-depth}
@@ -39,6 +41,17 @@ good t e =
 
 pub level-at : (t : List ℕ) (i : ℕ) → level (recordAt t i) ≡ getD t (4 + i * 32) 0
 level-at t i = rw (getD-take 32 (drop (4 + i * 32) t) 0 0 (lit< tt), getD-drop, add-zero)
+
+-- what a record of a table holds
+pub record-text : (t : List ℕ) → tableOk t ≡ true → (i : ℕ) → i < count t → Text t (4 + i * 32) × (getD t (4 + i * 32) 0 < 12)
+record-text t ok i h =
+    let g = good t ok in
+    let f = all-sound 0 0 t (count t) 0 i (g .ordered) h in
+    let k : 0 + i ≡ i = omega arith in
+    let s : Sound (recordAt t i) = rw k at f in
+    let b = byte-at t (4 + i * 32) 1 (omega arith) in
+    let a = level-at t i in
+    (record { room = omega (arith, g .room); some = omega (arith, s .some-label); short = omega (arith, s .short-label) }, omega (arith, s .low-level))
 
 -- node i of a table
 abbrev pub storedAt : List ℕ → List ℕ → ℕ → Stored

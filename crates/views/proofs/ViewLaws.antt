@@ -7,18 +7,17 @@ use native.Mathlib.Nat.{mod-eq-of-lt, add-mod-right}
 use native.Mathlib.Omega.{arith}
 use borrow.Author.Tests.{leb-true, le-leb, lt-leb}
 use lib.Dec.{leb}
-use lib.ListN.{length, getD, drop, length-map}
-use lib.Seq.{getD-take, getD-drop}
+use lib.ListN.{length, getD, length-map}
 use Rattle.rights.specs.Labels.{restricted}
 use Rattle.rights.specs.Table.{recAt, recordAt, recordsFrom, records, level, label, recordOk, recordsOk, tableOk, count}
 use Rattle.rights.specs.Policy.{read}
 use Rattle.rights.specs.PolicyBytes.{Text}
 use Rattle.rights.specs.Rights.{holds}
 use Rattle.rights.specs.Nodes.{Node, node, Nodes, levelOf, levelAt, Nested, recordPlace, seen, viewOf, Fits}
-use Rattle.rights.proofs.Facts.{Sound, sound, all-sound, both}
+use Rattle.rights.proofs.Facts.{both}
 use Rattle.rights.proofs.Lists.{byCase}
 use Rattle.views.specs.Shown.{Stored, storedFrom, stored, storedLevel, granted, isShownAt, depthAfter, shownFrom, shown, keep, carried, numberOf, view, shownNumbers, numbersFrom}
-use Rattle.views.proofs.StoredNodes.{Good, good, level-at, table-by-depth}
+use Rattle.views.proofs.StoredNodes.{good, record-text, table-by-depth}
 
 -- Numbers of records
 
@@ -193,9 +192,6 @@ stored-length t zero i ss = omega arith
 stored-length t (suc n) i [] = omega arith
 stored-length t (suc n) i (s ∷ ss) = let h = stored-length t n (suc i) ss in omega arith
 
-byte-at : (t : List ℕ) (k j : ℕ) → j < 32 → getD (recordAt t k) j 0 ≡ getD t (4 + k * 32 + j) 0
-byte-at t k j h = getD-take 32 (drop (4 + k * 32) t) j 0 h ∙ getD-drop (4 + k * 32) t j 0
-
 module _ (t ss : List ℕ) (ok : tableOk t ≡ true) where
   -- no more nodes are shown than there are
   pub shown-few : length (shownNumbers (stored t ss)) ≤ count t
@@ -207,14 +203,7 @@ module _ (t ss : List ℕ) (ok : tableOk t ≡ true) where
 
   record-fits : (m : ℕ) → m % 16384 < count t → Text t (recordPlace m) × (getD t (recordPlace m) 0 < 12)
   unfolding recordPlace
-  record-fits m h =
-      let g = good t ok in
-      let f = all-sound 0 0 t (count t) 0 (m % 16384) (g .ordered) h in
-      let k : 0 + m % 16384 ≡ m % 16384 = omega arith in
-      let s : Sound (recordAt t (m % 16384)) = rw k at f in
-      let b = byte-at t (m % 16384) 1 (omega arith) in
-      let a = level-at t (m % 16384) in
-      (record { room = omega (arith, g .room); some = omega (arith, s .some-label); short = omega (arith, s .short-label) }, omega (arith, s .low-level))
+  record-fits m h = record-text t ok (m % 16384) h
 
   pub view-fits : Fits t (shownNumbers (stored t ss))
   view-fits =

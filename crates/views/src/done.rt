@@ -1,6 +1,8 @@
 // Which records a change does (document 01, "Changes"), decided before anything changes.
 use crate::marks::is_set;
 use crate::marks::mark_of;
+use crate::shown::depth_after;
+use crate::shown::is_shown;
 use rights::bytes::wide;
 use rights::limits::COUNT_BYTES;
 use rights::limits::DELETE;
@@ -12,6 +14,7 @@ use rights::limits::RECORDS_MAX;
 use rights::limits::UPDATE;
 use rights::policy::is_policy_word;
 use rights::rights::holds_right;
+use rights::table::count_of;
 ghost use mathlib.Core.Path.{_≡_};
 ghost use mathlib.Core.Bool.{Bool, true, false, cond, not, _&&_};
 ghost use mathlib.Core.List.{List, [], _∷_, _++_, map};
@@ -24,8 +27,8 @@ ghost use Rattle.rights.specs.Policy.{read, update, policyWord};
 ghost use Rattle.rights.specs.PolicyBytes.{policyOf, Text};
 ghost use Rattle.rights.specs.PolicyCheck.{policyOk};
 ghost use Rattle.rights.specs.Rights.{holds};
-ghost use Rattle.rights.specs.Table.{recordAt, label};
-ghost use Rattle.views.specs.Done.{byNumbers, does};
+ghost use Rattle.rights.specs.Table.{recordAt, label, count, tableOk};
+ghost use Rattle.views.specs.Done.{byNumbers, does, doneMarks};
 
 // The six changes.
 pub enum Change {
@@ -175,5 +178,40 @@ fn is_done(
         Change::Before => both(selected, is_inner(granting, level)),
         Change::After => both(selected, is_inner(granting, level)),
         Change::Remove => both(selected, is_inner(holds_right(set, DELETE), level)),
+    }
+}
+
+// Writes for each record whether the change does it. `selected` has a mark for each record. A slot a level says of the node above, which is the
+// parent of the next node at that level, whether it is selected, and whether the user has insert on it.
+pub fn mark_done(
+    change: Change,
+    policy: &[u8],
+    table: &[u8],
+    rights: &[u8],
+    selected: &[u8],
+    done: &mut [u8],
+)
+    requires { ⌜ (policyOk (now policy) ≡ true) × (tableOk (now table) ≡ true) × (count (now table) ≤ length (now rights)) × (count (now table) ≤ length (now selected)) × (count (now table) ≤ length (now done)) ⌝ }
+    ensures { λ _. ⌜ now (done .exit) ≡ map bit (doneMarks change (policyWord (policyOf (now (policy .entry)))) (now (table .entry)) (now (rights .entry)) (marksOf (now (selected .entry)))) ++ drop (count (now (table .entry))) (now (done .entry)) ⌝ }
+{
+    let n = count_of(table);
+    let mut chosen = [0u8; 16];
+    let mut granting = [0u8; 16];
+    let mut depth = 0;
+    let mut i = 0;
+    while i < n {
+        let level = table[COUNT_BYTES + i * RECORD_BYTES];
+        let l = wide(level);
+        let set = rights[i];
+        let on = is_shown(depth, level, set);
+        let sel = is_set(selected[i]);
+        let up = is_set(chosen[l]);
+        let may = is_set(granting[l]);
+        let does = is_done(change, policy, table, i, set, level, on, sel, up, may);
+        done[i] = mark_of(does);
+        pass_down(&mut chosen, l, mark_of(sel));
+        pass_down(&mut granting, l, mark_of(holds_right(set, INSERT)));
+        depth = depth_after(depth, level, on);
+        i += 1;
     }
 }

@@ -1,0 +1,168 @@
+use Rattle.views.proofs.done.mark_done.Statement.{statement}
+use Rattle.views.proofs.done.mark_done.Tie as tie
+use Rattle.views.proofs.done.mark_done.Reads as reads
+use Rattle.views.proofs.done.mark_done.Lts as lts
+use Rattle.rights.proofs.bytes.wide.Reads as wide-reads
+use Rattle.rights.proofs.rights.holds_right.Reads as holds-right-reads
+use Rattle.rights.proofs.table.count_of.Reads as count-of-reads
+use Rattle.views.proofs.done.is_done.Reads as is-done-reads
+use Rattle.views.proofs.done.pass_down.Reads as pass-down-reads
+use Rattle.views.proofs.marks.is_set.Reads as is-set-reads
+use Rattle.views.proofs.marks.mark_of.Reads as mark-of-reads
+use Rattle.views.proofs.shown.depth_after.Reads as depth-after-reads
+use Rattle.views.proofs.shown.is_shown.Reads as is-shown-reads
+
+abbrev Inv-loop : tie.InvT-loop
+Inv-loop change policy table rights selected done₀ n chosen₀ granting₀ depth₀ i₀ done chosen granting depth i =
+    ?
+
+abbrev μ-loop : tie.MeasureT-loop
+μ-loop change policy table rights selected done₀ n chosen₀ granting₀ depth₀ i₀ done chosen granting depth i =
+    ?
+
+-- src/done.rt:197:9
+count-of-requires : tie.Need-count-of-requires Inv-loop μ-loop
+count-of-requires c κs = ?
+
+-- src/done.rt:202:5
+loop-holds : tie.Need-loop-holds Inv-loop μ-loop
+loop-holds c = ?
+
+-- src/done.rt:203:41
+mul-level : tie.Need-mul-level Inv-loop μ-loop
+mul-level c = ?
+
+-- src/done.rt:203:27
+add-level : tie.Need-add-level Inv-loop μ-loop
+add-level c = ?
+
+-- src/done.rt:203:21
+shared-slice-read-level : tie.Need-shared-slice-read-level Inv-loop μ-loop
+shared-slice-read-level c = ?
+
+-- src/done.rt:204:13
+wide-requires : tie.Need-wide-requires Inv-loop μ-loop
+wide-requires c κs = ?
+
+-- src/done.rt:205:19
+shared-slice-read-set : tie.Need-shared-slice-read-set Inv-loop μ-loop
+shared-slice-read-set c = ?
+
+-- src/done.rt:206:13
+is-shown-requires : tie.Need-is-shown-requires Inv-loop μ-loop
+is-shown-requires c κs = ?
+
+-- src/done.rt:207:26
+shared-slice-read-is-set : tie.Need-shared-slice-read-is-set Inv-loop μ-loop
+shared-slice-read-is-set c = ?
+
+-- src/done.rt:207:13
+is-set-requires : tie.Need-is-set-requires Inv-loop μ-loop
+is-set-requires c κs = ?
+
+-- src/done.rt:208:25
+array-read-is-set : tie.Need-array-read-is-set Inv-loop μ-loop
+array-read-is-set c = ?
+
+-- src/done.rt:208:13
+is-set-requires-2 : tie.Need-is-set-requires-2 Inv-loop μ-loop
+is-set-requires-2 c κs = ?
+
+-- src/done.rt:209:26
+array-read-is-set-2 : tie.Need-array-read-is-set-2 Inv-loop μ-loop
+array-read-is-set-2 c = ?
+
+-- src/done.rt:209:13
+is-set-requires-3 : tie.Need-is-set-requires-3 Inv-loop μ-loop
+is-set-requires-3 c κs = ?
+
+-- src/done.rt:210:13
+is-done-requires : tie.Need-is-done-requires Inv-loop μ-loop
+is-done-requires c κs = ?
+
+-- src/done.rt:211:19
+mark-of-requires : tie.Need-mark-of-requires Inv-loop μ-loop
+mark-of-requires c κs = ?
+
+-- src/done.rt:211:9
+slice-write-done : tie.Need-slice-write-done Inv-loop μ-loop
+slice-write-done c = ?
+
+-- src/done.rt:212:35
+mark-of-requires-2 : tie.Need-mark-of-requires-2 Inv-loop μ-loop
+mark-of-requires-2 c κs = ?
+
+-- src/done.rt:212:9
+pass-down-requires : tie.Need-pass-down-requires Inv-loop μ-loop
+pass-down-requires c κs = ?
+
+-- src/done.rt:213:45
+holds-right-requires : tie.Need-holds-right-requires Inv-loop μ-loop
+holds-right-requires c κs = ?
+
+-- src/done.rt:213:37
+mark-of-requires-3 : tie.Need-mark-of-requires-3 Inv-loop μ-loop
+mark-of-requires-3 c κs = ?
+
+-- src/done.rt:213:9
+pass-down-requires-2 : tie.Need-pass-down-requires-2 Inv-loop μ-loop
+pass-down-requires-2 c κs = ?
+
+-- src/done.rt:214:9
+depth-after-requires : tie.Need-depth-after-requires Inv-loop μ-loop
+depth-after-requires c κs = ?
+
+-- src/done.rt:215:9
+add-i : tie.Need-add-i Inv-loop μ-loop
+add-i c = ?
+
+-- src/done.rt:202:5
+loop-less : tie.Need-loop-less Inv-loop μ-loop
+loop-less c = ?
+
+-- src/done.rt:202:5
+loop-again : tie.Need-loop-again Inv-loop μ-loop
+loop-again c = ?
+
+-- src/done.rt:186:1
+same-length : tie.Need-same-length Inv-loop μ-loop
+same-length c = ?
+
+-- src/done.rt:186:1
+returns : tie.Need-returns Inv-loop μ-loop
+returns c = ?
+
+pub mark-done-spec : {M : Type 1} → statement M
+mark-done-spec =
+    tie.close
+    (tie.spec
+    Inv-loop
+    μ-loop
+    count-of-requires
+    loop-holds
+    mul-level
+    add-level
+    shared-slice-read-level
+    wide-requires
+    shared-slice-read-set
+    is-shown-requires
+    shared-slice-read-is-set
+    is-set-requires
+    array-read-is-set
+    is-set-requires-2
+    array-read-is-set-2
+    is-set-requires-3
+    is-done-requires
+    mark-of-requires
+    slice-write-done
+    mark-of-requires-2
+    pass-down-requires
+    holds-right-requires
+    mark-of-requires-3
+    pass-down-requires-2
+    depth-after-requires
+    add-i
+    loop-less
+    loop-again
+    same-length
+    returns)
