@@ -81,30 +81,32 @@ module _ (c : Change) (word : List ℕ → Bool) (t ss m d₀ : List ℕ) (n : �
       let z : i + 0 ≡ i = omega arith in
       ((rw z at (sym (getD-drop i s 0 false))) ∙ ap (λ l. getD l 0 false) e, sym (drop-drop 1 i s) ∙ ap (drop 1) e)
 
-  pub marking-more : (o a b a' b' : List ℕ) (d i e v u w : ℕ) (on sel up may z : Bool) → i < n → n ≤ length d₀ → n ≤ length ss
+  pub marking-more : (o a b a' b' : List ℕ) (d i k e v u w : ℕ) (on sel up may z : Bool) → i < n → n ≤ length d₀ → n ≤ length ss
       → getD t (4 + i * 32) 0 < 12
+      → k ≡ getD t (4 + i * 32) 0
       → Marking o a b d i
       → on ≡ (grants (getD ss i 0) && leb (getD t (4 + i * 32) 0) d)
       → sel ≡ not (eqb (getD m i 0) 0)
-      → up ≡ not (eqb (getD a (getD t (4 + i * 32) 0) 0) 0)
-      → may ≡ not (eqb (getD b (getD t (4 + i * 32) 0) 0) 0)
+      → up ≡ not (eqb (getD a k 0) 0)
+      → may ≡ not (eqb (getD b k 0) 0)
       → z ≡ does c (record { level = getD t (4 + i * 32) 0; rights = getD ss i 0; shown = on; selected = sel; word = word (label (recordAt t i)); parentSelected = up; parentInsert = may })
       → v ≡ bit z
       → u ≡ bit sel
       → w ≡ bit (insertIn i)
-      → (length a' ≡ 16) × ((l : ℕ) → l < 16 → getD a' l 0 ≡ cond (ltb (getD t (4 + i * 32) 0) l) u (getD a l 0))
-      → (length b' ≡ 16) × ((l : ℕ) → l < 16 → getD b' l 0 ≡ cond (ltb (getD t (4 + i * 32) 0) l) w (getD b l 0))
+      → (length a' ≡ 16) × ((l : ℕ) → l < 16 → getD a' l 0 ≡ cond (ltb k l) u (getD a l 0))
+      → (length b' ≡ 16) × ((l : ℕ) → l < 16 → getD b' l 0 ≡ cond (ltb k l) w (getD b l 0))
       → e ≡ depthAfter d (getD t (4 + i * 32) 0) on
       → Marking (set o i v) a' b' e (i + 1)
   unfolding shownFrom
-  marking-more o a b a' b' d i e v u w on sel up may z h hd hs low g p q r x y vv uu ww ga gb ee =
+  marking-more o a b a' b' d i k e v u w on sel up may z h hd hs low ke g p q r x y vv uu ww ga gb ee =
       let lv : getD t (4 + i * 32) 0 ≡ levelIn i = sym (level-at t i) in
+      let kl : k ≡ levelIn i = ke ∙ lv in
       let size = g .size in
       let here : drop i (shown (stored t ss)) ≡ on ∷ shownFrom storedLevel granted e (rest t ss n (i + 1)) = g .depth-is ∙ rw (rest-step t ss n i h (omega arith), level-at t i, ee, p) refl in
       let nx = shown-next i (shown (stored t ss)) (shownFrom storedLevel granted e (rest t ss n (i + 1))) on here in
       let se : sel ≡ selectedIn i = q ∙ sym (mark-at m i) in
-      let ue : up ≡ atParent false (nearestFirst (λ j. (levelIn j, selectedIn j)) i) (levelIn i) = r ∙ set-bit _ _ (g .chosen-is (getD t (4 + i * 32) 0) (omega arith)) ∙ ap (atParent false (nearestFirst (λ j. (levelIn j, selectedIn j)) i)) lv in
-      let me : may ≡ atParent false (nearestFirst (λ j. (levelIn j, insertIn j)) i) (levelIn i) = x ∙ set-bit _ _ (g .granting-is (getD t (4 + i * 32) 0) (omega arith)) ∙ ap (atParent false (nearestFirst (λ j. (levelIn j, insertIn j)) i)) lv in
+      let ue : up ≡ atParent false (nearestFirst (λ j. (levelIn j, selectedIn j)) i) (levelIn i) = r ∙ set-bit _ _ (g .chosen-is k (omega arith)) ∙ ap (atParent false (nearestFirst (λ j. (levelIn j, selectedIn j)) i)) kl in
+      let me : may ≡ atParent false (nearestFirst (λ j. (levelIn j, insertIn j)) i) (levelIn i) = x ∙ set-bit _ _ (g .granting-is k (omega arith)) ∙ ap (atParent false (nearestFirst (λ j. (levelIn j, insertIn j)) i)) kl in
       let f : z ≡ isDoneAt i = found i (getD t (4 + i * 32) 0) (getD ss i 0) on sel up may z lv refl (sym (nx .0)) se ue me y in
       record {
         within = omega arith;
@@ -112,8 +114,8 @@ module _ (c : Change) (word : List ℕ → Bool) (t ss m d₀ : List ℕ) (n : �
         after = push-drop o i v d₀ (g .after);
         chosen = ga .0;
         granting = gb .0;
-        chosen-is = slots-next levelIn selectedIn a a' i (getD t (4 + i * 32) 0) u lv (uu ∙ ap bit se) (g .chosen-is) (ga .1);
-        granting-is = slots-next levelIn insertIn b b' i (getD t (4 + i * 32) 0) w lv ww (g .granting-is) (gb .1);
+        chosen-is = slots-next levelIn selectedIn a a' i k u kl (uu ∙ ap bit se) (g .chosen-is) (ga .1);
+        granting-is = slots-next levelIn insertIn b b' i k w kl ww (g .granting-is) (gb .1);
         depth-is = nx .1;
         written =
             sym
@@ -143,3 +145,7 @@ module _ (c : Change) (word : List ℕ → Bool) (t ss m d₀ : List ℕ) (n : �
         depth-is = table-by-depth t ss ok ∙ rw e (ap (shownFrom storedLevel granted 0) (sym (rest-whole t ss (count t))));
         written = ap (λ k. map bit (eachFrom isDoneAt 0 k)) (sub-zero n);
       }
+
+  pub marking-gives : (o a b : List ℕ) (d i : ℕ) → n ≡ count t → n ≤ i → Marking o a b d i
+      → o ≡ map bit (doneMarks c word t ss (marksOf m)) ++ drop (count t) d₀
+  marking-gives o a b d i e h g = rw e at (marking-end o a b d i h g)
