@@ -119,9 +119,9 @@ module _ (c : Change) (word : List ℕ → Bool) (t ss m d₀ : List ℕ) (n : �
         depth-is = nx .1;
         written =
             sym
-                (push-take o i v (omega arith)
-                (ap (map bit) (each-step isDoneAt n i h) ∙ ap (λ k. k ∷ map bit (eachFrom isDoneAt (i + 1) (n - (i + 1)))) (sym (vv ∙ ap bit f))))
-                ∙ g .written;
+            (push-take o i v (omega arith)
+            (ap (map bit) (each-step isDoneAt n i h) ∙ ap (λ k. k ∷ map bit (eachFrom isDoneAt (i + 1) (n - (i + 1)))) (sym (vv ∙ ap bit f))))
+            ∙ g .written;
       }
 
   pub marking-end : (o a b : List ℕ) (d i : ℕ) → n ≤ i → Marking o a b d i → o ≡ map bit (eachFrom isDoneAt 0 n) ++ drop n d₀

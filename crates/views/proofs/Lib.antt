@@ -4,3 +4,4 @@ pub mod StoredNodes
 pub mod ViewLaws
 pub mod MarkLaws
 pub mod DonePass
+pub mod DoneLaws

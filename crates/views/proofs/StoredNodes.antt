@@ -94,7 +94,7 @@ module _ (t ss : List ℕ) (n i d : ℕ) where
       → e ≡ depthAfter d (level (recordAt t i)) b
       → numbersFrom d (rest t ss n i) ≡ cond b (m ∷ numbersFrom e (rest t ss n (i + 1))) (numbersFrom e (rest t ss n (i + 1)))
   unfolding shownFrom keep
-  numbers-step b m e h k p q r = rw (rest-step t ss n i h k, r, q, p) 
+  numbers-step b m e h k p q r = rw (rest-step t ss n i h k, r, q, p)
       (map-cond numberOf (isShownAt storedLevel granted d (storedAt t ss i)) (storedAt t ss i)
       (keep (shownFrom storedLevel granted (depthAfter d (level (recordAt t i)) (isShownAt storedLevel granted d (storedAt t ss i))) (rest t ss n (i + 1))) (rest t ss n (i + 1))))
 
@@ -120,14 +120,15 @@ module _ (t ss s₀ : List ℕ) (n : ℕ) where
       → e ≡ depthAfter d (getD t (4 + i * 32) 0) b
       → Showing s' e k' (i + 1)
   showing-more s s' d k i k' e m b h hs hn inv p q z y w =
-      rw (z, y)
-      (omega arith,
-      (let x = put-next s k m b in omega arith),
-      put-length s k m b ∙ inv .2,
-      put-drop s k m b s₀ (inv .3),
-      sym (put-take s k m b (numbersFrom e (rest t ss n (i + 1))) (omega arith))
-      ∙ ap (λ l. take k s ++ l) (sym (numbers-step t ss n i d b m e h (omega arith) (rw level-at p) q (rw level-at w)))
-      ∙ inv .4)
+      rw (z, y) (
+        omega arith,
+        (let x = put-next s k m b in omega arith),
+        put-length s k m b ∙ inv .2,
+        put-drop s k m b s₀ (inv .3),
+        sym (put-take s k m b (numbersFrom e (rest t ss n (i + 1))) (omega arith))
+            ∙ ap (λ l. take k s ++ l) (sym (numbers-step t ss n i d b m e h (omega arith) (rw level-at p) q (rw level-at w)))
+            ∙ inv .4,
+      )
 
   pub showing-end : (s : List ℕ) (d k i : ℕ) → n ≤ i → n ≤ length s₀ → Showing s d k i
       → (k ≡ length (numbersFrom 0 (storedFrom 0 (recordsFrom t n 0) ss)))

@@ -21,7 +21,7 @@ use Rattle.views.proofs.StoredNodes.{good, record-text, table-by-depth}
 
 -- Numbers of records
 
-number-mod : (x : Stored) → x .number < 16384 → numberOf x % 16384 ≡ x .number
+pub number-mod : (x : Stored) → x .number < 16384 → numberOf x % 16384 ≡ x .number
 number-mod x h =
     byCase (holds read (x .rights))
     (λ e. rw e (mod-eq-of-lt h))
@@ -43,14 +43,14 @@ abbrev pub Every : {A : Type 0} → (A → Type 0) → List A → Type 0
 Every P [] = Unit {0}
 Every P (x ∷ xs) = P x × Every P xs
 
-every-keep : {A : Type 0} (P : A → Type 0) (bs : List Bool) (xs : List A) → Every P xs → Every P (keep bs xs)
+pub every-keep : {A : Type 0} (P : A → Type 0) (bs : List Bool) (xs : List A) → Every P xs → Every P (keep bs xs)
 unfolding keep
 every-keep P [] xs p = tt
 every-keep P (b ∷ bs) [] p = tt
 every-keep P (true ∷ bs) (x ∷ xs) p = (p .0, every-keep P bs xs (p .1))
 every-keep P (false ∷ bs) (x ∷ xs) p = every-keep P bs xs (p .1)
 
-every-map : {A B : Type 0} (P : A → Type 0) (Q : B → Type 0) (f : A → B) → ((x : A) → P x → Q (f x)) → (xs : List A) → Every P xs → Every Q (map f xs)
+pub every-map : {A B : Type 0} (P : A → Type 0) (Q : B → Type 0) (f : A → B) → ((x : A) → P x → Q (f x)) → (xs : List A) → Every P xs → Every Q (map f xs)
 every-map P Q f g [] p = tt
 every-map P Q f g (x ∷ xs) p = (g x (p .0), every-map P Q f g xs (p .1))
 
@@ -196,10 +196,12 @@ module _ (t ss : List ℕ) (ok : tableOk t ≡ true) where
   -- no more nodes are shown than there are
   pub shown-few : length (shownNumbers (stored t ss)) ≤ count t
   shown-few =
-      omega (arith,
-      length-map (keep (shown (stored t ss)) (stored t ss)) numberOf,
-      keep-length (shown (stored t ss)) (stored t ss),
-      stored-length t (count t) 0 ss)
+      omega (
+        arith,
+        length-map (keep (shown (stored t ss)) (stored t ss)) numberOf,
+        keep-length (shown (stored t ss)) (stored t ss),
+        stored-length t (count t) 0 ss,
+      )
 
   record-fits : (m : ℕ) → m % 16384 < count t → Text t (recordPlace m) × (getD t (recordPlace m) 0 < 12)
   unfolding recordPlace

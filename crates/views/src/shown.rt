@@ -54,7 +54,8 @@ fn number_of(i: usize, set: u8) -> u16
     requires { ⌜ i < 16384 ⌝ }
     ensures { λ r. ⌜ r ≡ cond (holds read set) i (i + 16384) ⌝ }
 {
-    if holds_right(set, READ) {
+    let readable = holds_right(set, READ);
+    if readable {
         return i as u16;
     }
     (i + RECORDS_MAX) as u16

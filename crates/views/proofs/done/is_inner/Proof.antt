@@ -2,14 +2,10 @@ use mathlib.Core.Path.{_≡_, refl, sym, ap, _∙_}
 use borrow.Author.Needs.{needs}
 use Rattle.views.proofs.done.is_inner.Statement.{statement}
 use Rattle.views.proofs.done.is_inner.Tie as tie
-use Rattle.views.proofs.done.is_inner.Reads as reads
-use Rattle.views.proofs.done.is_inner.Lts as lts
 
--- src/done.rt:134:9
 returns : tie.Need-returns
 returns c = rw (c .if1 .taken) refl
 
--- src/done.rt:130:1
 returns-2 : tie.Need-returns-2
 returns-2 c = search needs
 

@@ -2,36 +2,25 @@ use mathlib.Core.Path.{_≡_, refl, sym, ap, _∙_}
 use borrow.Author.Needs.{needs}
 use Rattle.views.proofs.done.is_renamable.Statement.{statement}
 use Rattle.views.proofs.done.is_renamable.Tie as tie
-use Rattle.views.proofs.done.is_renamable.Reads as reads
-use Rattle.views.proofs.done.is_renamable.Lts as lts
-use Rattle.rights.proofs.rights.holds_right.Reads as holds-right-reads
-use Rattle.views.proofs.done.is_word.Reads as is-word-reads
 
--- src/done.rt:145:12
 holds-right-requires : tie.Need-holds-right-requires
 holds-right-requires c κs = search needs
 
--- src/done.rt:146:16
 holds-right-requires-2 : tie.Need-holds-right-requires-2
 holds-right-requires-2 c κs = search needs
 
--- src/done.rt:147:25
 is-word-requires : tie.Need-is-word-requires
 is-word-requires c κs = search needs
 
--- src/done.rt:147:17
 returns : tie.Need-returns
 returns c = rw (c .before .before .before .before .before .if1 .taken, ← c .before .before .before .before .holds-right .ensures, c .before .before .before .if2 .taken, ← c .before .before .holds-right2 .ensures, c .before .if3 .taken, ← c .is-word .ensures) refl
 
--- src/done.rt:140:1
 returns-2 : tie.Need-returns-2
 returns-2 c = rw (c .before .before .before .before .if1 .taken, ← c .before .before .before .holds-right .ensures, c .before .before .if2 .taken, ← c .before .holds-right2 .ensures, c .if3 .left) refl
 
--- src/done.rt:140:1
 returns-3 : tie.Need-returns-3
 returns-3 c = rw (c .before .before .if1 .taken, ← c .before .holds-right .ensures, c .if2 .left) refl
 
--- src/done.rt:140:1
 returns-4 : tie.Need-returns-4
 returns-4 c = search needs
 

@@ -6,42 +6,30 @@ use mathlib.Core.Path.{_≡_, refl, sym, ap, _∙_}
 use borrow.Author.Needs.{needs}
 use Rattle.views.proofs.done.is_word.Statement.{statement}
 use Rattle.views.proofs.done.is_word.Tie as tie
-use Rattle.views.proofs.done.is_word.Reads as reads
-use Rattle.views.proofs.done.is_word.Lts as lts
-use Rattle.rights.proofs.bytes.wide.Reads as wide-reads
-use Rattle.rights.proofs.policy.is_policy_word.Reads as is-policy-word-reads
 
--- src/done.rt:114:28
 mul-at : tie.Need-mul-at
 mul-at c = search needs
 
--- src/done.rt:114:14
 add-at : tie.Need-add-at
 add-at c = search needs
 
--- src/done.rt:115:24
 add-wide : tie.Need-add-wide
 add-wide c = search needs
 
--- src/done.rt:115:18
 shared-slice-read-wide : tie.Need-shared-slice-read-wide
 shared-slice-read-wide c = search needs
 
--- src/done.rt:115:9
 wide-requires : tie.Need-wide-requires
 wide-requires c κs = search needs
 
--- src/done.rt:116:35
 add-is-policy-word : tie.Need-add-is-policy-word
 add-is-policy-word c = search needs
 
--- src/done.rt:116:5
 is-policy-word-requires : tie.Need-is-policy-word-requires
 is-policy-word-requires c κs = search needs
 
--- src/done.rt:110:1
 returns : tie.Need-returns
-returns c = 
+returns c =
     let a = c .before .before .before .before .before .args in
     c .is-policy-word .ensures ∙ ap (policyWord (policyOf (a .policy .now))) (text-eq (a .table .now) (4 + a .i * 32) (c .before .before .before .before .before .pre .1) _ (c .before .wide .ensures))
 

@@ -4,34 +4,24 @@ use mathlib.Core.Path.{_≡_, refl, sym, ap, _∙_}
 use borrow.Author.Needs.{needs}
 use Rattle.views.proofs.done.mark_at.Statement.{statement}
 use Rattle.views.proofs.done.mark_at.Tie as tie
-use Rattle.views.proofs.done.mark_at.Reads as reads
-use Rattle.views.proofs.done.mark_at.Lts as lts
-use Rattle.views.proofs.marks.is_set.Reads as is-set-reads
-use Rattle.views.proofs.marks.mark_of.Reads as mark-of-reads
 
--- src/done.rt:48:9
 returns : tie.Need-returns
-returns c = 
+returns c =
     let a = c .before .before .args in
     rw (List·getD-eq-default (a .marks .now) 0 (c .if1 .taken), and-false (a .stands)) refl
 
--- src/done.rt:51:31
 shared-slice-read-is-set : tie.Need-shared-slice-read-is-set
 shared-slice-read-is-set c = search needs
 
--- src/done.rt:51:24
 is-set-requires : tie.Need-is-set-requires
 is-set-requires c κs = search needs
 
--- src/done.rt:51:9
 mark-of-requires : tie.Need-mark-of-requires
 mark-of-requires c κs = search needs
 
--- src/done.rt:51:9
 returns-2 : tie.Need-returns-2
 returns-2 c = rw (c .before .before .before .if2 .taken, ← c .before .is-set .ensures) (c .mark-of .ensures)
 
--- src/done.rt:44:1
 returns-3 : tie.Need-returns-3
 returns-3 c = search needs
 

@@ -10,17 +10,6 @@ use Rattle.views.proofs.StoredNodes.{good, record-text}
 use Rattle.views.proofs.DonePass.{Marking, marking-start, marking-more, marking-gives}
 use Rattle.views.proofs.done.mark_done.Statement.{statement}
 use Rattle.views.proofs.done.mark_done.Tie as tie
-use Rattle.views.proofs.done.mark_done.Reads as reads
-use Rattle.views.proofs.done.mark_done.Lts as lts
-use Rattle.rights.proofs.bytes.wide.Reads as wide-reads
-use Rattle.rights.proofs.rights.holds_right.Reads as holds-right-reads
-use Rattle.rights.proofs.table.count_of.Reads as count-of-reads
-use Rattle.views.proofs.done.is_done.Reads as is-done-reads
-use Rattle.views.proofs.done.pass_down.Reads as pass-down-reads
-use Rattle.views.proofs.marks.is_set.Reads as is-set-reads
-use Rattle.views.proofs.marks.mark_of.Reads as mark-of-reads
-use Rattle.views.proofs.shown.depth_after.Reads as depth-after-reads
-use Rattle.views.proofs.shown.is_shown.Reads as is-shown-reads
 
 abbrev Inv-loop : tie.InvT-loop
 Inv-loop change policy table rights selected done₀ n chosen₀ granting₀ depth₀ i₀ done chosen granting depth i =
@@ -29,157 +18,130 @@ Inv-loop change policy table rights selected done₀ n chosen₀ granting₀ dep
 abbrev μ-loop : tie.MeasureT-loop
 μ-loop change policy table rights selected done₀ n chosen₀ granting₀ depth₀ i₀ done chosen granting depth i = n - i
 
--- src/done.rt:197:9
 count-of-requires : tie.Need-count-of-requires Inv-loop μ-loop
 count-of-requires c κs = good _ (c .before .before .before .before .before .pre .1) .head
 
--- src/done.rt:202:5
 loop-holds : tie.Need-loop-holds Inv-loop μ-loop
-loop-holds c = 
+loop-holds c =
     let a = c .before .before .before .before .before .before .args in
     (c .count-of .ensures, marking-start (a .change) (policyWord (policyOf (a .policy .now))) (a .table .now) (a .rights .now) (a .selected .now) (a .done .now) (c .count-of .result) (c .count-of .ensures) (c .before .before .before .before .before .before .pre .1))
 
--- src/done.rt:203:41
 mul-level : tie.Need-mul-level Inv-loop μ-loop
-mul-level c = 
+mul-level c =
     let a = c .before .before .before .before .before .before .before .before .args in
     let l = c .before .loop in
     let g = good (a .table .now) (c .before .before .before .before .before .before .before .before .pre .1) in
     omega arith
 
--- src/done.rt:203:27
 add-level : tie.Need-add-level Inv-loop μ-loop
-add-level c = 
+add-level c =
     let a = c .before .before .before .before .before .before .before .before .args in
     let l = c .before .loop in
     let g = good (a .table .now) (c .before .before .before .before .before .before .before .before .pre .1) in
     omega arith
 
--- src/done.rt:203:21
 shared-slice-read-level : tie.Need-shared-slice-read-level Inv-loop μ-loop
-shared-slice-read-level c = 
+shared-slice-read-level c =
     let a = c .before .before .before .before .before .before .before .before .before .args in
     let l = c .before .before .loop in
     let g = good (a .table .now) (c .before .before .before .before .before .before .before .before .before .pre .1) in
     omega arith
 
--- src/done.rt:204:13
 wide-requires : tie.Need-wide-requires Inv-loop μ-loop
 wide-requires c κs = search needs
 
--- src/done.rt:205:19
 shared-slice-read-set : tie.Need-shared-slice-read-set Inv-loop μ-loop
 shared-slice-read-set c = search needs
 
--- src/done.rt:206:13
 is-shown-requires : tie.Need-is-shown-requires Inv-loop μ-loop
 is-shown-requires c κs = search needs
 
--- src/done.rt:207:26
 shared-slice-read-is-set : tie.Need-shared-slice-read-is-set Inv-loop μ-loop
 shared-slice-read-is-set c = search needs
 
--- src/done.rt:207:13
 is-set-requires : tie.Need-is-set-requires Inv-loop μ-loop
 is-set-requires c κs = search needs
 
--- src/done.rt:208:25
 array-read-is-set : tie.Need-array-read-is-set Inv-loop μ-loop
-array-read-is-set c = 
+array-read-is-set c =
     let a = c .before .before .before .before .before .before .before .before .before .before .before .before .before .before .args in
     let l = c .before .before .before .before .before .before .before .loop in
     let k = record-text (a .table .now) (c .before .before .before .before .before .before .before .before .before .before .before .before .before .before .pre .1) (l .i) (omega arith) in
     omega (arith, k .1, c .before .before .before .before .wide .ensures)
 
--- src/done.rt:208:13
 is-set-requires-2 : tie.Need-is-set-requires-2 Inv-loop μ-loop
 is-set-requires-2 c κs = search needs
 
--- src/done.rt:209:26
 array-read-is-set-2 : tie.Need-array-read-is-set-2 Inv-loop μ-loop
-array-read-is-set-2 c = 
+array-read-is-set-2 c =
     let a = c .before .before .before .before .before .before .before .before .before .before .before .before .before .before .before .args in
     let l = c .before .before .before .before .before .before .before .before .loop in
     let k = record-text (a .table .now) (c .before .before .before .before .before .before .before .before .before .before .before .before .before .before .before .pre .1) (l .i) (omega arith) in
     omega (arith, k .1, c .before .before .before .before .before .wide .ensures)
 
--- src/done.rt:209:13
 is-set-requires-3 : tie.Need-is-set-requires-3 Inv-loop μ-loop
 is-set-requires-3 c κs = search needs
 
--- src/done.rt:210:13
 is-done-requires : tie.Need-is-done-requires Inv-loop μ-loop
-is-done-requires c κs = 
+is-done-requires c κs =
     let a = c .before .before .before .before .before .before .before .before .before .before .before .before .before .before .before .before .args in
     let l = c .before .before .before .before .before .before .before .before .before .loop in
     let k = record-text (a .table .now) (c .before .before .before .before .before .before .before .before .before .before .before .before .before .before .before .before .pre .1) (l .i) (omega arith) in
     (c .before .before .before .before .before .before .before .before .before .before .before .before .before .before .before .before .pre .0, k .0)
 
--- src/done.rt:211:19
 mark-of-requires : tie.Need-mark-of-requires Inv-loop μ-loop
 mark-of-requires c κs = search needs
 
--- src/done.rt:211:9
 slice-write-done : tie.Need-slice-write-done Inv-loop μ-loop
 slice-write-done c = search needs
 
--- src/done.rt:212:35
 mark-of-requires-2 : tie.Need-mark-of-requires-2 Inv-loop μ-loop
 mark-of-requires-2 c κs = search needs
 
--- src/done.rt:212:9
 pass-down-requires : tie.Need-pass-down-requires Inv-loop μ-loop
 pass-down-requires c κs = search needs
 
--- src/done.rt:213:45
 holds-right-requires : tie.Need-holds-right-requires Inv-loop μ-loop
 holds-right-requires c κs = search needs
 
--- src/done.rt:213:37
 mark-of-requires-3 : tie.Need-mark-of-requires-3 Inv-loop μ-loop
 mark-of-requires-3 c κs = search needs
 
--- src/done.rt:213:9
 pass-down-requires-2 : tie.Need-pass-down-requires-2 Inv-loop μ-loop
 pass-down-requires-2 c κs = search needs
 
--- src/done.rt:214:9
 depth-after-requires : tie.Need-depth-after-requires Inv-loop μ-loop
 depth-after-requires c κs = search needs
 
--- src/done.rt:215:9
 add-i : tie.Need-add-i Inv-loop μ-loop
 add-i c = search needs
 
--- src/done.rt:202:5
 loop-less : tie.Need-loop-less Inv-loop μ-loop
 loop-less c = search needs
 
--- src/done.rt:202:5
 loop-again : tie.Need-loop-again Inv-loop μ-loop
-loop-again c = 
+loop-again c =
     let a = c .before .before .before .before .before .before .before .before .before .before .before .before .before .before .before .before .before .before .before .before .before .before .before .before .before .before .args in
     let l = c .before .before .before .before .before .before .before .before .before .before .before .before .before .before .before .before .before .before .before .loop in
     let k = record-text (a .table .now) (c .before .before .before .before .before .before .before .before .before .before .before .before .before .before .before .before .before .before .before .before .before .before .before .before .before .before .pre .1) (l .i) (omega arith) in
     let p = c .before .before .before .before .before .before .before .before .before .before .before .before .before .before .before .before .before .before .before .before .before .before .before .before .before .before .pre in
     let e = l .inv .0 in
-    let h = c .before .before .before .before .before .before .before .before .before .before .before .before .before .before .before .before .before .before .loop-test .taken in
-    (l .inv .0,
-    marking-more (a .change) (policyWord (policyOf (a .policy .now))) (a .table .now) (a .rights .now) (a .selected .now) (a .done .now) (c .before .before .before .before .before .before .before .before .before .before .before .before .before .before .before .before .before .before .before .before .count-of .result)
-    (l .done) (l .chosen) (l .granting) _ _ (l .depth) (l .i) (c .before .before .before .before .before .before .before .before .before .before .before .before .before .before .before .before .wide .result) _ _ (c .before .before .before .before .before .before .mark-of2 .result) (c .before .before .mark-of3 .result)
-    (c .before .before .before .before .before .before .before .before .before .before .before .before .before .before .is-shown .result) (c .before .before .before .before .before .before .before .before .before .before .before .before .is-set .result) (c .before .before .before .before .before .before .before .before .before .before .before .is-set2 .result) (c .before .before .before .before .before .before .before .before .before .before .is-set3 .result) (c .before .before .before .before .before .before .before .before .before .is-done .result)
-    (omega arith) (omega arith) (omega arith) (k .1) (c .before .before .before .before .before .before .before .before .before .before .before .before .before .before .before .before .wide .ensures) (l .inv .1)
-    (c .before .before .before .before .before .before .before .before .before .before .before .before .before .before .is-shown .ensures) (c .before .before .before .before .before .before .before .before .before .before .before .before .is-set .ensures) (c .before .before .before .before .before .before .before .before .before .before .before .is-set2 .ensures) (c .before .before .before .before .before .before .before .before .before .before .is-set3 .ensures) (c .before .before .before .before .before .before .before .before .before .is-done .ensures)
-    (c .before .before .before .before .before .before .before .before .mark-of .ensures) (c .before .before .before .before .before .before .mark-of2 .ensures) (c .before .before .mark-of3 .ensures ∙ ap bit (c .before .before .before .holds-right .ensures))
-    (c .before .before .before .before .before .pass-down .ensures) (c .before .pass-down2 .ensures) (c .depth-after .ensures))
+    let h = c .before .before .before .before .before .before .before .before .before .before .before .before .before .before .before .before .before .before .loop-test .taken in (
+      l .inv .0,
+      marking-more (a .change) (policyWord (policyOf (a .policy .now))) (a .table .now) (a .rights .now) (a .selected .now) (a .done .now) (c .before .before .before .before .before .before .before .before .before .before .before .before .before .before .before .before .before .before .before .before .count-of .result)
+          (l .done) (l .chosen) (l .granting) _ _ (l .depth) (l .i) (c .before .before .before .before .before .before .before .before .before .before .before .before .before .before .before .before .wide .result) _ _ (c .before .before .before .before .before .before .mark-of2 .result) (c .before .before .mark-of3 .result)
+          (c .before .before .before .before .before .before .before .before .before .before .before .before .before .before .is-shown .result) (c .before .before .before .before .before .before .before .before .before .before .before .before .is-set .result) (c .before .before .before .before .before .before .before .before .before .before .before .is-set2 .result) (c .before .before .before .before .before .before .before .before .before .before .is-set3 .result) (c .before .before .before .before .before .before .before .before .before .is-done .result)
+          (omega arith) (omega arith) (omega arith) (k .1) (c .before .before .before .before .before .before .before .before .before .before .before .before .before .before .before .before .wide .ensures) (l .inv .1)
+          (c .before .before .before .before .before .before .before .before .before .before .before .before .before .before .is-shown .ensures) (c .before .before .before .before .before .before .before .before .before .before .before .before .is-set .ensures) (c .before .before .before .before .before .before .before .before .before .before .before .is-set2 .ensures) (c .before .before .before .before .before .before .before .before .before .before .is-set3 .ensures) (c .before .before .before .before .before .before .before .before .before .is-done .ensures)
+          (c .before .before .before .before .before .before .before .before .mark-of .ensures) (c .before .before .before .before .before .before .mark-of2 .ensures) (c .before .before .mark-of3 .ensures ∙ ap bit (c .before .before .before .holds-right .ensures))
+          (c .before .before .before .before .before .pass-down .ensures) (c .before .pass-down2 .ensures) (c .depth-after .ensures),
+    )
 
--- src/done.rt:186:1
 same-length : tie.Need-same-length Inv-loop μ-loop
 same-length c = search needs
 
--- src/done.rt:186:1
 returns : tie.Need-returns Inv-loop μ-loop
-returns c = 
+returns c =
     let a = c .before .before .before .before .before .before .before .before .args in
     let l = c .before .loop in
     marking-gives (a .change) (policyWord (policyOf (a .policy .now))) (a .table .now) (a .rights .now) (a .selected .now) (a .done .now) (c .before .before .count-of .result) (l .done) (l .chosen) (l .granting) (l .depth) (l .i) (l .inv .0) (omega arith) (l .inv .1)

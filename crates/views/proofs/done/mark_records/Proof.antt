@@ -12,11 +12,6 @@ use native.Mathlib.Omega.{arith}
 use mathlib.Core.Path.{_≡_, refl, sym, ap, _∙_}
 use Rattle.views.proofs.done.mark_records.Statement.{statement}
 use Rattle.views.proofs.done.mark_records.Tie as tie
-use Rattle.views.proofs.done.mark_records.Reads as reads
-use Rattle.views.proofs.done.mark_records.Lts as lts
-use Rattle.views.proofs.done.mark_at.Reads as mark-at-reads
-use Rattle.views.proofs.done.next_of.Reads as next-of-reads
-use Rattle.views.proofs.done.stands_at.Reads as stands-at-reads
 
 abbrev Inv-loop : tie.InvT-loop
 Inv-loop shown k marks n selected₀ j₀ i₀ selected j i =
@@ -29,37 +24,29 @@ Inv-loop shown k marks n selected₀ j₀ i₀ selected j i =
 abbrev μ-loop : tie.MeasureT-loop
 μ-loop shown k marks n selected₀ j₀ i₀ selected j i = n - i
 
--- src/done.rt:74:5
 loop-holds : tie.Need-loop-holds Inv-loop μ-loop
 loop-holds c = (omega arith, omega arith, refl, refl, rw (sub-zero (c .before .before .before .args .n)) refl)
 
--- src/done.rt:75:13
 stands-at-requires : tie.Need-stands-at-requires Inv-loop μ-loop
 stands-at-requires c κs = search needs
 
--- src/done.rt:76:23
 mark-at-requires : tie.Need-mark-at-requires Inv-loop μ-loop
 mark-at-requires c κs = search needs
 
--- src/done.rt:76:9
 slice-write-selected : tie.Need-slice-write-selected Inv-loop μ-loop
 slice-write-selected c = search needs
 
--- src/done.rt:77:9
 next-of-requires : tie.Need-next-of-requires Inv-loop μ-loop
 next-of-requires c κs = search needs
 
--- src/done.rt:78:9
 add-i : tie.Need-add-i Inv-loop μ-loop
 add-i c = search needs
 
--- src/done.rt:74:5
 loop-less : tie.Need-loop-less Inv-loop μ-loop
 loop-less c = search needs
 
--- src/done.rt:74:5
 loop-again : tie.Need-loop-again Inv-loop μ-loop
-loop-again c = 
+loop-again c =
     let a = c .before .before .before .before .before .before .before .before .args in
     let l = c .before .before .before .before .loop in
     let x = put-next (l .selected) (l .j) 0 (c .before .before .stands-at .result) in (
@@ -73,13 +60,11 @@ loop-again c =
           ∙ l .inv .4,
     )
 
--- src/done.rt:68:1
 same-length : tie.Need-same-length Inv-loop μ-loop
 same-length c = omega arith
 
--- src/done.rt:68:1
 returns : tie.Need-returns Inv-loop μ-loop
-returns c = 
+returns c =
     let a = c .before .before .before .before .before .args in
     let l = c .before .loop in
     let e : l .i ≡ a .n = omega arith in

@@ -8,8 +8,6 @@ use native.Mathlib.Omega.{arith}
 use mathlib.Core.Path.{_≡_, refl, sym, ap, _∙_}
 use Rattle.views.proofs.done.pass_down.Statement.{statement}
 use Rattle.views.proofs.done.pass_down.Tie as tie
-use Rattle.views.proofs.done.pass_down.Reads as reads
-use Rattle.views.proofs.done.pass_down.Lts as lts
 
 abbrev Inv-loop : tie.InvT-loop
 Inv-loop slots₀ level v l₀ slots l =
@@ -20,32 +18,26 @@ Inv-loop slots₀ level v l₀ slots l =
 abbrev μ-loop : tie.MeasureT-loop
 μ-loop slots₀ level v l₀ slots l = 15 - l
 
--- src/done.rt:88:5
 loop-holds : tie.Need-loop-holds Inv-loop μ-loop
 loop-holds c = (omega arith, c .pre, λ k h. slots-start (c .args .slots .now) (c .args .level) (c .args .v) k)
 
--- src/done.rt:89:9
 add-l : tie.Need-add-l Inv-loop μ-loop
 add-l c = search needs
 
--- src/done.rt:90:9
 element-write-slots : tie.Need-element-write-slots Inv-loop μ-loop
 element-write-slots c = search needs
 
--- src/done.rt:88:5
 loop-less : tie.Need-loop-less Inv-loop μ-loop
 loop-less c = search needs
 
--- src/done.rt:88:5
 loop-again : tie.Need-loop-again Inv-loop μ-loop
-loop-again c = 
+loop-again c =
     let a = c .before .before .args in
     let l = c .before .loop in
     (omega arith, simp length-set (l .inv .1), slots-more (a .slots .now) (l .slots) (a .level) (a .v) (l .l) (l .inv .1) (omega arith) (omega arith) (l .inv .2))
 
--- src/done.rt:83:1
 returns : tie.Need-returns Inv-loop μ-loop
-returns c = 
+returns c =
     let a = c .before .before .args in
     let l = c .before .loop in
     (l .inv .1, λ k h. slots-end (a .slots .now) (l .slots) (a .level) (a .v) (l .l) k h (omega arith) (l .inv .2 k h))

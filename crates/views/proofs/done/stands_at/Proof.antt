@@ -3,27 +3,19 @@ use mathlib.Core.Path.{_≡_, refl, sym, ap, _∙_}
 use borrow.Author.Needs.{needs}
 use Rattle.views.proofs.done.stands_at.Statement.{statement}
 use Rattle.views.proofs.done.stands_at.Tie as tie
-use Rattle.views.proofs.done.stands_at.Reads as reads
-use Rattle.views.proofs.done.stands_at.Lts as lts
-use Rattle.views.proofs.done.wide_number.Reads as wide-number-reads
 
--- src/done.rt:38:9
 returns : tie.Need-returns
 returns c = rw (le-ltb _ _ (c .if1 .taken)) refl
 
--- src/done.rt:40:17
 mul-wide-number : tie.Need-mul-wide-number
 mul-wide-number c = search needs
 
--- src/done.rt:40:17
 shared-slice-read-wide-number : tie.Need-shared-slice-read-wide-number
 shared-slice-read-wide-number c = search needs
 
--- src/done.rt:40:5
 wide-number-requires : tie.Need-wide-number-requires
 wide-number-requires c κs = search needs
 
--- src/done.rt:33:1
 returns-2 : tie.Need-returns-2
 returns-2 c = rw (lt-ltb _ _ (c .before .before .if1 .left), c .wide-number .ensures) refl
 

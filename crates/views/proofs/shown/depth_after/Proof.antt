@@ -3,27 +3,19 @@ use mathlib.Core.Path.{_≡_, refl, sym, ap, _∙_}
 use borrow.Author.Needs.{needs}
 use Rattle.views.proofs.shown.depth_after.Statement.{statement}
 use Rattle.views.proofs.shown.depth_after.Tie as tie
-use Rattle.views.proofs.shown.depth_after.Reads as reads
-use Rattle.views.proofs.shown.depth_after.Lts as lts
-use Rattle.rights.proofs.bytes.wide.Reads as wide-reads
 
--- src/shown.rt:45:9
 wide-requires : tie.Need-wide-requires
 wide-requires c κs = search needs
 
--- src/shown.rt:47:16
 add-result : tie.Need-add-result
 add-result c = search needs
 
--- src/shown.rt:47:9
 returns : tie.Need-returns
 returns c = rw (c .if1 .taken, ← c .before .wide .ensures) refl
 
--- src/shown.rt:42:1
 returns-2 : tie.Need-returns-2
 returns-2 c = rw (c .before .if1 .left, ← c .before .before .wide .ensures) (omega arith)
 
--- src/shown.rt:42:1
 returns-3 : tie.Need-returns-3
 returns-3 c = rw (c .before .if1 .left, ← c .before .before .wide .ensures) (omega arith)
 

@@ -2,23 +2,16 @@ use mathlib.Core.Path.{refl}
 use borrow.Author.Needs.{needs}
 use Rattle.views.proofs.shown.is_granted.Statement.{statement}
 use Rattle.views.proofs.shown.is_granted.Tie as tie
-use Rattle.views.proofs.shown.is_granted.Reads as reads
-use Rattle.views.proofs.shown.is_granted.Lts as lts
-use Rattle.rights.proofs.rights.holds_right.Reads as holds-right-reads
 
--- src/shown.rt:25:8
 holds-right-requires : tie.Need-holds-right-requires
 holds-right-requires c κs = search needs
 
--- src/shown.rt:26:9
 returns : tie.Need-returns
 returns c = rw (← c .before .holds-right .ensures, c .if1 .taken) refl
 
--- src/shown.rt:28:5
 holds-right-requires-2 : tie.Need-holds-right-requires-2
 holds-right-requires-2 c κs = search needs
 
--- src/shown.rt:22:1
 returns-2 : tie.Need-returns-2
 returns-2 c = rw (← c .before .before .holds-right .ensures, c .before .if1 .left) (c .holds-right2 .ensures)
 

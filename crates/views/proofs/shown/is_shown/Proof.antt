@@ -3,24 +3,16 @@ use mathlib.Core.Bool.{and-false, and-true}
 use borrow.Author.Needs.{needs}
 use Rattle.views.proofs.shown.is_shown.Statement.{statement}
 use Rattle.views.proofs.shown.is_shown.Tie as tie
-use Rattle.views.proofs.shown.is_shown.Reads as reads
-use Rattle.views.proofs.shown.is_shown.Lts as lts
-use Rattle.rights.proofs.bytes.wide.Reads as wide-reads
-use Rattle.views.proofs.shown.is_granted.Reads as is-granted-reads
 
--- src/shown.rt:35:16
 wide-requires : tie.Need-wide-requires
 wide-requires c κs = search needs
 
--- src/shown.rt:36:9
 returns : tie.Need-returns
 returns c = rw (← c .before .wide .ensures) (simp (lt-leb _ _ (c .if1 .taken), and-false))
 
--- src/shown.rt:38:5
 is-granted-requires : tie.Need-is-granted-requires
 is-granted-requires c κs = search needs
 
--- src/shown.rt:32:1
 returns-2 : tie.Need-returns-2
 returns-2 c = rw (← c .before .before .wide .ensures) (simp (le-leb _ _ (c .before .if1 .left), and-true) (c .is-granted .ensures))
 
