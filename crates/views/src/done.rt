@@ -30,6 +30,9 @@ ghost use Rattle.rights.specs.Rights.{holds};
 ghost use Rattle.rights.specs.Table.{recordAt, label, count, tableOk};
 ghost use Rattle.views.specs.Done.{byNumbers, does, doneMarks};
 
+// Slots a level, 0 to 15: more than there are levels.
+const LAST_SLOT: usize = 15;
+
 // The six changes.
 pub enum Change {
     Rename,
@@ -103,7 +106,7 @@ fn pass_down(slots: &mut [u8; 16], level: usize, v: u8)
     ensures { λ _. ⌜ (length (now (slots .exit)) ≡ 16) × ((l : ℕ) → l < 16 → getD (now (slots .exit)) l 0 ≡ cond (ltb level l) v (getD (now (slots .entry)) l 0)) ⌝ }
 {
     let mut l = level;
-    while l < 15 {
+    while l < LAST_SLOT {
         l += 1;
         slots[l] = v;
     }
