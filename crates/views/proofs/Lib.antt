@@ -1,5 +1,5 @@
 pub mod Fill
-pub mod Depth
+pub mod ShownDepth
 pub mod StoredNodes
 pub mod ViewLaws
 pub mod MarkLaws

@@ -17,7 +17,7 @@ use Rattle.rights.proofs.Texts.{byte-at}
 use Rattle.rights.proofs.Facts.{Sound, all-sound, both}
 use Rattle.views.specs.Shown.{Stored, storedFrom, stored, storedLevel, grants, granted, depthAfter, isShownAt, shown, shownFrom, keep, numberOf, shownNumbers, numbersFrom}
 use Rattle.views.proofs.Fill.{put-take, put-drop, put-length, put-next, filled, filled-length}
-use Rattle.views.proofs.Depth.{Steps, shown-by-depth}
+use Rattle.views.proofs.ShownDepth.{Steps, shown-by-depth}
 
 -- What a table's check gives.
 pub record Good (t : List ℕ) : Type 0 where

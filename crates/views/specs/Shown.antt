@@ -63,7 +63,7 @@ module _ {E : Type 0} (lev : E → ℕ) (gr : E → Bool) where
   shownBy xs = shownAfter [] xs
 
   -- The same with one number, the depth of the shown chain: a node is shown if its level is at most that and it is granted. Equal to shownBy
-  -- on every nested list (proofs/Depth.antt).
+  -- on every nested list (proofs/ShownDepth.antt).
   abbrev pub isShownAt : ℕ → E → Bool
   isShownAt d x = gr x && leb (lev x) d
 
