@@ -40,3 +40,13 @@ pub const STEPS_MAX: usize = 16;
 pub const BRACKETS_MAX: usize = 2;
 
 pub const NESTING_MAX: usize = 3;
+// The bit of each right in a set of rights.
+pub const POSITION: u8 = 1;
+
+pub const READ: u8 = 2;
+
+pub const INSERT: u8 = 4;
+
+pub const UPDATE: u8 = 8;
+
+pub const DELETE: u8 = 16;

@@ -1,0 +1,3 @@
+pub mod Shown
+pub mod Marks
+pub mod Done
