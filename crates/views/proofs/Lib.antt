@@ -1,0 +1,11 @@
+pub mod Copies
+pub mod Chunks
+pub mod RecordBytes
+pub mod TableFacts
+pub mod Removal
+pub mod Waiting
+pub mod Turns
+pub mod Whole
+pub mod Relabelled
+pub mod Mapped
+pub mod Depth
