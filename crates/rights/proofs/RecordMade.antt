@@ -58,7 +58,7 @@ pub label-made : (l : ℕ) (s : List ℕ) → label (recordOf l s) ≡ s
 unfolding recordOf
 label-made l s = take-at s (replicate (30 - length s) 0) (length s) refl
 
-zeros-zero : (n : ℕ) → all isZero (replicate n 0) ≡ true
+pub zeros-zero : (n : ℕ) → all isZero (replicate n 0) ≡ true
 unfolding all
 zeros-zero zero = refl
 zeros-zero (suc n) = zeros-zero n

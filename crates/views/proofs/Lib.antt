@@ -9,3 +9,6 @@ pub mod Whole
 pub mod Relabelled
 pub mod Mapped
 pub mod Depth
+pub mod NestedLaws
+pub mod TableKept
+pub mod NodeLaws

@@ -34,12 +34,12 @@ module _ {E : Type 0} (lev : E → ℕ) where
       (λ e. rw e (omega (arith, length-putBehind l y u)))
       (λ e. rw (e, length-append))
 
-  skip-one : (l : ℕ) (z y u : List E) → Above lev (suc l) y → putBehind lev l z (y ++ u) ≡ y ++ putBehind lev l z u
+  pub skip-one : (l : ℕ) (z y u : List E) → Above lev (suc l) y → putBehind lev l z (y ++ u) ≡ y ++ putBehind lev l z u
   unfolding putBehind
   skip-one l z [] u a = refl
   skip-one l z (x ∷ y) u a = rw (lt-ltb l (lev x) (omega (arith, a .0))) (ap (λ r. x ∷ r) (skip-one l z y u (a .1)))
 
-  above-less : (j k : ℕ) (y : List E) → j ≤ k → Above lev k y → Above lev j y
+  pub above-less : (j k : ℕ) (y : List E) → j ≤ k → Above lev k y → Above lev j y
   above-less j k [] h a = tt
   above-less j k (x ∷ y) h a = (omega (arith, a .0), above-less j k y h (a .1))
 

@@ -1,2 +1,3 @@
 pub mod Change
 pub mod Pass
+pub mod Nodes
