@@ -12,3 +12,4 @@ pub mod Depth
 pub mod NestedLaws
 pub mod TableKept
 pub mod NodeLaws
+pub mod KeptLaws

@@ -1,13 +1,11 @@
--- The changes on records and the changes on what the records stand for; levels after a change. Assumes nothing.
-use mathlib.Core.Path.{_≡_, refl, ap, ap₂, sym, _∙_}
+-- A change of the nodes and the same change of what they stand for: a change commutes with every function that keeps levels. Assumes nothing.
+use mathlib.Core.Path.{_≡_, refl, ap, ap₂, _∙_}
 use mathlib.Core.List.{List, [], _∷_, _++_, map}
-use mathlib.Core.Bool.{Bool, true, false, cond}
-use Prim.Native.Nat.{ℕ, zero, suc, _+_, _≤_, _<_}
-use native.Mathlib.Omega.{arith}
+use mathlib.Core.Bool.{Bool}
+use Prim.Native.Nat.{ℕ, _+_}
 use lib.Dec.{ltb}
 use Rattle.rights.proofs.Lists.{byCase}
-use Rattle.views.specs.Change.{isDone, later, putBehind, insertBehind, insertInFront, rename}
-use Rattle.views.specs.Pass.{Under}
+use Rattle.views.specs.Change.{isDone, later, dropBelow, putBehind, remove, insertBehind, insertInFront, rename}
 
 map-append : {A B : Type 0} (f : A → B) (a b : List A) → map f (a ++ b) ≡ map f a ++ map f b
 map-append f [] b = refl
@@ -43,33 +41,16 @@ module _ {E N : Type 0} (lev : E → ℕ) (lvl : N → ℕ) (f : E → N) (same 
       (λ q. rw q (ap₂ _∷_ (e x) (map-rename g h e (later ms) t)))
       (λ q. rw q (ap (λ r. f x ∷ r) (map-rename g h e (later ms) t)))
 
--- levels after a change: what is put at each marked node has to be under k
-module _ {E : Type 0} (lev : E → ℕ) (k : ℕ) where
-  abbrev pub Marks : (E → Type 0) → List Bool → List E → Type 0
-  Marks P ms [] = Unit {0}
-  Marks P ms (x ∷ t) = ((isDone ms ≡ true) → P x) × Marks P (later ms) t
+  map-dropBelow : (l : ℕ) (u : List E) → map f (dropBelow lev l u) ≡ dropBelow lvl l (map f u)
+  unfolding dropBelow
+  map-dropBelow l [] = refl
+  map-dropBelow l (x ∷ u) = byCase (ltb l (lev x))
+      (λ e. rw (same x, e) (map-dropBelow l u))
+      (λ e. rw (same x, e))
 
-  under-append : (a b : List E) → Under lev k a → Under lev k b → Under lev k (a ++ b)
-  under-append [] b u v = v
-  under-append (x ∷ a) b u v = (u .0, under-append a b (u .1) v)
-
-  under-putBehind : (l : ℕ) (y u : List E) → Under lev k y → Under lev k u → Under lev k (putBehind lev l y u)
-  unfolding putBehind
-  under-putBehind l y [] a b = a
-  under-putBehind l y (x ∷ u) a b = byCase (ltb l (lev x))
-      (λ e. rw e (b .0, under-putBehind l y u a (b .1)))
-      (λ e. rw e (under-append y (x ∷ u) a b))
-
-  pub under-insertBehind : (y : E → List E) (ms : List Bool) (t : List E) → Under lev k t → Marks (λ x. Under lev k (y x)) ms t → Under lev k (insertBehind lev y ms t)
-  unfolding insertBehind
-  under-insertBehind y ms [] u m = tt
-  under-insertBehind y ms (x ∷ t) u m = let ih = under-insertBehind y (later ms) t (u .1) (m .1) in byCase (isDone ms)
-      (λ e. rw e (u .0, under-putBehind (lev x) (y x) (insertBehind lev y (later ms) t) (m .0 e) ih))
-      (λ e. rw e (u .0, ih))
-
-  pub under-insertInFront : (y : E → List E) (ms : List Bool) (t : List E) → Under lev k t → Marks (λ x. Under lev k (y x)) ms t → Under lev k (insertInFront lev y ms t)
-  unfolding insertInFront
-  under-insertInFront y ms [] u m = tt
-  under-insertInFront y ms (x ∷ t) u m = let ih = under-insertInFront y (later ms) t (u .1) (m .1) in byCase (isDone ms)
-      (λ e. rw e (under-append (y x) (x ∷ insertInFront lev y (later ms) t) (m .0 e) (u .0, ih)))
-      (λ e. rw e (u .0, ih))
+  pub map-remove : (ms : List Bool) (t : List E) → map f (remove lev ms t) ≡ remove lvl ms (map f t)
+  unfolding remove
+  map-remove ms [] = refl
+  map-remove ms (x ∷ t) = byCase (isDone ms)
+      (λ e. rw (e, same x, ← map-remove (later ms) t) (map-dropBelow (lev x) (remove lev (later ms) t)))
+      (λ e. rw e (ap (λ r. f x ∷ r) (map-remove (later ms) t)))

@@ -9,7 +9,7 @@ use mathlib.Core.Logic.{_⊎_, inl, inr, ⊎-elim}
 use native.Mathlib.Omega.{arith}
 use lib.ListN.{length, getD}
 use lib.Dec.{ltb}
-use borrow.Author.Tests.{ltb-true, ltb-false, lt-ltb, le-ltb}
+use borrow.Author.Tests.{ltb-true, ltb-false, lt-ltb}
 use Rattle.rights.proofs.Lists.{byCase}
 use Rattle.views.specs.Change.{isDone, later, dropBelow, putBehind, remove, insertBehind, insertInFront, rename}
 use Rattle.views.specs.Pass.{Above, Front}

@@ -1,23 +1,19 @@
--- Laws of records in bytes. Assumes nothing.
+-- Laws of the records that a pass has still to take, of a tree raised to its place, and of the waiting levels. Assumes nothing.
 use mathlib.Core.Path.{_≡_, refl, ap, sym, _∙_}
 use mathlib.Core.List.{List, [], _∷_, _++_, append-assoc, append-nil}
-use mathlib.Core.Bool.{Bool, true, false, cond, not}
+use mathlib.Core.Bool.{true, not}
 use Prim.Native.Nat.{ℕ, zero, suc, _+_, _-_, _*_, _≤_, _<_}
 use native.Mathlib.Omega.{arith}
 use native.Mathlib.Numerals.{add-one}
 use native.Mathlib.Nat.{add-zero}
 use lib.ListN.{length, getD, take, drop, set, length-append, length-drop}
-use lib.Seq.{take-at, drop-at, set-at, take-take, drop-drop, length-take-le, getD-take, getD-drop, drop-cons, paste, drop-set-lt, take-set-le}
+use lib.Seq.{take-at, drop-at, set-at, drop-drop, length-take-le, paste}
 use lib.Dec.{eqb}
-use Rattle.views.proofs.Chunks.{length-chunks, chunks-suc, same-chunks, drop-take, one-more, level-first, marks-drop}
+use Rattle.views.proofs.Chunks.{length-chunks, chunks-suc, one-more, level-first, marks-drop}
 use Rattle.views.proofs.Copies.{drop-more}
 use Rattle.rights.specs.Table.{level}
-use Rattle.views.specs.Change.{marksOf, insertBehind, chunks, raised, raise}
+use Rattle.views.specs.Change.{marksOf, chunks, raised, raise}
 use Rattle.views.specs.Pass.{Above, Under, front, AtDone, treeAt, stack, rest}
-
-cons-form : (r : List ℕ) → 0 < length r → r ≡ getD r 0 0 ∷ drop 1 r
-cons-form [] h = absurd (omega arith)
-cons-form (x ∷ r) h = refl
 
 pub length-raised : (k : ℕ) (r : List ℕ) → 0 < length r → length (raised k r) ≡ length r
 length-raised k [] h = absurd (omega arith)

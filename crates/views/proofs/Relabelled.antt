@@ -1,16 +1,15 @@
--- Laws of a new label. Assumes nothing.
-use mathlib.Core.Path.{_≡_, refl, ap, sym, _∙_}
-use mathlib.Core.List.{List, [], _∷_, _++_, append-assoc, append-nil}
-use mathlib.Core.Bool.{Bool, true, false, cond, not}
-use Prim.Native.Nat.{ℕ, zero, suc, _+_, _-_, _*_, _≤_, _<_}
+-- Laws of a renaming. Assumes nothing.
+use mathlib.Core.Path.{_≡_, ap, sym, _∙_}
+use mathlib.Core.List.{List, _++_, append-assoc, append-nil}
+use mathlib.Core.Bool.{true, cond, not}
+use Prim.Native.Nat.{ℕ, _+_, _-_, _*_, _≤_, _<_}
 use native.Mathlib.Omega.{arith}
-use native.Mathlib.Numerals.{add-one}
 use native.Mathlib.Nat.{zero-add}
 use lib.ListN.{length, getD, take, drop, replicate, take-append-drop, length-append, length-drop}
-use lib.Seq.{take-suc, take-take, take-all, drop-drop, take-at, drop-at, length-take-le, take-append-le}
+use lib.Seq.{take-take, drop-drop, take-at, drop-at, length-take-le, take-append-le}
 use lib.Dec.{eqb}
 use borrow.Author.Tests.{eq-eqb, ne-eqb}
-use Rattle.views.proofs.Chunks.{join-chunks, drop-take}
+use Rattle.views.proofs.Chunks.{join-chunks}
 use Rattle.views.proofs.Copies.{drop-more}
 use Rattle.views.proofs.RecordBytes.{rest-cons, rest-same, rest-none}
 use Rattle.views.proofs.Chunks.{level-first, one-more, marks-drop}
@@ -19,7 +18,7 @@ use Rattle.rights.specs.Record.{recordOf}
 use Rattle.rights.proofs.RecordMade.{length-record}
 use Rattle.views.proofs.TableFacts.{facts, count-bytes, zero-replicate}
 use Rattle.views.proofs.Waiting.{length-rename}
-use Rattle.views.specs.Change.{marksOf, rename, chunks, relabel, renamed, join, changed}
+use Rattle.views.specs.Change.{marksOf, rename, chunks, relabel, renamed, changed}
 use Rattle.views.specs.Pass.{rest}
 
 -- a label stored in a record

@@ -1,26 +1,25 @@
 -- The table after a change passes the check (refusal 13 never comes of a change). Assumes nothing.
-use Prim.Native.Nat.{ℕ, zero, suc, _+_, _-_, _*_, _/_, _%_, _≤_, _<_, min}
-use mathlib.Core.Bool.{Bool, true, false, cond, not, _&&_, false≢true}
-use mathlib.Core.Path.{_≡_, refl, sym, ap, ap₂, _∙_}
+use Prim.Native.Nat.{ℕ, zero, suc, _+_, _-_, _*_, _/_, _≤_, _<_, min}
+use mathlib.Core.Bool.{Bool, true, false, not, _&&_, false≢true}
+use mathlib.Core.Path.{_≡_, refl, sym, ap, _∙_}
 use mathlib.Core.List.{List, [], _∷_, _++_}
 use native.Mathlib.Omega.{arith}
 use native.Mathlib.Numerals.{add-one}
 use native.Mathlib.Nat.{add-zero}
 use borrow.Author.Tests.{leb-true, le-leb}
 use lib.Dec.{leb}
-use lib.ListN.{length, getD, take, drop, replicate, length-append, length-replicate, length-drop}
+use lib.ListN.{length, getD, drop, replicate, length-append, length-replicate, length-drop}
 use lib.Seq.{take-at, drop-at, drop-drop, length-take-le, getD-drop}
 use Rattle.rights.specs.Bytes.{all, isZero}
 use Rattle.rights.specs.Labels.{labelByte, sameLabel, restricted}
 use Rattle.rights.specs.Table.{recordOk, recordsOk, level, label, tableOk, count, capacity, records}
-use Rattle.rights.specs.Record.{recordOf}
 use Rattle.rights.proofs.Facts.{both}
 use Rattle.rights.proofs.Lists.{byCase}
 use Rattle.rights.proofs.Records.{table-yes}
 use Rattle.rights.proofs.RecordMade.{zeros-zero, made-ok, level-made, length-record}
 use Rattle.views.specs.declared.insert.Place.{Place}
 use Rattle.views.specs.declared.insert.Place.the-variants.{Append, After, Before}
-use Rattle.views.specs.Change.{isDone, later, marksOf, marked, dropBelow, putBehind, remove, insertBehind, insertInFront, rename, chunks, raised, raise, lower, placed, removed, relabel, renamed, le4, join, changed, deepest, tooDeep, hasRoom}
+use Rattle.views.specs.Change.{isDone, later, marksOf, marked, dropBelow, putBehind, remove, insertBehind, insertInFront, rename, chunks, raise, lower, placed, removed, relabel, renamed, join, changed, deepest, tooDeep, hasRoom}
 use Rattle.views.specs.Pass.{Above, Front, AtDone, Shallow}
 use Rattle.views.specs.Nodes.{All, Nested, TreeOk, LabelOk}
 use Rattle.views.proofs.Chunks.{all-chunks, length-chunks, level-first}
@@ -202,11 +201,11 @@ rename-kept s l ms (r ∷ rs) q =
     let w = nested-rename level (relabel s) (λ x. level-made (level x) s) (suc (level r)) (later ms) rs (p .2) in
     let g = all-rename level Good (relabel s) good (later ms) rs (p .3) in
     byCase (isDone ms)
-    (λ d. rw d (root-join (relabel s r) u (level-made (level r) s ∙ p .0) (made 0 (omega (arith, p .0)) (level r)) (rw (level-made (level r) s) w) g, (length-record (level r) s (l .short), good-full u g)))
+    (λ d. rw d (root-join (relabel s r) u (level-made (level r) s ∙ p .0) (made (omega (arith, p .0))) (rw (level-made (level r) s) w) g, (length-record (level r) s (l .short), good-full u g)))
     (λ d. rw d (root-join r u (p .0) (p .1) w g, (q .1 .0, good-full u g)))
   where
-    made : (z : ℕ) → level r ≤ 11 → (k : ℕ) → recordOk 0 11 (relabel s r) ≡ true
-    made z h k = made-ok 0 11 (level r) s (omega arith) h h (l .some) (l .short) (l .bytes) (l .free)
+    made : level r ≤ 11 → recordOk 0 11 (relabel s r) ≡ true
+    made h = made-ok 0 11 (level r) s (omega arith) h h (l .some) (l .short) (l .bytes) (l .free)
 
     good : (x : List ℕ) → Good x → Good (relabel s x)
     good x h =

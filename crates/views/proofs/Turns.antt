@@ -1,11 +1,11 @@
--- What a turn of a pass does. Assumes nothing.
-use mathlib.Core.Path.{_≡_, refl, ap, ap₂, sym, _∙_}
+-- What a turn of an insertion does. Assumes nothing.
+use mathlib.Core.Path.{_≡_, refl, ap, sym, _∙_}
 use mathlib.Core.List.{List, [], _∷_, _++_, append-assoc, append-nil}
-use mathlib.Core.Bool.{Bool, true, false, cond, not, false≢true}
+use mathlib.Core.Bool.{true, false, cond, not, false≢true}
 use Prim.Native.Nat.{ℕ, zero, suc, _+_, _-_, _*_, _≤_, _<_}
 use native.Mathlib.Omega.{arith}
-use lib.ListN.{length, getD, take, drop, set, length-append, length-set}
-use lib.Dec.{eqb, leb, ltb}
+use lib.ListN.{length, getD, take, drop, set, length-append}
+use lib.Dec.{eqb, ltb}
 use borrow.Author.Tests.{eq-eqb, ne-eqb, leb-true, leb-false, ltb-true, ltb-false}
 use Rattle.views.proofs.Chunks.{length-chunks}
 use Rattle.views.proofs.Waiting.{due-first, due-take, length-due, insertBehind-longer, insertInFront-longer, not-due, falls-length}
@@ -13,8 +13,8 @@ use Rattle.views.proofs.RecordBytes.{length-raise, length-treeAt, above
 use Rattle.views.proofs.Chunks.{marks-drop, level-first, one-more}
 use Rattle.rights.specs.Table.{level}
 use Rattle.rights.proofs.Lists.{byCase}
-use Rattle.views.specs.Change.{isDone, later, marksOf, insertBehind, insertInFront, chunks, raised, raise}
-use Rattle.views.specs.Pass.{Below, Falls, Every, isDue, Above, Under, front, due, AtDone, treeAt, Shallow, behind, inFront, stack, rest, passing, passingFront, Fixed, Between}
+use Rattle.views.specs.Change.{marksOf, insertInFront, chunks, raise}
+use Rattle.views.specs.Pass.{Below, Falls, Every, isDue, front, due, AtDone, treeAt, Shallow, behind, inFront, stack, rest, passing, passingFront, Fixed, Between}
 
 length-rest : (n gap i : ℕ) (t : List ℕ) → length (rest n gap i t) ≡ n - i
 length-rest n gap i t = length-chunks (n - i) _

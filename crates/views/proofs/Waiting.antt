@@ -1,16 +1,16 @@
--- Laws of insertion on lists of things with a level: what one turn of a pass from left to right does. Assumes nothing.
-use mathlib.Core.Path.{_≡_, refl, ap, sym, _∙_}
-use mathlib.Core.List.{List, [], _∷_, _++_, append-assoc, append-nil}
-use mathlib.Core.Bool.{Bool, true, false, cond, false≢true}
-use Prim.Native.Nat.{ℕ, zero, suc, _+_, _*_, _≤_, _<_}
+-- Laws of insertion on lists of anything with a level: what one turn of a pass from left to right does; lengths. Assumes nothing.
+use mathlib.Core.Path.{_≡_, refl, ap, sym}
+use mathlib.Core.List.{List, [], _∷_, _++_, append-nil}
+use mathlib.Core.Bool.{Bool, true, false, cond}
+use Prim.Native.Nat.{ℕ, suc, _+_, _*_, _≤_, _<_}
 use native.Mathlib.Omega.{arith}
-use lib.ListN.{length, take, drop, length-append}
+use lib.ListN.{length, take, length-append}
 use lib.Seq.{take-nil}
-use lib.Dec.{leb, ltb}
+use lib.Dec.{ltb}
 use Rattle.rights.proofs.Lists.{byCase}
-use borrow.Author.Tests.{leb-true, leb-false, ltb-true, ltb-false, lt-ltb, le-ltb}
+use borrow.Author.Tests.{leb-false, lt-ltb, le-ltb}
 use Rattle.views.specs.Change.{isDone, later, doneCount, putBehind, insertBehind, insertInFront, rename}
-use Rattle.views.specs.Pass.{Below, Falls, isDue, Above, Under, Front, front, due}
+use Rattle.views.specs.Pass.{Below, Falls, isDue, Above, Front, front, due}
 
 -- n levels that fall from below k are at most k
 pub falls-length : (k : ℕ) (ks : List ℕ) → Below k ks → Falls ks → length ks ≤ k
@@ -53,11 +53,6 @@ module _ {E : Type 0} (lev : E → ℕ) where
     unfolding due
     skip j [] z u b a = refl
     skip j (k ∷ ks) z u b a = rw (skip-one k (y k) z u (above-less (suc k) j z (b .0) a)) (skip j ks z (putBehind lev k (y k) u) (b .1) a)
-
-    -- nothing waits
-    pub due-none : (u : List E) → due lev y [] u ≡ u
-    unfolding due
-    due-none u = refl
 
     -- what is due is written
     pub due-pop : (k : ℕ) (ks : List ℕ) (u : List E) → Below k ks → Above lev k (y k) → Front lev k u → due lev y (k ∷ ks) u ≡ y k ++ due lev y ks u
@@ -105,9 +100,6 @@ module _ {E : Type 0} (lev : E → ℕ) where
   doneCount-tail n [] = rw take-nil
   doneCount-tail n (true ∷ ms) = omega arith
   doneCount-tail n (false ∷ ms) = omega arith
-
-  suc-times : (a m : ℕ) → suc a * m ≡ m + a * m
-  suc-times a m = omega arith
 
   pub length-insertBehind : (y : E → List E) (m : ℕ) → ((x : E) → length (y x) ≡ m) → (ms : List Bool) (t : List E)
       → length (insertBehind lev y ms t) ≡ length t + doneCount (take (length t) ms) * m

@@ -1,24 +1,23 @@
--- A whole pass, the number of marks and the table at the end. Assumes nothing.
+-- A whole insertion: its start and end, the number of marks, and the table at the end. Assumes nothing.
 use mathlib.Core.Path.{_≡_, refl, ap, sym, _∙_}
-use mathlib.Core.List.{List, [], _∷_, _++_, append-assoc, append-nil}
-use mathlib.Core.Bool.{Bool, true, false, cond, not}
-use Prim.Native.Nat.{ℕ, zero, suc, _+_, _-_, _*_, _^_, _≤_, _<_}
+use mathlib.Core.List.{List, [], _∷_, _++_, append-nil}
+use mathlib.Core.Bool.{Bool, true, false, not}
+use Prim.Native.Nat.{ℕ, zero, suc, _+_, _-_, _*_, _≤_, _<_}
 use native.Mathlib.Omega.{arith}
 use native.Mathlib.Numerals.{add-one}
-use native.Mathlib.Nat.{add-zero, mul-le-mul-right}
-use lib.ListN.{length, getD, take, drop, set, replicate, length-append, length-drop}
-use lib.Seq.{take-nil, take-suc, drop-at, take-at, take-take, length-take-le}
+use native.Mathlib.Nat.{mul-le-mul-right}
+use lib.ListN.{length, getD, take, drop, replicate, length-drop}
+use lib.Seq.{take-suc, drop-at, take-at, length-take-le}
 use lib.Dec.{eqb}
-use borrow.Author.Tests.{eq-eqb, ne-eqb, le-leb, lt-leb}
+use borrow.Author.Tests.{eq-eqb, ne-eqb}
 use Rattle.views.proofs.Chunks.{length-chunks, same-chunks, is-changed}
 use Rattle.views.specs.declared.insert.Place.{Place}
 use Rattle.views.specs.declared.insert.Place.the-variants.{Append, After, Before}
 use Rattle.views.proofs.Waiting.{insert-same, length-insertBehind, length-insertInFront}
 use Rattle.views.proofs.RecordBytes.{length-treeAt, length-raise, rest-none}
-use Rattle.views.proofs.Turns.{whole-length}
 use Rattle.rights.specs.Table.{level}
 use Rattle.views.specs.Change.{doneCount, marksOf, marked, insertBehind, insertInFront, chunks, raise, lower, placed, le4, changed}
-use Rattle.views.specs.Pass.{shifted, Below, Falls, Under, due, AtDone, treeAt, Shallow, behind, inFront, stack, rest, passing, passingFront, Fixed, Between}
+use Rattle.views.specs.Pass.{shifted, Under, due, AtDone, treeAt, Shallow, behind, inFront, stack, rest, passing, passingFront, Fixed, Between}
 
 -- a pass begins
 module _ (n gap up m : ℕ) (tree ms t st : List ℕ) where

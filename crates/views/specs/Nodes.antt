@@ -4,6 +4,7 @@ use mathlib.Core.Path.{_≡_}
 use mathlib.Core.Bool.{Bool, true, false, cond, _&&_, _||_, not}
 use mathlib.Core.List.{List, [], _∷_, _++_}
 use mathlib.Core.Logic.{_⊎_}
+use mathlib.Core.Option.{Option, none, some}
 use lib.Dec.{ltb}
 use lib.ListN.{length, drop}
 use Rattle.rights.specs.Bytes.{all}
@@ -68,6 +69,15 @@ pub record Behind {E : Type 0} (lev : E → ℕ) (x : E) (y w : List E) : Type 0
 unfoldable pub only : {E : Type 0} → (ℕ → Bool) → List E → List E
 only p [] = []
 only p (x ∷ t) = cond (p 0) (x ∷ only (λ i. p (suc i)) t) (only (λ i. p (suc i)) t)
+
+-- the tags of the nodes that carry one, in order
+abbrev pub put : {X : Type 0} → Option X → List X → List X
+put none r = r
+put (some x) r = x ∷ r
+
+unfoldable pub tags : {E X : Type 0} → (E → Option X) → List E → List X
+tags h [] = []
+tags h (x ∷ t) = put (h x) (tags h t)
 
 -- A tree that may be inserted: its levels run from 0, and each of its records is well formed, its level apart.
 pub record TreeOk (tree : List (List ℕ)) : Type 0 where

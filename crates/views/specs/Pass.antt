@@ -2,12 +2,12 @@
 -- public promises needs these definitions.
 use mathlib.Core.Path.{_≡_}
 use mathlib.Core.List.{List, [], _∷_, _++_}
-use mathlib.Core.Bool.{Bool, true, false, cond, not}
+use mathlib.Core.Bool.{Bool, true, false, not}
 use Prim.Native.Nat.{ℕ, zero, suc, _+_, _-_, _*_, _≤_, _<_}
 use lib.ListN.{length, getD, take, drop}
-use lib.Dec.{leb, ltb}
+use lib.Dec.{leb}
 use Rattle.rights.specs.Table.{level}
-use Rattle.views.specs.Change.{isDone, later, marksOf, dropBelow, putBehind, remove, insertBehind, insertInFront, chunks, raised, raise}
+use Rattle.views.specs.Change.{isDone, later, marksOf, dropBelow, putBehind, remove, insertBehind, insertInFront, chunks, raise}
 
 -- The bytes from `from` to `end` moved up by `by`; the bytes that they leave stay.
 abbrev pub shifted : List ℕ → ℕ → ℕ → ℕ → List ℕ

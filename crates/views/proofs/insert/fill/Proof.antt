@@ -1,5 +1,4 @@
 use Rattle.views.proofs.Whole.{place-asks, filled}
-use native.Mathlib.Omega.{arith}
 use borrow.Author.Needs.{needs}
 use Rattle.views.proofs.insert.fill.Statement.{statement}
 use Rattle.views.proofs.insert.fill.Tie as tie

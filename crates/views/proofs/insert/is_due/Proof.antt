@@ -1,4 +1,4 @@
-use mathlib.Core.Path.{_≡_, refl, sym}
+use mathlib.Core.Path.{_≡_}
 use Rattle.views.proofs.RecordBytes.{stack-pop}
 use native.Mathlib.Omega.{arith}
 use borrow.Author.Needs.{needs}

@@ -1,7 +1,6 @@
 use Prim.Native.Nat.{ℕ, _+_}
 use lib.Dec.{ltb}
-use native.Mathlib.Omega.{arith}
-use mathlib.Core.Path.{ap, _∙_}
+use mathlib.Core.Path.{ap}
 use borrow.Author.Needs.{needs}
 use Rattle.views.proofs.Depth.{mark-none, mark-some}
 use Rattle.views.proofs.insert.is_too_deep.Statement.{statement}

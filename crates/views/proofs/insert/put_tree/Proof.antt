@@ -1,5 +1,5 @@
 use Prim.Native.Nat.{_≤_, _-_, _+_, _*_}
-use mathlib.Core.Path.{_≡_, refl, sym, _∙_}
+use mathlib.Core.Path.{_≡_, refl, _∙_}
 use mathlib.Core.List.{_++_}
 use lib.ListN.{length, drop}
 use Rattle.views.proofs.Copies.{drop-more}

@@ -1,5 +1,5 @@
-use Prim.Native.Nat.{_≤_, _-_, _+_}
-use mathlib.Core.Path.{_≡_, refl, ap, sym, _∙_}
+use Prim.Native.Nat.{_-_, _+_}
+use mathlib.Core.Path.{_≡_, refl, ap, _∙_}
 use lib.ListN.{length}
 use Rattle.views.proofs.Turns.{depth}
 use Rattle.views.proofs.Whole.{fixed-same, starts, starts-between, ends}
@@ -7,7 +7,7 @@ use native.Mathlib.Omega.{arith}
 use borrow.Author.Needs.{needs}
 use Rattle.views.proofs.insert.spread.Statement.{statement}
 use Rattle.views.proofs.insert.spread.Tie as tie
-use Rattle.views.specs.Pass.{behind, rest, passing, Fixed, Between}
+use Rattle.views.specs.Pass.{behind, rest, passing, Between}
 
 abbrev Inv-loop : tie.InvT-loop
 Inv-loop t₀ marks tree m up n gap st₀ i₀ w₀ d₀ t st i w d =

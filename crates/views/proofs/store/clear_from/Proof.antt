@@ -1,7 +1,7 @@
 use Prim.Native.Nat.{_≤_, _-_, _+_}
 use mathlib.Core.Path.{_≡_, refl}
 use mathlib.Core.List.{_++_}
-use lib.ListN.{length, take, drop, replicate, length-set}
+use lib.ListN.{length, take, replicate, length-set}
 use Rattle.views.proofs.Copies.{clear-none, clear-more, clear-all}
 use borrow.Author.Needs.{needs}
 use native.Mathlib.Omega.{arith}
