@@ -32,3 +32,4 @@ pub mod XPathLaws
 pub mod ViewNested
 pub mod StarredPaths
 pub mod NodeLaws
+pub mod RecordMade

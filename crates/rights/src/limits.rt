@@ -35,8 +35,6 @@ pub const STEPS_AT: usize = 8;
 
 pub const POLICY_BYTES: usize = 68872;
 // A path is 1 to 16 steps, a step has at most 2 brackets, and brackets nest at most 3 deep.
-pub const STEPS_MAX: usize = 16;
-
 pub const BRACKETS_MAX: usize = 2;
 
 pub const NESTING_MAX: usize = 3;
