@@ -18,7 +18,8 @@ use Rattle.rights.specs.Record.{recordOf}
 use Rattle.rights.proofs.RecordLaws.{length-record}
 use Rattle.views.proofs.TableFacts.{facts, count-bytes, zero-replicate}
 use Rattle.views.proofs.Waiting.{length-rename}
-use Rattle.views.specs.Change.{marksOf, rename, chunks, relabel, renamed, changed}
+use Rattle.views.specs.Change.{rename, chunks, relabel, renamed, changed}
+use Rattle.views.specs.Marks.{marksOf}
 use Rattle.views.specs.Pass.{rest}
 
 -- a label stored in a record

@@ -9,7 +9,8 @@ use lib.Seq.{take-nil}
 use lib.Dec.{ltb}
 use Rattle.rights.proofs.Lists.{byCase}
 use borrow.Author.Tests.{leb-false, lt-ltb, le-ltb}
-use Rattle.views.specs.Change.{isDone, later, doneCount, putBehind, insertBehind, insertInFront, rename}
+use Rattle.views.specs.Change.{isDone, later, putBehind, insertBehind, insertInFront, rename}
+use Rattle.views.specs.Marks.{markCount}
 use Rattle.views.specs.Pass.{Below, Falls, isDue, Above, Front, front, due}
 
 -- n levels that fall from below k are at most k
@@ -96,26 +97,26 @@ module _ {E : Type 0} (lev : E → ℕ) where
       (λ e. rw (e, length-append) (omega arith))
       (λ e. rw e (omega arith))
 
-  doneCount-tail : (n : ℕ) (ms : List Bool) → doneCount (take (suc n) ms) ≡ cond (isDone ms) 1 0 + doneCount (take n (later ms))
-  doneCount-tail n [] = rw take-nil
-  doneCount-tail n (true ∷ ms) = omega arith
-  doneCount-tail n (false ∷ ms) = omega arith
+  markCount-tail : (n : ℕ) (ms : List Bool) → markCount (take (suc n) ms) ≡ cond (isDone ms) 1 0 + markCount (take n (later ms))
+  markCount-tail n [] = rw take-nil
+  markCount-tail n (true ∷ ms) = omega arith
+  markCount-tail n (false ∷ ms) = omega arith
 
   pub length-insertBehind : (y : E → List E) (m : ℕ) → ((x : E) → length (y x) ≡ m) → (ms : List Bool) (t : List E)
-      → length (insertBehind lev y ms t) ≡ length t + doneCount (take (length t) ms) * m
+      → length (insertBehind lev y ms t) ≡ length t + markCount (take (length t) ms) * m
   unfolding insertBehind
   length-insertBehind y m h ms [] = omega arith
   length-insertBehind y m h ms (x ∷ t) = let ih = length-insertBehind y m h (later ms) t in byCase (isDone ms)
-      (λ e. rw (doneCount-tail (length t) ms, e, length-putBehind (lev x) (y x) (insertBehind lev y (later ms) t)) (omega (arith, h x)))
-      (λ e. rw (doneCount-tail (length t) ms, e) (omega arith))
+      (λ e. rw (markCount-tail (length t) ms, e, length-putBehind (lev x) (y x) (insertBehind lev y (later ms) t)) (omega (arith, h x)))
+      (λ e. rw (markCount-tail (length t) ms, e) (omega arith))
 
   pub length-insertInFront : (y : E → List E) (m : ℕ) → ((x : E) → length (y x) ≡ m) → (ms : List Bool) (t : List E)
-      → length (insertInFront lev y ms t) ≡ length t + doneCount (take (length t) ms) * m
+      → length (insertInFront lev y ms t) ≡ length t + markCount (take (length t) ms) * m
   unfolding insertInFront
   length-insertInFront y m h ms [] = omega arith
   length-insertInFront y m h ms (x ∷ t) = let ih = length-insertInFront y m h (later ms) t in byCase (isDone ms)
-      (λ e. rw (doneCount-tail (length t) ms, e, length-append) (omega (arith, h x)))
-      (λ e. rw (doneCount-tail (length t) ms, e) (omega arith))
+      (λ e. rw (markCount-tail (length t) ms, e, length-append) (omega (arith, h x)))
+      (λ e. rw (markCount-tail (length t) ms, e) (omega arith))
 
   -- what is inserted, written in another way
   pub insert-same : (y z : E → List E) → ((x : E) → y x ≡ z x) → (ms : List Bool) (t : List E) → insertBehind lev y ms t ≡ insertBehind lev z ms t

@@ -16,7 +16,8 @@ use Rattle.views.specs.declared.insert.Place.the-variants.{Append, After
 use Rattle.views.proofs.Waiting.{insert-same, length-insertBehind, length-insertInFront}
 use Rattle.views.proofs.RecordBytes.{length-treeAt, length-raise, rest-none}
 use Rattle.rights.specs.Table.{level}
-use Rattle.views.specs.Change.{doneCount, marksOf, marked, insertBehind, insertInFront, chunks, raise, lower, placed, le4, changed}
+use Rattle.views.specs.Change.{insertBehind, insertInFront, chunks, raise, lower, placed, le4, changed}
+use Rattle.views.specs.Marks.{markCount, marksOf, marked}
 use Rattle.views.specs.Pass.{shifted, Under, due, AtDone, treeAt, Shallow, behind, inFront, stack, rest, passing, passingFront, Fixed, Between}
 
 -- a pass begins
@@ -56,10 +57,10 @@ marksOf-append : (a b : List ℕ) → marksOf (a ++ b) ≡ marksOf a ++ marksOf 
 marksOf-append [] b = refl
 marksOf-append (x ∷ a) b = ap (λ r. not (eqb x 0) ∷ r) (marksOf-append a b)
 
-doneCount-append : (a b : List Bool) → doneCount (a ++ b) ≡ doneCount a + doneCount b
-doneCount-append [] b = omega arith
-doneCount-append (true ∷ a) b = omega (arith, doneCount-append a b)
-doneCount-append (false ∷ a) b = doneCount-append a b
+markCount-append : (a b : List Bool) → markCount (a ++ b) ≡ markCount a + markCount b
+markCount-append [] b = omega arith
+markCount-append (true ∷ a) b = omega (arith, markCount-append a b)
+markCount-append (false ∷ a) b = markCount-append a b
 
 pub marksOf-take : (n : ℕ) (ms : List ℕ) → marksOf (take n ms) ≡ take n (marksOf ms)
 marksOf-take zero ms = refl
@@ -67,8 +68,8 @@ marksOf-take (suc n) [] = refl
 marksOf-take (suc n) (x ∷ ms) = ap (λ r. not (eqb x 0) ∷ r) (marksOf-take n ms)
 
 module _ (ms : List ℕ) (i k : ℕ) (inside : i < length ms) (e : k ≡ marked i ms) where
-  marked-suc : marked (i + 1) ms ≡ marked i ms + doneCount (not (eqb (getD ms i 0) 0) ∷ [])
-  marked-suc = rw (add-one i, take-suc ms i 0 inside, marksOf-append, doneCount-append)
+  marked-suc : marked (i + 1) ms ≡ marked i ms + markCount (not (eqb (getD ms i 0) 0) ∷ [])
+  marked-suc = rw (add-one i, take-suc ms i 0 inside, marksOf-append, markCount-append)
 
   pub marked-more : (getD ms i 0 ≡ 0 → ⊥) → k + 1 ≡ marked (i + 1) ms
   marked-more z = omega (arith, e, rw (ne-eqb (getD ms i 0) 0 z) at marked-suc)

@@ -7,6 +7,7 @@ use lib.Dec.{eqb, leb, ltb}
 use lib.ListN.{length, take, drop, replicate}
 use Rattle.rights.specs.Table.{count, capacity, level, records}
 use Rattle.rights.specs.Record.{recordOf}
+use Rattle.views.specs.Marks.{marksOf, marked}
 use Rattle.views.specs.declared.insert.Place.{Place}
 use Rattle.views.specs.declared.insert.Place.the-variants.{Append, After, Before}
 
@@ -18,21 +19,6 @@ isDone (b ∷ bs) = b
 abbrev pub later : List Bool → List Bool
 later [] = []
 later (b ∷ bs) = bs
-
--- how many nodes are done: D
-abbrev pub doneCount : List Bool → ℕ
-doneCount [] = 0
-doneCount (true ∷ bs) = suc (doneCount bs)
-doneCount (false ∷ bs) = doneCount bs
-
--- a byte for each node: done unless 0
-abbrev pub marksOf : List ℕ → List Bool
-marksOf [] = []
-marksOf (b ∷ bs) = not (eqb b 0) ∷ marksOf bs
-
--- how many of the first n nodes are done
-abbrev pub marked : ℕ → List ℕ → ℕ
-marked n ms = doneCount (marksOf (take n ms))
 
 module _ {E : Type 0} (lev : E → ℕ) where
   -- Behind a node at level l stand its descendants: the nodes up to the first that is not deeper. They go.

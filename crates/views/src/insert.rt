@@ -5,6 +5,7 @@ use crate::store::copy;
 use crate::store::move_record;
 use crate::store::put_count;
 use crate::store::shift_up;
+use crate::marks::count_marks;
 use rights::bytes::wide;
 use rights::limits::COUNT_BYTES;
 use rights::limits::LEVEL_MAX;
@@ -18,7 +19,8 @@ ghost use Prim.Native.Nat.{ℕ, _+_, _-_, _*_, _^_, _≤_, _<_};
 ghost use lib.ListN.{length, getD, take, drop};
 ghost use lib.Dec.{eqb, ltb};
 ghost use Rattle.rights.specs.Table.{count, records, level, tableOk};
-ghost use Rattle.views.specs.Change.{chunks, marksOf, marked, raised, raise, placed, changed, deepest, tooDeep, hasRoom, lower};
+ghost use Rattle.views.specs.Change.{chunks, raised, raise, placed, changed, deepest, tooDeep, hasRoom, lower};
+ghost use Rattle.views.specs.Marks.{marksOf, marked};
 ghost use Rattle.views.specs.Pass.{isDue, front, Under, AtDone, Shallow, stack, rest, behind, inFront, passing, passingFront, Fixed, Between};
 
 // Where the tree goes: as the last child of a node, directly behind the node and all below it, directly in front of it.
@@ -289,22 +291,6 @@ fn fill(t: &mut [u8], marks: &[u8], tree: &[u8], m: usize, place: Place, n: usiz
     spread_by(t, marks, tree, m, place, n, gap);
     clear_from(t, COUNT_BYTES + (n + gap) * RECORD_BYTES);
     put_count(t, n + gap);
-}
-
-// How many of the first n records are marked.
-pub fn count_marks(marks: &[u8], n: usize) -> usize
-    requires { ⌜ n ≤ length (now marks) ⌝ }
-    ensures { λ r. ⌜ (r ≡ marked n (now (marks .entry))) × (r ≤ n) ⌝ }
-{
-    let mut k = 0;
-    let mut i = 0;
-    while i < n {
-        if marks[i] != 0 {
-            k += 1;
-        }
-        i += 1;
-    }
-    k
 }
 
 // Inserts the tree of m records at every marked record, where no level comes above 11 (refusal 10) and there is room (refusal 11).

@@ -5,7 +5,8 @@ ghost use mathlib.Core.List.{_++_};
 ghost use Prim.Native.Nat.{_+_, _-_, _^_, _≤_, _<_};
 ghost use lib.ListN.{length, take, drop, replicate};
 ghost use lib.Seq.{paste};
-ghost use Rattle.views.specs.Change.{le4, marked};
+ghost use Rattle.views.specs.Change.{le4};
+ghost use Rattle.views.specs.Marks.{marked};
 ghost use Rattle.views.specs.Pass.{shifted};
 
 // Stores the count.

@@ -7,7 +7,8 @@ use native.Mathlib.Omega.{arith}
 use borrow.Author.Needs.{needs}
 use Rattle.views.proofs.insert.spread_by.Statement.{statement}
 use Rattle.views.proofs.insert.spread_by.Tie as tie
-use Rattle.views.specs.Change.{placed, lower, marksOf}
+use Rattle.views.specs.Change.{placed, lower}
+use Rattle.views.specs.Marks.{marksOf}
 use Rattle.views.specs.Pass.{rest, AtDone, Shallow}
 
 enum-told : tie.Need-enum-told
