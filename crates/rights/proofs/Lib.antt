@@ -11,3 +11,4 @@ pub mod PathTexts
 pub mod PathSound
 pub mod PathComplete
 pub mod PathWritten
+pub mod RecordLaws

@@ -4,4 +4,5 @@ pub mod labels;
 pub mod limits;
 pub mod path;
 pub mod policy;
+pub mod record;
 pub mod table;
