@@ -1,0 +1,4 @@
+pub mod WordLaws
+pub mod PartLaws
+pub mod TreeLaws
+pub mod FormLaws
