@@ -2,3 +2,4 @@ pub mod WordLaws
 pub mod PartLaws
 pub mod TreeLaws
 pub mod FormLaws
+pub mod TreeWritten
