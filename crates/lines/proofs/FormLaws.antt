@@ -43,9 +43,12 @@ bad-parts e = record { is = sym e; on = λ e1 e2 e3 e4 q. absurd (let z : _≡_ 
 
 pub are-parts : {want : PartEnds} {from end a b d f : ℕ} → want ≡ Are a b d f → from ≤ a → a ≤ b → b ≤ d → d ≤ f → f < end → Parts want (Are a b d f) from end
 are-parts {want} {from} {end} {a} {b} {d} {f} e h1 h2 h3 h4 h5 =
-    record { is = sym e; on = λ e1 e2 e3 e4 q.
-      let z1 : a ≡ e1 = cc in let z2 : b ≡ e2 = cc in let z3 : d ≡ e3 = cc in let z4 : f ≡ e4 = cc in
-      (omega arith, omega arith, omega arith, omega arith, omega arith) }
+    record {
+      is = sym e;
+      on = λ e1 e2 e3 e4 q.
+          let z1 : a ≡ e1 = cc in let z2 : b ≡ e2 = cc in let z3 : d ≡ e3 = cc in let z4 : f ≡ e4 = cc in
+          (omega arith, omega arith, omega arith, omega arith, omega arith);
+    }
 
 -- the parts of a shape, one after the other
 module _ (k : Shape) (s : List ℕ) (at : ℕ) where

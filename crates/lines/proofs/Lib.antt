@@ -3,3 +3,4 @@ pub mod PartLaws
 pub mod TreeLaws
 pub mod FormLaws
 pub mod TreeWritten
+pub mod FormWritten

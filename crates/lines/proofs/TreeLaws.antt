@@ -36,13 +36,13 @@ unfolding openEnd labelEnd
 opened s at e p =
     byCase (eqb (byteAt s at) 40)
     (λ q. byCase (leb 1 (runAt labelByte s (at + 1)) && leb (runAt labelByte s (at + 1)) 24)
-      (λ w.
-        let a = leb-true 1 (runAt labelByte s (at + 1)) (and-left (leb 1 (runAt labelByte s (at + 1))) (leb (runAt labelByte s (at + 1)) 24) w) in
-        let b = leb-true (runAt labelByte s (at + 1)) 24 (and-right (leb 1 (runAt labelByte s (at + 1))) (leb (runAt labelByte s (at + 1)) 24) w) in
-        let u = rw (q, w) at p in
-        let z : e ≡ at + 1 + runAt labelByte s (at + 1) = cc in
-        record { paren = eqb-true _ _ q; end = z; some = omega arith; few = omega arith })
-      (λ w. absurd (let u = rw (q, w) at p in let z : _≡_ {A = ℕ} 0 1 = cc in omega arith)))
+    (λ w.
+    let a = leb-true 1 (runAt labelByte s (at + 1)) (and-left (leb 1 (runAt labelByte s (at + 1))) (leb (runAt labelByte s (at + 1)) 24) w) in
+    let b = leb-true (runAt labelByte s (at + 1)) 24 (and-right (leb 1 (runAt labelByte s (at + 1))) (leb (runAt labelByte s (at + 1)) 24) w) in
+    let u = rw (q, w) at p in
+    let z : e ≡ at + 1 + runAt labelByte s (at + 1) = cc in
+    record { paren = eqb-true _ _ q; end = z; some = omega arith; few = omega arith })
+    (λ w. absurd (let u = rw (q, w) at p in let z : _≡_ {A = ℕ} 0 1 = cc in omega arith)))
     (λ q. absurd (let u = rw q at p in let z : _≡_ {A = ℕ} 0 1 = cc in omega arith))
 
 -- Where a tail ends
@@ -139,10 +139,13 @@ module _ (s : List ℕ) (depth : ℕ) where
       where
         rec : List ℕ
         rec = recordOf (held depth) (take (e - 2) (drop 2 s))
+
         size : length rec ≡ 32
         size = length-record (held depth) (take (e - 2) (drop 2 s)) (rw (length-take (e - 2) (drop 2 s)) (omega arith))
+
         v : 32 * (n + 1) ≡ 32 * n + length rec
         v = omega (arith, size)
+
         found : (f : ℕ) → length s ≤ f → tailNodes f depth s ≡ node depth (take (e - 2) (drop 2 s)) ∷ tailNodes (f - 1) (depth + 1) t
         found zero h = absurd (omega arith)
         found (suc f) h = let z : suc f - 1 ≡ f = omega arith in rw (b, o, q, z)
@@ -176,7 +179,9 @@ module _ (s : List ℕ) (at : ℕ) where
     where
       rec : List ℕ
       rec = recordOf 0 (take (e - (at + 1)) (drop (at + 1) s))
+
       size : length rec ≡ 32
       size = length-record 0 (take (e - (at + 1)) (drop (at + 1) s)) (rw (length-take (e - (at + 1)) (drop (at + 1) s)) (omega arith))
+
       v : 32 * 1 ≡ 0 + length rec
       v = omega (arith, size)

@@ -154,8 +154,7 @@ tree-complete s at (tree l ts) r g e =
     let small : length u ≤ length s = omega (arith, sym (ap length dc) ∙ length-drop c s) in
     let z : c + length (writeTrees ts) + 1 ≡ at + length (40 ∷ (l ++ writeTrees ts ++ 41 ∷ [])) = simp length-append (omega arith) in
     let i : c - (at + 1) ≡ length l = omega arith in
-    let lab : take (length l) (drop (at + 1) s) ≡ l = rw da (take-append-seam l u) in
-    (
+    let lab : take (length l) (drop (at + 1) s) ≡ l = rw da (take-append-seam l u) in (
       rw (o, dc, ← z) (over-trees ts 1 c m (At (c + length (writeTrees ts) + 1)) (g .1) (omega arith) refl (λ v hv. last-end (c + length (writeTrees ts)) r v hv) (length s) small),
       rw (o, dc, i, lab) (ap (λ (ns : List Node). node 0 l ∷ ns) (over-nodes ts 1 m [] (g .1) (omega arith) refl (λ v hv. last-nodes r v hv) (length s) small ∙ append-nil (nodesIn 1 ts))),
     )
@@ -187,8 +186,7 @@ opening-text : (s : List ℕ) (at e : ℕ) → Opened s at e → (drop at s ≡ 
 opening-text s at e o =
     let n : ℕ = runAt labelByte s (at + 1) in
     let i : e - (at + 1) ≡ n = omega (arith, o .end) in
-    let q = run-length labelByte (drop (at + 1) s) in
-    (
+    let q = run-length labelByte (drop (at + 1) s) in (
       rw i (rw (← (o .end)) at (reads-more s at (at + 1) (at + 1 + n) (40 ∷ []) (take n (drop (at + 1) s)) (reads-byte s at 40 (omega arith) (o .paren)) (reads-take s (at + 1) n))),
       rw i (rw q (omega (arith, o .some, o .end)), rw q (omega (arith, o .few, o .end)), run-all labelByte (drop (at + 1) s)),
     )
@@ -221,6 +219,7 @@ module _ (f d at : ℕ) (s : List ℕ) (j : ℕ) where
     where
       lab : List ℕ
       lab = take (e - 2) (drop 2 s)
+
       split : (os : List Trees) → length os ≡ d + 1 → GoodAll os → drop e s ≡ closing os ++ drop (j - (at + e)) (drop e s) → tailNodes f (d + 1) (drop e s) ≡ nodesAll (d + 1) os → at + e ≤ j → TailRead (suc f) d at j s
       split [] l g t n h = absurd (omega arith)
       split (us ∷ []) l g t n h = absurd (omega arith)
@@ -251,11 +250,11 @@ sound-tail zero d at s j p = never-at
 sound-tail (suc f) d at s j p =
     cond-elim (eqb (byteAt s 0) 41)
     (λ b. cond-elim (eqb d 1)
-      (λ q e. tail-last f d at s j (eqb-true _ _ b) (eqb-true d 1 q) e)
-      (λ q e. tail-close f d at s j (eqb-true _ _ b) (eqb-false d 1 q) p (sound-tail f (d - 1) (at + 1) (drop 1 s) j (omega (arith, eqb-false d 1 q)) e)))
+    (λ q e. tail-last f d at s j (eqb-true _ _ b) (eqb-true d 1 q) e)
+    (λ q e. tail-close f d at s j (eqb-true _ _ b) (eqb-false d 1 q) p (sound-tail f (d - 1) (at + 1) (drop 1 s) j (omega (arith, eqb-false d 1 q)) e)))
     (λ _. cond-elim (eqb (byteAt s 0) 32)
-      (λ b. after-elim (openEnd s 1) (λ e. tailEnd f (d + 1) (at + e) (drop e s)) (λ e o q. tail-open f d at s j e (eqb-true _ _ b) o p (sound-tail f (d + 1) (at + e) (drop e s) j (omega arith) q)))
-      (λ _. never-at))
+    (λ b. after-elim (openEnd s 1) (λ e. tailEnd f (d + 1) (at + e) (drop e s)) (λ e o q. tail-open f d at s j e (eqb-true _ _ b) o p (sound-tail f (d + 1) (at + e) (drop e s) j (omega arith) q)))
+    (λ _. never-at))
 
 -- A tree that was read: which it is, its text, and its nodes
 pub record TreeRead (s : List ℕ) (at j : ℕ) : Type 0 where
@@ -273,6 +272,7 @@ tree-sound s at j = after-elim (openEnd s at) (λ e. tailEnd (length s) 1 e (dro
       where
         lab : List ℕ
         lab = take (e - (at + 1)) (drop (at + 1) s)
+
         split : (os : List Trees) → length os ≡ 1 → GoodAll os → drop e s ≡ closing os ++ drop (j - e) (drop e s) → tailNodes (length s) 1 (drop e s) ≡ nodesAll 1 os → e ≤ j → TreeRead s at j
         split [] l g t n h = absurd (omega arith)
         split (us ∷ ts ∷ rest) l g t n h = absurd (omega arith)
@@ -290,8 +290,7 @@ tree-sound s at j = after-elim (openEnd s at) (λ e. tailEnd (length s) 1 e (dro
 -- At most one good tree is written so
 pub label-unique : (l m x y : List ℕ) → all labelByte l ≡ true → all labelByte m ≡ true → labelByte (getD x 0 0) ≡ false → labelByte (getD y 0 0) ≡ false → l ++ x ≡ m ++ y → (l ≡ m) × (x ≡ y)
 label-unique l m x y a b p q e =
-    let n : length l ≡ length m = sym (run-over labelByte l x a p) ∙ ap (run labelByte) e ∙ run-over labelByte m y b q in
-    (
+    let n : length l ≡ length m = sym (run-over labelByte l x a p) ∙ ap (run labelByte) e ∙ run-over labelByte m y b q in (
       sym (take-append-seam l x) ∙ ap (take (length l)) e ∙ rw n (take-append-seam m y),
       sym (drop-append-seam l x) ∙ ap (drop (length l)) e ∙ rw n (drop-append-seam m y),
     )

@@ -67,8 +67,8 @@ same-number (x ∷ xs) (y ∷ ys) a b =
     let ih = same-number xs ys (and-right (labelByte x) (all labelByte xs) a) (and-right (labelByte y) (all labelByte ys) b) in
     byCase (eqb x y)
     (λ e. rw (e, ← ih) (byCase (eqb (number xs) (number ys))
-      (λ q. rw q (eq-eqb (number xs * 256 + x) (number ys * 256 + y) (omega (arith, eqb-true x y e, eqb-true (number xs) (number ys) q))))
-      (λ q. rw q (ne-eqb (number xs * 256 + x) (number ys * 256 + y) (λ z. eqb-false (number xs) (number ys) q (omega (arith, eqb-true x y e)))))))
+    (λ q. rw q (eq-eqb (number xs * 256 + x) (number ys * 256 + y) (omega (arith, eqb-true x y e, eqb-true (number xs) (number ys) q))))
+    (λ q. rw q (ne-eqb (number xs * 256 + x) (number ys * 256 + y) (λ z. eqb-false (number xs) (number ys) q (omega (arith, eqb-true x y e)))))))
     (λ e. rw e (ne-eqb (number xs * 256 + x) (number ys * 256 + y) (λ z. eqb-false x y e (omega arith))))
 
 pub same-equal : (xs ys : List ℕ) → sameText xs ys ≡ true → xs ≡ ys
@@ -108,16 +108,20 @@ same-at s at w g =
   where
     some : 1 ≤ length w
     some = leb-true 1 (length w) (and-left (leb 1 (length w)) (leb (length w) 8 && all labelByte w) g)
+
     rest : leb (length w) 8 && all labelByte w ≡ true
     rest = and-right (leb 1 (length w)) (leb (length w) 8 && all labelByte w) g
+
     good : all labelByte w ≡ true
     good = and-right (leb (length w) 8) (all labelByte w) rest
+
     short : length w ≤ 8
     short = leb-true (length w) 8 (and-left (leb (length w) 8) (all labelByte w) rest)
+
     long : 8 < runAt labelByte s at → sameText (labelAt s at) w ≡ false
     long h = byCase (sameText (labelAt s at) w)
-      (λ e. absurd (omega (arith, short, run-length labelByte (drop at s), ap length (same-equal (labelAt s at) w e))))
-      (λ e. e)
+        (λ e. absurd (omega (arith, short, run-length labelByte (drop at s), ap length (same-equal (labelAt s at) w e))))
+        (λ e. e)
 
 -- So looking a word up by its number is looking it up by its letters
 pub numbered-among : {A : Type 0} (other : A) (t : List (List ℕ × A)) → wordTexts t ≡ true → (s : List ℕ) (at : ℕ) → numbered other t (numberAt s at) ≡ among other t (labelAt s at)

@@ -13,14 +13,14 @@ is-nothing-requires : tie.Need-is-nothing-requires
 is-nothing-requires c κs = search needs
 
 returns : tie.Need-returns
-returns c = 
+returns c =
     let s : List ℕ = c .before .before .before .args .s .now in
     let at : ℕ = c .before .before .before .args .at in
     let k = c .before .before .before .args .k in
     at-onward _ _ _ (part-absent s at k (sym (c .before .is-nothing .ensures) ∙ c .if1 .taken)) (omega arith) (omega arith)
 
 returns-2 : tie.Need-returns-2
-returns-2 c = 
+returns-2 c =
     let s : List ℕ = c .before .before .before .before .args .s .now in
     let at : ℕ = c .before .before .before .before .args .at in
     let k = c .before .before .before .before .args .k in
@@ -30,7 +30,7 @@ shared-slice-read-if3 : tie.Need-shared-slice-read-if3
 shared-slice-read-if3 c = search needs
 
 returns-3 : tie.Need-returns-3
-returns-3 c = 
+returns-3 c =
     let s : List ℕ = c .before .before .before .before .before .before .args .s .now in
     let at : ℕ = c .before .before .before .before .before .before .args .at in
     let k = c .before .before .before .before .before .before .args .k in
@@ -43,7 +43,7 @@ part-end-requires : tie.Need-part-end-requires
 part-end-requires c κs = search needs
 
 returns-4 : tie.Need-returns-4
-returns-4 c = 
+returns-4 c =
     let s : List ℕ = c .before .before .before .before .before .before .before .args .s .now in
     let at : ℕ = c .before .before .before .before .before .before .before .args .at in
     let k = c .before .before .before .before .before .before .before .args .k in

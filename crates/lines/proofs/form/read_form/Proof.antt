@@ -10,7 +10,7 @@ use Rattle.lines.proofs.form.read_form.Statement.{statement}
 use Rattle.lines.proofs.form.read_form.Tie as tie
 
 returns : tie.Need-returns
-returns c = 
+returns c =
     let s : List ℕ = c .before .before .before .args .s .now in
     let tree : List ℕ = c .before .before .before .args .tree .now in
     refused-first s tree (past s 0 40 (omega arith) (omega arith))
@@ -19,7 +19,7 @@ shared-slice-read-if2 : tie.Need-shared-slice-read-if2
 shared-slice-read-if2 c = search needs
 
 returns-2 : tie.Need-returns-2
-returns-2 c = 
+returns-2 c =
     let s : List ℕ = c .before .before .before .before .before .args .s .now in
     let tree : List ℕ = c .before .before .before .before .before .args .tree .now in
     refused-first s tree (c .if2 .taken)
@@ -43,13 +43,13 @@ enum-told : tie.Need-enum-told
 enum-told c = search needs
 
 returns-3 : tie.Need-returns-3
-returns-3 c = 
+returns-3 c =
     let s : List ℕ = c .before .before .before .before .before .before .before .before .before .before .before .args .s .now in
     let tree : List ℕ = c .before .before .before .before .before .before .before .before .before .before .before .args .tree .now in
     refused-parts s tree _ _ _ _ (c .before .before .before .before .before .before .if2 .left) (c .before .before .before .before .word-at .ensures) (c .before .before .before .before .before .label-end .ensures .is) (c .before .before .before .shape-of .ensures) (c .before .before .parts .ensures .is) (c .enum-told .given .1)
 
 tree-place-requires : tie.Need-tree-place-requires
-tree-place-requires c κs = 
+tree-place-requires c κs =
     let o = c .before .before .before .parts .ensures .on _ _ _ _ (c .before .e1 .given .1) in
     omega arith
 
@@ -57,7 +57,7 @@ put-tree-at-requires : tie.Need-put-tree-at-requires
 put-tree-at-requires c κs = search needs
 
 build-requires : tie.Need-build-requires
-build-requires c κs = 
+build-requires c κs =
     let o = c .before .before .before .before .before .before .before .before .parts .ensures .on _ _ _ _ (c .before .before .before .before .before .before .e1 .given .1) in
     omega arith
 
@@ -65,7 +65,7 @@ same-length : tie.Need-same-length
 same-length c = search needs
 
 returns-4 : tie.Need-returns-4
-returns-4 c = 
+returns-4 c =
     let s : List ℕ = c .before .before .before .before .before .before .before .before .before .before .before .before .before .before .before .before .before .before .args .s .now in
     let tree : List ℕ = c .before .before .before .before .before .before .before .before .before .before .before .before .before .before .before .before .before .before .args .tree .now in
     read-parts s tree _ _ _ _ (c .before .before .before .before .before .before .before .before .before .before .before .before .before .if2 .left) (c .before .before .before .before .before .before .before .before .before .before .before .word-at .ensures) (c .before .before .before .before .before .before .before .before .before .before .before .before .label-end .ensures .is) (c .before .before .before .before .before .before .before .before .before .before .shape-of .ensures) (c .before .before .before .before .before .before .before .before .before .parts .ensures .is) _ _ _ _ _ _ _ _ (c .before .before .before .before .before .before .before .e1 .given .1) (c .before .before .before .before .before .tree-place .ensures) (c .before .before .before .put-tree-at .ensures) (c .build .ensures)

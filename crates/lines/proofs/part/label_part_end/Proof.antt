@@ -17,19 +17,19 @@ sub-n : tie.Need-sub-n
 sub-n c = search needs
 
 returns : tie.Need-returns
-returns c = 
+returns c =
     let s : List ℕ = c .before .before .before .args .s .now in
     let at : ℕ = c .before .before .before .args .at in
     bad-onward _ _ (label-none s at (c .before .label-end .result - at) (omega arith) (omega arith))
 
 returns-2 : tie.Need-returns-2
-returns-2 c = 
+returns-2 c =
     let s : List ℕ = c .before .before .before .before .args .s .now in
     let at : ℕ = c .before .before .before .before .args .at in
     bad-onward _ _ (label-long s at (c .before .before .label-end .result - at) (omega arith) (omega arith))
 
 returns-3 : tie.Need-returns-3
-returns-3 c = 
+returns-3 c =
     let s : List ℕ = c .before .before .before .before .args .s .now in
     let at : ℕ = c .before .before .before .before .args .at in
     let e : ℕ = c .before .before .label-end .result in

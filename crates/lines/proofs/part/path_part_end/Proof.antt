@@ -14,13 +14,13 @@ path-run-end-requires : tie.Need-path-run-end-requires
 path-run-end-requires c κs = search needs
 
 returns : tie.Need-returns
-returns c = 
+returns c =
     let s : List ℕ = c .before .before .before .args .s .now in
     let at : ℕ = c .before .before .before .args .at in
     bad-onward _ _ (path-none s at (omega arith))
 
 returns-2 : tie.Need-returns-2
-returns-2 c = 
+returns-2 c =
     let s : List ℕ = c .before .before .before .args .s .now in
     let at : ℕ = c .before .before .before .args .at in
     at-onward _ _ _ (path-good s at (omega arith) ∙ ap At (sym (c .before .path-run-end .ensures .is))) (omega arith) (omega arith)

@@ -14,7 +14,7 @@ right-at-requires : tie.Need-right-at-requires
 right-at-requires c κs = search needs
 
 returns : tie.Need-returns
-returns c = 
+returns c =
     let s : List ℕ = c .before .before .before .args .s .now in
     let at : ℕ = c .before .before .before .args .at in
     bad-onward _ _ (right-none s at (sym (c .before .right-at .ensures) ∙ c .if1 .taken))
@@ -23,7 +23,7 @@ label-end-requires : tie.Need-label-end-requires
 label-end-requires c κs = search needs
 
 returns-2 : tie.Need-returns-2
-returns-2 c = 
+returns-2 c =
     let s : List ℕ = c .before .before .before .before .args .s .now in
     let at : ℕ = c .before .before .before .before .args .at in
     at-onward _ _ _ (right-good s at (λ z. c .before .if1 .left (c .before .before .right-at .ensures ∙ z)) ∙ ap At (sym (c .label-end .ensures .is))) (omega arith) (omega arith)

@@ -21,13 +21,13 @@ label-end-requires : tie.Need-label-end-requires
 label-end-requires c κs = search needs
 
 returns : tie.Need-returns
-returns c = 
+returns c =
     let s : List ℕ = c .before .before .before .before .before .args .s .now in
     let at : ℕ = c .before .before .before .before .before .args .at in
     at-onward _ _ _ (sign-good s at (sym (c .before .before .is-sign .ensures ∙ ap isSign (c .before .before .before .sign-at .ensures)) ∙ c .before .if1 .taken) ∙ ap At (sym (c .label-end .ensures .is))) (omega arith) (omega arith)
 
 returns-2 : tie.Need-returns-2
-returns-2 c = 
+returns-2 c =
     let s : List ℕ = c .before .before .before .before .args .s .now in
     let at : ℕ = c .before .before .before .before .args .at in
     bad-onward _ _ (sign-none s at (sym (c .before .is-sign .ensures ∙ ap isSign (c .before .before .sign-at .ensures)) ∙ c .if1 .left))

@@ -31,7 +31,7 @@ line-byte-requires c κs = tt
 
 returns-2 : tie.Need-returns-2 Inv-loop μ-loop
 unfolding lineOk
-returns-2 c = 
+returns-2 c =
     let inv = c .before .before .before .before .loop .inv in
     rw (le-leb _ 1024 (inv .0)) (sym (inv .2 ∙ all-stop lineByte _ _ (c .before .before .before .loop-test .taken) (sym (c .before .line-byte .ensures) ∙ not-true _ (c .if2 .taken))))
 
@@ -50,7 +50,7 @@ loop-again c = (
 
 returns-3 : tie.Need-returns-3 Inv-loop μ-loop
 unfolding lineOk
-returns-3 c = 
+returns-3 c =
     let inv = c .before .loop .inv in
     rw (le-leb _ 1024 (inv .0)) (sym (inv .2 ∙ all-end lineByte _ _ (c .loop-test .left)))
 

@@ -34,7 +34,7 @@ abbrev put-tail-claims : ℕ → put-tail-lts.Claims
 put-tail-claims t = (put-tail-below t, put-tail.Post, open-end-reads.Asked, open-end-reads.Learnt, level-byte-reads.Asked, level-byte-reads.Learnt, put-record-reads.Asked, put-record-reads.Learnt)
 
 put-tail-returns : (t : ℕ) → put-tail-lts.Need-returns (put-tail-claims t) (put-tail-at t) put-tail.Post
-put-tail-returns t c = 
+put-tail-returns t c =
     let s : List ℕ = c .before .before .before .args .s .now in
     let depth : ℕ = c .before .before .before .args .depth in
     let n : ℕ = c .before .before .before .args .n in
@@ -45,7 +45,7 @@ put-tail-shared-slice-read-b : (t : ℕ) → put-tail-lts.Need-shared-slice-read
 put-tail-shared-slice-read-b t c = search needs
 
 put-tail-returns-2 : (t : ℕ) → put-tail-lts.Need-returns-2 (put-tail-claims t) (put-tail-at t) put-tail.Post
-put-tail-returns-2 t c = 
+put-tail-returns-2 t c =
     let s : List ℕ = c .before .before .before .before .before .before .args .s .now in
     let depth : ℕ = c .before .before .before .before .before .before .args .depth in
     let n : ℕ = c .before .before .before .before .before .before .args .n in
@@ -65,7 +65,7 @@ put-tail-sub-put-tail-2 : (t : ℕ) → put-tail-lts.Need-sub-put-tail-2 (put-ta
 put-tail-sub-put-tail-2 t c = search needs
 
 put-tail-put-tail-requires : (t : ℕ) → put-tail-lts.Need-put-tail-requires (put-tail-claims t) (put-tail-at t) put-tail.Post
-put-tail-put-tail-requires t c κs = 
+put-tail-put-tail-requires t c κs =
     let s : List ℕ = c .before .before .before .before .before .before .before .before .args .s .now in
     let depth : ℕ = c .before .before .before .before .before .before .before .before .args .depth in
     let n : ℕ = c .before .before .before .before .before .before .before .before .args .n in
@@ -77,7 +77,7 @@ put-tail-same-length : (t : ℕ) → put-tail-lts.Need-same-length (put-tail-cla
 put-tail-same-length t c = search needs
 
 put-tail-returns-3 : (t : ℕ) → put-tail-lts.Need-returns-3 (put-tail-claims t) (put-tail-at t) put-tail.Post
-put-tail-returns-3 t c = 
+put-tail-returns-3 t c =
     let s : List ℕ = c .before .before .before .before .before .before .before .before .before .before .before .args .s .now in
     let depth : ℕ = c .before .before .before .before .before .before .before .before .before .before .before .args .depth in
     let n : ℕ = c .before .before .before .before .before .before .before .before .before .before .before .args .n in
@@ -85,7 +85,7 @@ put-tail-returns-3 t c =
     put-close s depth n _ _ _ _ (omega arith) (c .before .before .before .before .before .before .if2 .taken) (c .before .before .before .before .before .if3 .left) (rest-of s 1) (c .before .before .put-tail .ensures)
 
 put-tail-returns-4 : (t : ℕ) → put-tail-lts.Need-returns-4 (put-tail-claims t) (put-tail-at t) put-tail.Post
-put-tail-returns-4 t c = 
+put-tail-returns-4 t c =
     let s : List ℕ = c .before .before .before .before .before .before .args .s .now in
     let depth : ℕ = c .before .before .before .before .before .before .args .depth in
     let n : ℕ = c .before .before .before .before .before .before .args .n in
@@ -102,7 +102,7 @@ put-tail-enum-told : (t : ℕ) → put-tail-lts.Need-enum-told (put-tail-claims 
 put-tail-enum-told t c = search needs
 
 put-tail-returns-5 : (t : ℕ) → put-tail-lts.Need-returns-5 (put-tail-claims t) (put-tail-at t) put-tail.Post
-put-tail-returns-5 t c = 
+put-tail-returns-5 t c =
     let s : List ℕ = c .before .before .before .before .before .before .before .before .before .args .s .now in
     let depth : ℕ = c .before .before .before .before .before .before .before .before .before .args .depth in
     let n : ℕ = c .before .before .before .before .before .before .before .before .before .args .n in
@@ -116,13 +116,13 @@ put-tail-level-byte-requires : (t : ℕ) → put-tail-lts.Need-level-byte-requir
 put-tail-level-byte-requires t c κs = search needs
 
 put-tail-sub-put-record : (t : ℕ) → put-tail-lts.Need-sub-put-record (put-tail-claims t) (put-tail-at t) put-tail.Post
-put-tail-sub-put-record t c = 
+put-tail-sub-put-record t c =
     let e : ℕ = c .before .before .before .e .given .0 .0 in
     let hi = c .before .before .before .before .before .open-end .ensures .on e (c .before .before .before .e .given .1) in
     omega arith
 
 put-tail-put-record-requires : (t : ℕ) → put-tail-lts.Need-put-record-requires (put-tail-claims t) (put-tail-at t) put-tail.Post
-put-tail-put-record-requires t c κs = 
+put-tail-put-record-requires t c κs =
     let s : List ℕ = c .before .before .before .before .before .before .before .before .before .before .before .before .args .s .now in
     let depth : ℕ = c .before .before .before .before .before .before .before .before .before .before .before .before .args .depth in
     let n : ℕ = c .before .before .before .before .before .before .before .before .before .before .before .before .args .n in
@@ -133,13 +133,13 @@ put-tail-put-record-requires t c κs =
     (omega arith, omega arith, omega arith)
 
 put-tail-sub-put-tail-3 : (t : ℕ) → put-tail-lts.Need-sub-put-tail-3 (put-tail-claims t) (put-tail-at t) put-tail.Post
-put-tail-sub-put-tail-3 t c = 
+put-tail-sub-put-tail-3 t c =
     let e : ℕ = c .before .before .before .before .before .before .e .given .0 .0 in
     let hi = c .before .before .before .before .before .before .before .before .open-end .ensures .on e (c .before .before .before .before .before .before .e .given .1) in
     omega arith
 
 put-tail-part-put-tail-start-2 : (t : ℕ) → put-tail-lts.Need-part-put-tail-start-2 (put-tail-claims t) (put-tail-at t) put-tail.Post
-put-tail-part-put-tail-start-2 t c = 
+put-tail-part-put-tail-start-2 t c =
     let e : ℕ = c .before .before .before .before .before .before .e .given .0 .0 in
     let hi = c .before .before .before .before .before .before .before .before .open-end .ensures .on e (c .before .before .before .before .before .before .e .given .1) in
     omega arith
@@ -154,7 +154,7 @@ put-tail-add-put-tail-2 : (t : ℕ) → put-tail-lts.Need-add-put-tail-2 (put-ta
 put-tail-add-put-tail-2 t c = search needs
 
 put-tail-put-tail-requires-2 : (t : ℕ) → put-tail-lts.Need-put-tail-requires-2 (put-tail-claims t) (put-tail-at t) put-tail.Post
-put-tail-put-tail-requires-2 t c κs = 
+put-tail-put-tail-requires-2 t c κs =
     let s : List ℕ = c .before .before .before .before .before .before .before .before .before .before .before .before .before .before .before .before .before .args .s .now in
     let depth : ℕ = c .before .before .before .before .before .before .before .before .before .before .before .before .before .before .before .before .before .args .depth in
     let n : ℕ = c .before .before .before .before .before .before .before .before .before .before .before .before .before .before .before .before .before .args .n in
@@ -170,7 +170,7 @@ put-tail-same-length-2 : (t : ℕ) → put-tail-lts.Need-same-length-2 (put-tail
 put-tail-same-length-2 t c = search needs
 
 put-tail-returns-6 : (t : ℕ) → put-tail-lts.Need-returns-6 (put-tail-claims t) (put-tail-at t) put-tail.Post
-put-tail-returns-6 t c = 
+put-tail-returns-6 t c =
     let s : List ℕ = c .before .before .before .before .before .before .before .before .before .before .before .before .before .before .before .before .before .before .before .before .args .s .now in
     let depth : ℕ = c .before .before .before .before .before .before .before .before .before .before .before .before .before .before .before .before .before .before .before .before .args .depth in
     let n : ℕ = c .before .before .before .before .before .before .before .before .before .before .before .before .before .before .before .before .before .before .before .before .args .n in

@@ -31,7 +31,7 @@ abbrev tail-end-claims : ℕ → tail-end-lts.Claims
 tail-end-claims t = (tail-end-below t, tail-end.Post, open-end-reads.Asked, open-end-reads.Learnt)
 
 tail-end-returns : (t : ℕ) → tail-end-lts.Need-returns (tail-end-claims t) (tail-end-at t) tail-end.Post
-tail-end-returns t c = 
+tail-end-returns t c =
     let s : List ℕ = c .before .before .args .s .now in
     let at : ℕ = c .before .before .args .at in
     let depth : ℕ = c .before .before .args .depth in
@@ -44,7 +44,7 @@ tail-end-add-t11 : (t : ℕ) → tail-end-lts.Need-add-t11 (tail-end-claims t) (
 tail-end-add-t11 t c = search needs
 
 tail-end-returns-2 : (t : ℕ) → tail-end-lts.Need-returns-2 (tail-end-claims t) (tail-end-at t) tail-end.Post
-tail-end-returns-2 t c = 
+tail-end-returns-2 t c =
     let s : List ℕ = c .before .before .before .before .before .args .s .now in
     let at : ℕ = c .before .before .before .before .before .args .at in
     let depth : ℕ = c .before .before .before .before .before .args .depth in
@@ -66,7 +66,7 @@ tail-end-sub-tail-end-2 : (t : ℕ) → tail-end-lts.Need-sub-tail-end-2 (tail-e
 tail-end-sub-tail-end-2 t c = search needs
 
 tail-end-tail-end-requires : (t : ℕ) → tail-end-lts.Need-tail-end-requires (tail-end-claims t) (tail-end-at t) tail-end.Post
-tail-end-tail-end-requires t c κs = 
+tail-end-tail-end-requires t c κs =
     let s : List ℕ = c .before .before .before .before .before .before .args .s .now in
     let at : ℕ = c .before .before .before .before .before .before .args .at in
     let depth : ℕ = c .before .before .before .before .before .before .args .depth in
@@ -74,14 +74,14 @@ tail-end-tail-end-requires t c κs =
     (omega arith, omega arith)
 
 tail-end-returns-3 : (t : ℕ) → tail-end-lts.Need-returns-3 (tail-end-claims t) (tail-end-at t) tail-end.Post
-tail-end-returns-3 t c = 
+tail-end-returns-3 t c =
     let s : List ℕ = c .before .before .before .before .before .before .before .args .s .now in
     let at : ℕ = c .before .before .before .before .before .before .before .args .at in
     let depth : ℕ = c .before .before .before .before .before .before .before .args .depth in
     end-close s at depth _ _ (omega arith) (c .before .before .before .if2 .taken) (c .before .before .if3 .left) (rest-of s 1) (c .tail-end .ensures)
 
 tail-end-returns-4 : (t : ℕ) → tail-end-lts.Need-returns-4 (tail-end-claims t) (tail-end-at t) tail-end.Post
-tail-end-returns-4 t c = 
+tail-end-returns-4 t c =
     let s : List ℕ = c .before .before .before .before .before .args .s .now in
     let at : ℕ = c .before .before .before .before .before .args .at in
     let depth : ℕ = c .before .before .before .before .before .args .depth in
@@ -97,20 +97,20 @@ tail-end-enum-told : (t : ℕ) → tail-end-lts.Need-enum-told (tail-end-claims 
 tail-end-enum-told t c = search needs
 
 tail-end-returns-5 : (t : ℕ) → tail-end-lts.Need-returns-5 (tail-end-claims t) (tail-end-at t) tail-end.Post
-tail-end-returns-5 t c = 
+tail-end-returns-5 t c =
     let s : List ℕ = c .before .before .before .before .before .before .before .before .args .s .now in
     let at : ℕ = c .before .before .before .before .before .before .before .before .args .at in
     let depth : ℕ = c .before .before .before .before .before .before .before .before .args .depth in
     end-bad s at depth (end-unopened s at depth (c .before .before .before .if4 .left) (sym (c .before .before .open-end .ensures .is) ∙ c .enum-told .given .1))
 
 tail-end-sub-tail-end-3 : (t : ℕ) → tail-end-lts.Need-sub-tail-end-3 (tail-end-claims t) (tail-end-at t) tail-end.Post
-tail-end-sub-tail-end-3 t c = 
+tail-end-sub-tail-end-3 t c =
     let e : ℕ = c .before .e .given .0 .0 in
     let hi = c .before .before .before .open-end .ensures .on e (c .before .e .given .1) in
     omega arith
 
 tail-end-part-tail-end-start-2 : (t : ℕ) → tail-end-lts.Need-part-tail-end-start-2 (tail-end-claims t) (tail-end-at t) tail-end.Post
-tail-end-part-tail-end-start-2 t c = 
+tail-end-part-tail-end-start-2 t c =
     let e : ℕ = c .before .e .given .0 .0 in
     let hi = c .before .before .before .open-end .ensures .on e (c .before .e .given .1) in
     omega arith
@@ -119,7 +119,7 @@ tail-end-part-tail-end-end-2 : (t : ℕ) → tail-end-lts.Need-part-tail-end-end
 tail-end-part-tail-end-end-2 t c = search needs
 
 tail-end-add-tail-end-2 : (t : ℕ) → tail-end-lts.Need-add-tail-end-2 (tail-end-claims t) (tail-end-at t) tail-end.Post
-tail-end-add-tail-end-2 t c = 
+tail-end-add-tail-end-2 t c =
     let e : ℕ = c .before .before .e .given .0 .0 in
     let hi = c .before .before .before .before .open-end .ensures .on e (c .before .before .e .given .1) in
     omega arith
@@ -128,7 +128,7 @@ tail-end-add-tail-end-3 : (t : ℕ) → tail-end-lts.Need-add-tail-end-3 (tail-e
 tail-end-add-tail-end-3 t c = search needs
 
 tail-end-tail-end-requires-2 : (t : ℕ) → tail-end-lts.Need-tail-end-requires-2 (tail-end-claims t) (tail-end-at t) tail-end.Post
-tail-end-tail-end-requires-2 t c κs = 
+tail-end-tail-end-requires-2 t c κs =
     let s : List ℕ = c .before .before .before .before .before .before .before .before .before .before .args .s .now in
     let at : ℕ = c .before .before .before .before .before .before .before .before .before .before .args .at in
     let depth : ℕ = c .before .before .before .before .before .before .before .before .before .before .args .depth in
@@ -138,7 +138,7 @@ tail-end-tail-end-requires-2 t c κs =
     (omega arith, omega arith)
 
 tail-end-returns-6 : (t : ℕ) → tail-end-lts.Need-returns-6 (tail-end-claims t) (tail-end-at t) tail-end.Post
-tail-end-returns-6 t c = 
+tail-end-returns-6 t c =
     let s : List ℕ = c .before .before .before .before .before .before .before .before .before .before .before .args .s .now in
     let at : ℕ = c .before .before .before .before .before .before .before .before .before .before .before .args .at in
     let depth : ℕ = c .before .before .before .before .before .before .before .before .before .before .before .args .depth in

@@ -11,7 +11,7 @@ use Rattle.lines.proofs.tree.open_end.Statement.{statement}
 use Rattle.lines.proofs.tree.open_end.Tie as tie
 
 returns : tie.Need-returns
-returns c = 
+returns c =
     let s : List ℕ = c .before .before .args .s .now in
     let at : ℕ = c .before .before .args .at in
     bad-onward _ _ (open-not s at (past s at 40 (c .if1 .taken) (omega arith)))
@@ -20,7 +20,7 @@ shared-slice-read-if2 : tie.Need-shared-slice-read-if2
 shared-slice-read-if2 c = search needs
 
 returns-2 : tie.Need-returns-2
-returns-2 c = 
+returns-2 c =
     let s : List ℕ = c .before .before .before .before .args .s .now in
     let at : ℕ = c .before .before .before .before .args .at in
     bad-onward _ _ (open-not s at (c .if2 .taken))
@@ -32,7 +32,7 @@ label-part-end-requires : tie.Need-label-part-end-requires
 label-part-end-requires c κs = search needs
 
 returns-3 : tie.Need-returns-3
-returns-3 c = 
+returns-3 c =
     let s : List ℕ = c .before .before .before .before .before .args .s .now in
     let at : ℕ = c .before .before .before .before .before .args .at in
     earlier _ _ _ (open-label s at (c .before .if2 .left)) (omega arith) (c .label-part-end .ensures)

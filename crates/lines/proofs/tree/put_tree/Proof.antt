@@ -19,26 +19,26 @@ enum-told : tie.Need-enum-told
 enum-told c = search needs
 
 returns : tie.Need-returns
-returns c = 
+returns c =
     let s : List ℕ = c .before .before .before .before .before .args .s .now in
     let at : ℕ = c .before .before .before .before .before .args .at in
     let tree : List ℕ = c .before .before .before .before .before .args .tree .now in
     put-tree-none s at tree (sym (c .before .before .open-end .ensures .is) ∙ c .enum-told .given .1)
 
 add-a : tie.Need-add-a
-add-a c = 
+add-a c =
     let e : ℕ = c .before .e .given .0 .0 in
     let hi = c .before .before .before .open-end .ensures .on e (c .before .e .given .1) in
     omega arith
 
 sub-put-record : tie.Need-sub-put-record
-sub-put-record c = 
+sub-put-record c =
     let e : ℕ = c .before .before .e .given .0 .0 in
     let hi = c .before .before .before .before .open-end .ensures .on e (c .before .before .e .given .1) in
     omega arith
 
 put-record-requires : tie.Need-put-record-requires
-put-record-requires c κs = 
+put-record-requires c κs =
     let s : List ℕ = c .before .before .before .before .before .before .before .args .s .now in
     let at : ℕ = c .before .before .before .before .before .before .before .args .at in
     let tree : List ℕ = c .before .before .before .before .before .before .before .args .tree .now in
@@ -48,13 +48,13 @@ put-record-requires c κs =
     (omega arith, omega arith, omega arith)
 
 sub-put-tail : tie.Need-sub-put-tail
-sub-put-tail c = 
+sub-put-tail c =
     let e : ℕ = c .before .before .before .before .before .e .given .0 .0 in
     let hi = c .before .before .before .before .before .before .before .open-end .ensures .on e (c .before .before .before .before .before .e .given .1) in
     omega arith
 
 part-put-tail-start : tie.Need-part-put-tail-start
-part-put-tail-start c = 
+part-put-tail-start c =
     let e : ℕ = c .before .before .before .before .before .e .given .0 .0 in
     let hi = c .before .before .before .before .before .before .before .open-end .ensures .on e (c .before .before .before .before .before .e .given .1) in
     omega arith
@@ -63,7 +63,7 @@ part-put-tail-end : tie.Need-part-put-tail-end
 part-put-tail-end c = search needs
 
 put-tail-requires : tie.Need-put-tail-requires
-put-tail-requires c κs = 
+put-tail-requires c κs =
     let s : List ℕ = c .before .before .before .before .before .before .before .before .before .before .before .before .args .s .now in
     let at : ℕ = c .before .before .before .before .before .before .before .before .before .before .before .before .args .at in
     let tree : List ℕ = c .before .before .before .before .before .before .before .before .before .before .before .before .args .tree .now in
@@ -78,7 +78,7 @@ same-length : tie.Need-same-length
 same-length c = search needs
 
 returns-2 : tie.Need-returns-2
-returns-2 c = 
+returns-2 c =
     let s : List ℕ = c .before .before .before .before .before .before .before .before .before .before .before .before .before .before .before .args .s .now in
     let at : ℕ = c .before .before .before .before .before .before .before .before .before .before .before .before .before .before .before .args .at in
     let tree : List ℕ = c .before .before .before .before .before .before .before .before .before .before .before .before .before .before .before .args .tree .now in

@@ -20,19 +20,19 @@ enum-told : tie.Need-enum-told
 enum-told c = search needs
 
 returns : tie.Need-returns
-returns c = 
+returns c =
     let s : List ℕ = c .before .before .before .before .args .s .now in
     let at : ℕ = c .before .before .before .before .args .at in
     bad-onward _ _ (tree-unopened s at (sym (c .before .before .open-end .ensures .is) ∙ c .enum-told .given .1))
 
 sub-tail-end : tie.Need-sub-tail-end
-sub-tail-end c = 
+sub-tail-end c =
     let e : ℕ = c .before .e .given .0 .0 in
     let hi = c .before .before .before .open-end .ensures .on e (c .before .e .given .1) in
     omega arith
 
 part-tail-end-start : tie.Need-part-tail-end-start
-part-tail-end-start c = 
+part-tail-end-start c =
     let e : ℕ = c .before .e .given .0 .0 in
     let hi = c .before .before .before .open-end .ensures .on e (c .before .e .given .1) in
     omega arith
@@ -41,7 +41,7 @@ part-tail-end-end : tie.Need-part-tail-end-end
 part-tail-end-end c = search needs
 
 tail-end-requires : tie.Need-tail-end-requires
-tail-end-requires c κs = 
+tail-end-requires c κs =
     let s : List ℕ = c .before .before .before .before .before .before .args .s .now in
     let e : ℕ = c .before .before .e .given .0 .0 in
     let hi = c .before .before .before .before .open-end .ensures .on e (c .before .before .e .given .1) in
@@ -49,7 +49,7 @@ tail-end-requires c κs =
     omega arith
 
 returns-2 : tie.Need-returns-2
-returns-2 c = 
+returns-2 c =
     let s : List ℕ = c .before .before .before .before .before .before .before .args .s .now in
     let at : ℕ = c .before .before .before .before .before .before .before .args .at in
     let e : ℕ = c .before .before .before .e .given .0 .0 in

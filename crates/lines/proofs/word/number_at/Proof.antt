@@ -25,7 +25,7 @@ word-number-requires c κs = search needs
 
 returns-2 : tie.Need-returns-2
 unfolding numberAt
-returns-2 c = 
+returns-2 c =
     let z : c .before .before .label-end .result - c .before .before .before .before .args .at ≡ runAt labelByte (c .before .before .before .before .args .s .now) (c .before .before .before .before .args .at) = omega arith in
     rw (le-leb (runAt labelByte (c .before .before .before .before .args .s .now) (c .before .before .before .before .args .at)) 8 (omega arith)) (rw z at (c .word-number .ensures))
 

@@ -17,7 +17,7 @@ abbrev μ-loop : tie.MeasureT-loop
 
 loop-holds : tie.Need-loop-holds Inv-loop μ-loop
 unfolding number
-loop-holds c = 
+loop-holds c =
     let z : c .args .e - c .args .e ≡ 0 = omega arith in
     (omega arith, omega arith, rw z, rw z (omega arith))
 
@@ -25,7 +25,7 @@ sub-i : tie.Need-sub-i Inv-loop μ-loop
 sub-i c = omega arith
 
 mul-n : tie.Need-mul-n Inv-loop μ-loop
-mul-n c = 
+mul-n c =
     let s : List ℕ = c .before .before .args .s .now in
     let e : ℕ = c .before .before .args .e in
     let i : ℕ = c .before .loop .i in
@@ -41,7 +41,7 @@ cast-n : tie.Need-cast-n Inv-loop μ-loop
 cast-n c = omega (arith, c .shared-slice-known .given (c .before .before .loop .i - 1))
 
 add-n : tie.Need-add-n Inv-loop μ-loop
-add-n c = 
+add-n c =
     let s : List ℕ = c .before .before .before .args .s .now in
     let e : ℕ = c .before .before .before .args .e in
     let i : ℕ = c .before .before .loop .i in
@@ -54,7 +54,7 @@ loop-less : tie.Need-loop-less Inv-loop μ-loop
 loop-less c = omega arith
 
 loop-again : tie.Need-loop-again Inv-loop μ-loop
-loop-again c = 
+loop-again c =
     let s : List ℕ = c .before .before .before .args .s .now in
     let e : ℕ = c .before .before .before .args .e in
     let i : ℕ = c .before .before .loop .i in
@@ -68,7 +68,7 @@ loop-again c =
     (omega arith, omega arith, ap (λ (m : ℕ). m * 256 + getD s j 0) (inv .2) ∙ sym w, rw z (more-fits n (e - i) (getD s j 0) (inv .3) (omega (arith, c .shared-slice-known .given j))))
 
 returns : tie.Need-returns Inv-loop μ-loop
-returns c = 
+returns c =
     let q : c .before .before .args .a ≡ c .before .loop .i = omega arith in
     rw q (c .before .loop .inv .2)
 
