@@ -73,12 +73,12 @@ module _ (s : List ℕ) (at : ℕ) where
       let q : runAt pathByte s at ≡ length w = rw e (run-over pathByte w r g h) in
       rw (q, le-leb 1 (length w) l)
 
-  sign-reads : (b : Bool) (r : List ℕ) → drop at s ≡ cond b accept deny ++ r → labelByte (getD r 0 0) ≡ false → (signEnd s at ≡ At (at + length (cond b accept deny))) × (signAt s at ≡ cond b Accept Deny)
+  pub sign-reads : (b : Bool) (r : List ℕ) → drop at s ≡ cond b accept deny ++ r → labelByte (getD r 0 0) ≡ false → (signEnd s at ≡ At (at + length (cond b accept deny))) × (signAt s at ≡ cond b Accept Deny)
   unfolding signEnd signAt among sameText labelByte all
   sign-reads true r e h = let q = label-at accept r refl e h in (rw (q .0, q .1), rw (q .0))
   sign-reads false r e h = let q = label-at deny r refl e h in (rw (q .0, q .1), rw (q .0))
 
-  right-reads : (a : Right) (r : List ℕ) → drop at s ≡ writeRight a ++ r → labelByte (getD r 0 0) ≡ false → (rightEnd s at ≡ At (at + length (writeRight a))) × (rightAt s at ≡ bitOf a)
+  pub right-reads : (a : Right) (r : List ℕ) → drop at s ≡ writeRight a ++ r → labelByte (getD r 0 0) ≡ false → (rightEnd s at ≡ At (at + length (writeRight a))) × (rightAt s at ≡ bitOf a)
   unfolding rightEnd rightAt among sameText labelByte all writeRight
   right-reads position r e h = let q = label-at (writeRight position) r refl e h in (rw (q .0, q .1), rw (q .0))
   right-reads read r e h = let q = label-at (writeRight read) r refl e h in (rw (q .0, q .1), rw (q .0))

@@ -4,3 +4,4 @@ pub mod TreeLaws
 pub mod FormLaws
 pub mod TreeWritten
 pub mod FormWritten
+pub mod FormPlaces
