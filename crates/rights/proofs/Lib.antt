@@ -33,3 +33,4 @@ pub mod ViewNested
 pub mod StarredPaths
 pub mod NodeLaws
 pub mod RecordMade
+pub mod RecordLaws

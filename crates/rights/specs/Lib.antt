@@ -13,3 +13,4 @@ pub mod Record
 pub mod Nodes
 pub mod XPath
 pub mod Selection
+pub mod Record

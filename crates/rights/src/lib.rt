@@ -9,4 +9,5 @@ pub mod policy_check;
 pub mod rights;
 pub mod record;
 pub mod selection;
+pub mod record;
 pub mod table;

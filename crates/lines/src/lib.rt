@@ -1,0 +1,7 @@
+// Lines (document 01, "Lines"): what a line says.
+pub mod form;
+pub mod limits;
+pub mod part;
+pub mod text;
+pub mod tree;
+pub mod word;
