@@ -22,3 +22,4 @@ pub mod Words
 pub mod Sounds
 pub mod PolicyWords
 pub mod RightsLaws
+pub mod RecordLaws

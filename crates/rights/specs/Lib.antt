@@ -9,3 +9,4 @@ pub mod PathText
 pub mod Rights
 pub mod Automaton
 pub mod PolicyCheck
+pub mod Record

@@ -5,5 +5,6 @@ pub mod limits;
 pub mod path;
 pub mod policy;
 pub mod policy_check;
+pub mod record;
 pub mod rights;
 pub mod table;
