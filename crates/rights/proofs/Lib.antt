@@ -23,3 +23,10 @@ pub mod Sounds
 pub mod PolicyWords
 pub mod RightsLaws
 pub mod RecordLaws
+pub mod StoredPaths
+pub mod EditTests
+pub mod EditBytes
+pub mod EditKept
+pub mod RecordRead
+pub mod StoredSteps
+pub mod PolicyEdits

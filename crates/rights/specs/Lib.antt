@@ -10,3 +10,4 @@ pub mod Rights
 pub mod Automaton
 pub mod PolicyCheck
 pub mod Record
+pub mod PolicyEdit

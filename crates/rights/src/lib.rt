@@ -5,6 +5,7 @@ pub mod limits;
 pub mod path;
 pub mod policy;
 pub mod policy_check;
+pub mod policy_edit;
 pub mod record;
 pub mod rights;
 pub mod table;
