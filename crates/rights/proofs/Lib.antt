@@ -34,3 +34,10 @@ pub mod StarredPaths
 pub mod NodeLaws
 pub mod RecordMade
 pub mod RecordLaws
+pub mod StoredPaths
+pub mod EditTests
+pub mod EditBytes
+pub mod EditKept
+pub mod RecordRead
+pub mod StoredSteps
+pub mod PolicyEdits

@@ -14,3 +14,4 @@ pub mod Nodes
 pub mod XPath
 pub mod Selection
 pub mod Record
+pub mod PolicyEdit

@@ -6,6 +6,8 @@ mod passes;
 pub mod path;
 pub mod policy;
 pub mod policy_check;
+pub mod policy_edit;
+pub mod record;
 pub mod rights;
 pub mod record;
 pub mod selection;
