@@ -6,3 +6,4 @@ pub mod Policy
 pub mod PolicyBytes
 pub mod PathReader
 pub mod PathText
+pub mod Nodes

@@ -1,0 +1,4 @@
+pub mod Answer
+pub mod AnswerChoice
+pub mod AnswerTree
+pub mod AnswerArea

@@ -1,0 +1,2 @@
+// Reading lines, the session, stages, refusals and answers (document 01).
+pub mod answer;
