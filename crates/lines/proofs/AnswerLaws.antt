@@ -4,7 +4,7 @@ use mathlib.Core.Path.{_≡_, refl, sym, ap, _∙_}
 use mathlib.Core.List.{List, [], _∷_, _++_, append-assoc, append-nil}
 use native.Mathlib.Omega.{arith}
 use native.Mathlib.Numerals.{add-one}
-use lib.ListN.{length, getD, set, take, drop, length-append, take-append-drop}
+use lib.ListN.{length, getD, set, take, drop, length-append, length-take, take-append-drop}
 use lib.Seq.{paste, paste-suc, length-take-le, take-at, drop-at, drop-drop, take-length}
 use borrow.Author.Tests.{lt-ltb, le-ltb, le-leb, lt-leb}
 use Rattle.rights.specs.PathText.{decimal}
@@ -74,3 +74,23 @@ answered-fits text a b r s p q h =
 
 pub answered-not : (text a : List ℕ) (r : ℕ) → r ≡ length text → length a < r → Answered text a a r
 answered-not text a r e h = record { size = e; area = rw (lt-leb (length text) (length a) (omega arith)) }
+
+-- On the way: of a whole text what stands before the rest is put.
+pub record Toward (whole rest : List ℕ) (at : ℕ) (a b : List ℕ) (r : ℕ) : Type 0 where
+  pub text : List ℕ
+  pub put : Puts text at a b r
+  pub left : whole ≡ text ++ rest
+
+pub toward-start : (whole : List ℕ) (at : ℕ) (a : List ℕ) → Toward whole whole at a a at
+toward-start whole at a = record { text = []; put = puts-none at a; left = refl }
+
+pub toward-more : {whole rest p rest′ : List ℕ} {at : ℕ} {a b c : List ℕ} {r s : ℕ}
+    → Toward whole rest at a b r → Puts p r b c s → rest ≡ p ++ rest′ → Toward whole rest′ at a c s
+toward-more {whole} {rest} {p} {rest′} t q e =
+    record { text = t .text ++ p; put = puts-more (t .put) q; left = t .left ∙ rw (e, append-assoc (t .text) p rest′) }
+
+pub toward-end : {whole rest : List ℕ} {at : ℕ} {a b : List ℕ} {r : ℕ} → Toward whole rest at a b r → rest ≡ [] → Puts whole at a b r
+toward-end {whole} t e = let q : whole ≡ t .text = t .left ∙ rw (e, append-nil (t .text)) in rw q (t .put)
+
+pub take-short : (k : ℕ) (l : List ℕ) → length (take k l) ≤ k
+take-short k l = simp length-take (omega arith)

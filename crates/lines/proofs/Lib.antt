@@ -1,1 +1,4 @@
 pub mod AnswerLaws
+pub mod AnswerNodes
+pub mod NodeLaws
+pub mod AnswerTreeLaws

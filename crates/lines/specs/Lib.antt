@@ -2,3 +2,4 @@ pub mod Answer
 pub mod AnswerChoice
 pub mod AnswerTree
 pub mod AnswerArea
+pub mod AnswerParts
