@@ -23,6 +23,10 @@ okText = 40 ∷ 111 ∷ 107 ∷ closed
 abbrev pub doneText : ℕ → ℕ → List ℕ
 doneText s d = (40 ∷ 100 ∷ 111 ∷ 110 ∷ 101 ∷ 32 ∷ []) ++ (number s ++ ((32 ∷ []) ++ (number d ++ closed)))
 
+-- `(refused N)`, which the program prints for a refusal
+abbrev pub refusedText : ℕ → List ℕ
+refusedText n = (40 ∷ 114 ∷ 101 ∷ 102 ∷ 117 ∷ 115 ∷ 101 ∷ 100 ∷ 32 ∷ []) ++ (number n ++ closed)
+
 -- `(end K)`
 abbrev pub endLine : ℕ → List ℕ
 endLine k = (40 ∷ 101 ∷ 110 ∷ 100 ∷ 32 ∷ []) ++ (number k ++ closed)

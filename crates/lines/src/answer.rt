@@ -13,7 +13,7 @@ ghost use lib.ListN.{length, getD, drop, replicate};
 ghost use lib.Seq.{paste};
 ghost use Rattle.rights.specs.PathText.{decimal};
 ghost use Rattle.rights.specs.Nodes.{recordPlace, levelAt, labelAt, viewOf, Fits};
-ghost use Rattle.lines.specs.Answer.{okText, doneText, endLine, hitLine, hitsOf, hitLines, queryText};
+ghost use Rattle.lines.specs.Answer.{okText, doneText, refusedText, endLine, hitLine, hitsOf, hitLines, queryText};
 ghost use Rattle.lines.specs.Answer.{viewText, childLines, opening, closing, nextLevel, rootLine};
 ghost use Rattle.lines.specs.AnswerParts.{nodeAt, hitLineAt, nodeText, setMark, markedCount};
 ghost use Rattle.lines.specs.AnswerChoice.{chosen, findText};
@@ -338,6 +338,15 @@ fn put_done(area: &mut [u8], s: usize, d: usize) -> usize
     put_bytes(area, e, b")\n")
 }
 
+// Puts `(refused N)`.
+fn put_refused(area: &mut [u8], number: u8) -> usize
+    ensures { λ r. ⌜ (Puts (refusedText number) 0 (now (area .entry)) (now (area .exit)) r) × (r < 32) ⌝ }
+{
+    let a = put_bytes(area, 0, b"(refused ");
+    let b = put_decimal(area, a, DIGITS_MAX, wide(number));
+    put_bytes(area, b, b")\n")
+}
+
 // Writes `(ok)`, if the area has room for it; its length, fit or not. So with each answer below.
 pub fn answer_ok(area: &mut [u8]) -> usize
     ensures { λ r. ⌜ Answered okText (now (area .entry)) (now (area .exit)) r ⌝ }
@@ -399,4 +408,16 @@ pub fn answer_find(table: &[u8], shown: &[u16], marks: &[u8], area: &mut [u8]) -
         return need;
     }
     put_found(area, table, shown, marks)
+}
+
+// Writes what the program prints for a refusal.
+pub fn answer_refused(number: u8, area: &mut [u8]) -> usize
+    ensures { λ r. ⌜ (Answered (refusedText number) (now (area .entry)) (now (area .exit)) r) × (r < 32) ⌝ }
+{
+    let mut scratch = [0u8; 1];
+    let need = put_refused(&mut scratch, number);
+    if area.len() < need {
+        return need;
+    }
+    put_refused(area, number)
 }
