@@ -3,3 +3,4 @@ pub mod AnswerChoice
 pub mod AnswerTree
 pub mod AnswerArea
 pub mod AnswerParts
+pub mod Line
