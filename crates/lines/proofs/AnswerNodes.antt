@@ -1,19 +1,19 @@
 -- The parts of an answer, node by node. Assumes nothing.
-use Prim.Native.Nat.{ℕ, zero, suc, _+_, _-_, _*_, _≤_, _<_}
+use Prim.Native.Nat.{ℕ, zero, suc, _+_, _≤_, _<_}
 use mathlib.Core.Path.{_≡_, refl, sym, ap, _∙_}
 use mathlib.Core.Bool.{Bool, true, false, cond}
-use mathlib.Core.List.{List, [], _∷_, _++_, append-assoc, append-nil, map}
+use mathlib.Core.List.{List, [], _∷_, _++_, append-assoc}
 use native.Mathlib.Omega.{arith}
-use native.Mathlib.Nat.{zero-add, not-suc-le-zero, le-of-suc-le-suc}
+use native.Mathlib.Nat.{zero-add, not-suc-le-zero}
 use native.Mathlib.Numerals.{add-one}
 use lib.Dec.{eqb}
-use lib.ListN.{length, getD, take, drop, replicate, length-map, drop-of-length-le}
+use lib.ListN.{length, getD, take, drop, replicate, drop-of-length-le}
 use lib.Seq.{drop-cons}
-use borrow.Author.Tests.{lt-ltb, le-ltb, eq-eqb, ne-eqb}
+use borrow.Author.Tests.{eq-eqb, ne-eqb}
 use Rattle.rights.specs.Nodes.{Node, node, levelOf, labelOf, levelAt, labelAt}
 use Rattle.lines.specs.AnswerChoice.{chosen, chosen-lawful, findText}
 use Rattle.lines.specs.AnswerChoice.First.{chosen-first}
-use Rattle.lines.specs.Answer.{noneLine, hitLine, hitsOf, hitLines, childLines, viewText, nextLevel, opening, closing, rootLine, endLine}
+use Rattle.lines.specs.Answer.{noneLine, hitLine, hitsOf, hitLines, childLines, viewText, nextLevel, opening, rootLine, endLine}
 use Rattle.lines.specs.AnswerParts.{nodeAt, hitLineAt, nodeText, setMark, markedCount}
 
 -- Hits

@@ -7,9 +7,9 @@ use native.Mathlib.Omega.{arith}
 use native.Mathlib.Nat.{zero-add, suc-add}
 use lib.Dec.{eqb}
 use lib.ListN.{length, replicate, length-replicate}
-use borrow.Author.Tests.{eq-eqb, ne-eqb}
-use Rattle.rights.specs.Nodes.{Node, node, levelOf, labelOf, levelAt, Nested}
-use Rattle.lines.specs.Answer.{closed, opening, closing, nextLevel, childLines, viewText, rootLine, endLine}
+use borrow.Author.Tests.{ne-eqb}
+use Rattle.rights.specs.Nodes.{Node, node, levelAt, Nested}
+use Rattle.lines.specs.Answer.{opening, closing, nextLevel, childLines, viewText}
 use Rattle.lines.specs.AnswerTree.{Tree, tree, Trees, none, more, writeTree, writeTrees, nodesOf, nodesIn, linesOf, treeText}
 
 -- what stands before a tree of level l

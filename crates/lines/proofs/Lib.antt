@@ -2,3 +2,4 @@ pub mod AnswerLaws
 pub mod AnswerNodes
 pub mod NodeLaws
 pub mod AnswerTreeLaws
+pub mod AnswerNumbers

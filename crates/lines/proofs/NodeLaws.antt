@@ -6,7 +6,7 @@ use native.Mathlib.Omega.{arith}
 use lib.ListN.{length, getD, take, drop, length-map}
 use borrow.Author.Tests.{le-leb, lt-leb}
 use Rattle.rights.specs.Labels.{restricted}
-use Rattle.rights.specs.Nodes.{Node, node, levelAt, labelAt, recordPlace, seen, viewOf, Fits}
+use Rattle.rights.specs.Nodes.{node, levelAt, labelAt, recordPlace, seen, viewOf, Fits}
 use Rattle.rights.specs.Table.{recAt, label}
 use Rattle.rights.proofs.Texts.{first-at, text-eq}
 

@@ -5,31 +5,22 @@ use mathlib.Core.Path.{refl}
 use borrow.Author.Needs.{needs}
 use Rattle.lines.proofs.answer.answer_done.Statement.{statement}
 use Rattle.lines.proofs.answer.answer_done.Tie as tie
-use Rattle.lines.proofs.answer.answer_done.Reads as reads
-use Rattle.lines.proofs.answer.answer_done.Lts as lts
-use Rattle.lines.proofs.answer.put_done.Reads as put-done-reads
 
--- src/answer.rt:362:25
 slice-aggregate-put-done : tie.Need-slice-aggregate-put-done
 slice-aggregate-put-done c = search needs
 
--- src/answer.rt:362:9
 put-done-requires : tie.Need-put-done-requires
 put-done-requires c κs = search needs
 
--- src/answer.rt:364:9
 returns : tie.Need-returns
 returns c = answered-not (doneText (c .before .before .before .before .before .args .s) (c .before .before .before .before .before .args .d)) (c .before .before .before .before .before .args .area .now) _ (omega (arith, c .before .before .put-done .ensures .next)) (c .if1 .taken)
 
--- src/answer.rt:366:5
 put-done-requires-2 : tie.Need-put-done-requires-2
 put-done-requires-2 c κs = search needs
 
--- src/answer.rt:358:1
 same-length : tie.Need-same-length
 same-length c = search needs
 
--- src/answer.rt:358:1
 returns-2 : tie.Need-returns-2
 returns-2 c =
     let p = c .before .before .before .before .before .before .put-done .ensures in

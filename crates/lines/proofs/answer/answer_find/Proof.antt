@@ -6,33 +6,24 @@ use mathlib.Core.Path.{refl}
 use borrow.Author.Needs.{needs}
 use Rattle.lines.proofs.answer.answer_find.Statement.{statement}
 use Rattle.lines.proofs.answer.answer_find.Tie as tie
-use Rattle.lines.proofs.answer.answer_find.Reads as reads
-use Rattle.lines.proofs.answer.answer_find.Lts as lts
-use Rattle.lines.proofs.answer.put_found.Reads as put-found-reads
 
--- src/answer.rt:397:26
 slice-aggregate-put-found : tie.Need-slice-aggregate-put-found
 slice-aggregate-put-found c = search needs
 
--- src/answer.rt:397:9
 put-found-requires : tie.Need-put-found-requires
 put-found-requires c κs = search needs
 
--- src/answer.rt:399:9
 returns : tie.Need-returns
 returns c =
     let a = c .before .before .before .before .before .before .before .before .args in
     answered-not (findText (chosen (a .marks .now) (viewOf (a .table .now) (a .shown .now)))) (a .area .now) _ (omega (arith, c .before .before .put-found .ensures .next)) (c .if1 .taken)
 
--- src/answer.rt:401:5
 put-found-requires-2 : tie.Need-put-found-requires-2
 put-found-requires-2 c κs = search needs
 
--- src/answer.rt:392:1
 same-length : tie.Need-same-length
 same-length c = search needs
 
--- src/answer.rt:392:1
 returns-2 : tie.Need-returns-2
 returns-2 c =
     let a = c .before .before .before .before .before .before .before .before .before .before .before .before .args in

@@ -5,39 +5,28 @@ use mathlib.Core.Path.{refl}
 use borrow.Author.Needs.{needs}
 use Rattle.lines.proofs.answer.answer_ok.Statement.{statement}
 use Rattle.lines.proofs.answer.answer_ok.Tie as tie
-use Rattle.lines.proofs.answer.answer_ok.Reads as reads
-use Rattle.lines.proofs.answer.answer_ok.Lts as lts
-use Rattle.lines.proofs.answer.put_bytes.Reads as put-bytes-reads
 
--- src/answer.rt:350:26
 slice-aggregate-put-bytes : tie.Need-slice-aggregate-put-bytes
 slice-aggregate-put-bytes c = search needs
 
--- src/answer.rt:350:43
 slice-aggregate-put-bytes-2 : tie.Need-slice-aggregate-put-bytes-2
 slice-aggregate-put-bytes-2 c = search needs
 
--- src/answer.rt:350:9
 put-bytes-requires : tie.Need-put-bytes-requires
 put-bytes-requires c κs = search needs
 
--- src/answer.rt:352:9
 returns : tie.Need-returns
 returns c = answered-not okText (c .before .before .before .before .before .before .args .area .now) _ (omega (arith, c .before .before .put-bytes .ensures .next)) (c .if1 .taken)
 
--- src/answer.rt:354:24
 slice-aggregate-put-bytes-3 : tie.Need-slice-aggregate-put-bytes-3
 slice-aggregate-put-bytes-3 c = search needs
 
--- src/answer.rt:354:5
 put-bytes-requires-2 : tie.Need-put-bytes-requires-2
 put-bytes-requires-2 c κs = search needs
 
--- src/answer.rt:346:1
 same-length : tie.Need-same-length
 same-length c = search needs
 
--- src/answer.rt:346:1
 returns-2 : tie.Need-returns-2
 returns-2 c =
     let p = c .before .before .before .before .before .before .before .put-bytes .ensures in

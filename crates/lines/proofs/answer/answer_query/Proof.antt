@@ -6,33 +6,24 @@ use mathlib.Core.Path.{refl}
 use borrow.Author.Needs.{needs}
 use Rattle.lines.proofs.answer.answer_query.Statement.{statement}
 use Rattle.lines.proofs.answer.answer_query.Tie as tie
-use Rattle.lines.proofs.answer.answer_query.Reads as reads
-use Rattle.lines.proofs.answer.answer_query.Lts as lts
-use Rattle.lines.proofs.answer.put_query.Reads as put-query-reads
 
--- src/answer.rt:384:26
 slice-aggregate-put-query : tie.Need-slice-aggregate-put-query
 slice-aggregate-put-query c = search needs
 
--- src/answer.rt:384:9
 put-query-requires : tie.Need-put-query-requires
 put-query-requires c κs = search needs
 
--- src/answer.rt:386:9
 returns : tie.Need-returns
 returns c =
     let a = c .before .before .before .before .before .before .before .before .args in
     answered-not (queryText (hitsOf (a .marks .now) (viewOf (a .table .now) (a .shown .now)))) (a .area .now) _ (omega (arith, c .before .before .put-query .ensures .next)) (c .if1 .taken)
 
--- src/answer.rt:388:5
 put-query-requires-2 : tie.Need-put-query-requires-2
 put-query-requires-2 c κs = search needs
 
--- src/answer.rt:379:1
 same-length : tie.Need-same-length
 same-length c = search needs
 
--- src/answer.rt:379:1
 returns-2 : tie.Need-returns-2
 returns-2 c =
     let a = c .before .before .before .before .before .before .before .before .before .before .before .before .args in

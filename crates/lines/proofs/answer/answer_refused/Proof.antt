@@ -5,33 +5,24 @@ use mathlib.Core.Path.{refl}
 use borrow.Author.Needs.{needs}
 use Rattle.lines.proofs.answer.answer_refused.Statement.{statement}
 use Rattle.lines.proofs.answer.answer_refused.Tie as tie
-use Rattle.lines.proofs.answer.answer_refused.Reads as reads
-use Rattle.lines.proofs.answer.answer_refused.Lts as lts
-use Rattle.lines.proofs.answer.put_refused.Reads as put-refused-reads
 
--- src/answer.rt:418:28
 slice-aggregate-put-refused : tie.Need-slice-aggregate-put-refused
 slice-aggregate-put-refused c = search needs
 
--- src/answer.rt:418:9
 put-refused-requires : tie.Need-put-refused-requires
 put-refused-requires c κs = search needs
 
--- src/answer.rt:420:9
 returns : tie.Need-returns
 returns c =
     let p = c .before .before .put-refused .ensures in
     (answered-not (refusedText (c .before .before .before .before .before .args .number)) (c .before .before .before .before .before .args .area .now) _ (omega (arith, p .0 .next)) (c .if1 .taken), p .1)
 
--- src/answer.rt:422:5
 put-refused-requires-2 : tie.Need-put-refused-requires-2
 put-refused-requires-2 c κs = search needs
 
--- src/answer.rt:414:1
 same-length : tie.Need-same-length
 same-length c = search needs
 
--- src/answer.rt:414:1
 returns-2 : tie.Need-returns-2
 returns-2 c =
     let p = c .before .before .before .before .before .before .put-refused .ensures in

@@ -6,33 +6,24 @@ use mathlib.Core.Path.{refl}
 use borrow.Author.Needs.{needs}
 use Rattle.lines.proofs.answer.answer_view.Statement.{statement}
 use Rattle.lines.proofs.answer.answer_view.Tie as tie
-use Rattle.lines.proofs.answer.answer_view.Reads as reads
-use Rattle.lines.proofs.answer.answer_view.Lts as lts
-use Rattle.lines.proofs.answer.put_view.Reads as put-view-reads
 
--- src/answer.rt:371:25
 slice-aggregate-put-view : tie.Need-slice-aggregate-put-view
 slice-aggregate-put-view c = search needs
 
--- src/answer.rt:371:9
 put-view-requires : tie.Need-put-view-requires
 put-view-requires c κs = search needs
 
--- src/answer.rt:373:9
 returns : tie.Need-returns
 returns c =
     let a = c .before .before .before .before .before .before .before .args in
     answered-not (viewText (viewOf (a .table .now) (a .shown .now))) (a .area .now) _ (omega (arith, c .before .before .put-view .ensures .next)) (c .if1 .taken)
 
--- src/answer.rt:375:5
 put-view-requires-2 : tie.Need-put-view-requires-2
 put-view-requires-2 c κs = search needs
 
--- src/answer.rt:366:1
 same-length : tie.Need-same-length
 same-length c = search needs
 
--- src/answer.rt:366:1
 returns-2 : tie.Need-returns-2
 returns-2 c =
     let a = c .before .before .before .before .before .before .before .before .before .before .before .args in

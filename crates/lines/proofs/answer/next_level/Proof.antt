@@ -7,26 +7,19 @@ use mathlib.Core.Path.{sym, _∙_}
 use borrow.Author.Needs.{needs}
 use Rattle.lines.proofs.answer.next_level.Statement.{statement}
 use Rattle.lines.proofs.answer.next_level.Tie as tie
-use Rattle.lines.proofs.answer.next_level.Reads as reads
-use Rattle.lines.proofs.answer.next_level.Lts as lts
-use Rattle.lines.proofs.answer.level_at.Reads as level-at-reads
 
--- src/answer.rt:278:13
 add-j : tie.Need-add-j
 add-j c = search needs
 
--- src/answer.rt:280:9
 level-at-requires : tie.Need-level-at-requires
 level-at-requires c κs = search needs
 
--- src/answer.rt:280:9
 returns : tie.Need-returns
 returns c =
     let a = c .before .before .before .before .args in
     let n = view-length (a .table .now) (a .shown .now) in
     c .level-at .ensures .0 ∙ sym (next-some (viewOf (a .table .now) (a .shown .now)) (a .i + 1) (omega arith))
 
--- src/answer.rt:274:1
 returns-2 : tie.Need-returns-2
 returns-2 c =
     let a = c .before .before .before .args in

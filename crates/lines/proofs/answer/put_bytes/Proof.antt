@@ -4,8 +4,6 @@ use native.Mathlib.Omega.{arith}
 use borrow.Author.Needs.{needs}
 use Rattle.lines.proofs.answer.put_bytes.Statement.{statement}
 use Rattle.lines.proofs.answer.put_bytes.Tie as tie
-use Rattle.lines.proofs.answer.put_bytes.Lts as lts
-use Rattle.lines.proofs.answer.copy.Reads as copy-reads
 
 add-r : tie.Need-add-r
 add-r c = search needs

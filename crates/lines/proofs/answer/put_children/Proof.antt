@@ -10,9 +10,6 @@ use Prim.Native.Nat.{_≤_, _-_, _*_, _+_}
 use borrow.Author.Needs.{needs}
 use Rattle.lines.proofs.answer.put_children.Statement.{statement}
 use Rattle.lines.proofs.answer.put_children.Tie as tie
-use Rattle.lines.proofs.answer.put_children.Reads as reads
-use Rattle.lines.proofs.answer.put_children.Lts as lts
-use Rattle.lines.proofs.answer.put_node.Reads as put-node-reads
 
 abbrev Inv-loop : tie.InvT-loop
 Inv-loop area₀ at table shown next₀ i₀ area next i = (i ≤ length shown) × (next ≤ at + 64 * i) × (length area ≡ length area₀) × (Toward (childLines (drop 1 (viewOf table shown))) (childLines (drop i (viewOf table shown))) at area₀ area next)
@@ -20,25 +17,20 @@ Inv-loop area₀ at table shown next₀ i₀ area next i = (i ≤ length shown) 
 abbrev μ-loop : tie.MeasureT-loop
 μ-loop area₀ at table shown next₀ i₀ area next i = length shown - i
 
--- src/answer.rt:300:5
 loop-holds : tie.Need-loop-holds Inv-loop μ-loop
 loop-holds c =
     let a = c .before .before .before .args in
     (search needs, search needs, refl, toward-start (childLines (drop 1 (viewOf (a .table .now) (a .shown .now)))) (a .at) (a .area .now))
 
--- src/answer.rt:301:9
 put-node-requires : tie.Need-put-node-requires Inv-loop μ-loop
 put-node-requires c κs = search needs
 
--- src/answer.rt:302:9
 add-i : tie.Need-add-i Inv-loop μ-loop
 add-i c = search needs
 
--- src/answer.rt:300:5
 loop-less : tie.Need-loop-less Inv-loop μ-loop
 loop-less c = search needs
 
--- src/answer.rt:300:5
 loop-again : tie.Need-loop-again Inv-loop μ-loop
 loop-again c =
     let a = c .before .before .before .before .before .before .before .before .before .args in
@@ -46,11 +38,9 @@ loop-again c =
     let n = view-length (a .table .now) (a .shown .now) in
     (search needs, search needs, search needs, toward-more (l .inv .3) (c .before .before .put-node .ensures .0) (children-step (viewOf (a .table .now) (a .shown .now)) (l .i) (omega arith)))
 
--- src/answer.rt:294:1
 same-length : tie.Need-same-length Inv-loop μ-loop
 same-length c = search needs
 
--- src/answer.rt:294:1
 returns : tie.Need-returns Inv-loop μ-loop
 returns c =
     let a = c .before .before .before .before .before .args in

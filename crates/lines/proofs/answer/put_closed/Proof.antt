@@ -8,9 +8,6 @@ use Prim.Native.Nat.{_≤_, _-_, _+_}
 use borrow.Author.Needs.{needs}
 use Rattle.lines.proofs.answer.put_closed.Statement.{statement}
 use Rattle.lines.proofs.answer.put_closed.Tie as tie
-use Rattle.lines.proofs.answer.put_closed.Reads as reads
-use Rattle.lines.proofs.answer.put_closed.Lts as lts
-use Rattle.lines.proofs.answer.put_byte.Reads as put-byte-reads
 
 abbrev Inv-loop : tie.InvT-loop
 Inv-loop area₀ at k next₀ i₀ area next i = (i ≤ k) × (next ≡ at + i) × (length area ≡ length area₀) × (Puts (replicate i 41) at area₀ area next)
@@ -18,33 +15,26 @@ Inv-loop area₀ at k next₀ i₀ area next i = (i ≤ k) × (next ≡ at + i) 
 abbrev μ-loop : tie.MeasureT-loop
 μ-loop area₀ at k next₀ i₀ area next i = k - i
 
--- src/answer.rt:253:5
 loop-holds : tie.Need-loop-holds Inv-loop μ-loop
 loop-holds c = (search needs, search needs, refl, puts-none (c .before .args .at) (c .before .args .area .now))
 
--- src/answer.rt:254:9
 put-byte-requires : tie.Need-put-byte-requires Inv-loop μ-loop
 put-byte-requires c κs = search needs
 
--- src/answer.rt:255:9
 add-i : tie.Need-add-i Inv-loop μ-loop
 add-i c = search needs
 
--- src/answer.rt:253:5
 loop-less : tie.Need-loop-less Inv-loop μ-loop
 loop-less c = search needs
 
--- src/answer.rt:253:5
 loop-again : tie.Need-loop-again Inv-loop μ-loop
 loop-again c =
     let l = c .before .before .before .before .before .loop in
     (search needs, omega (arith, c .before .before .put-byte .ensures .next), search needs, rw (closed-more (l .i)) (puts-more (l .inv .3) (c .before .before .put-byte .ensures)))
 
--- src/answer.rt:247:1
 same-length : tie.Need-same-length Inv-loop μ-loop
 same-length c = search needs
 
--- src/answer.rt:247:1
 returns : tie.Need-returns Inv-loop μ-loop
 returns c =
     let e : c .before .loop .i ≡ c .before .before .before .args .k = omega arith in

@@ -5,43 +5,30 @@ use mathlib.Core.List.{append-nil}
 use borrow.Author.Needs.{needs}
 use Rattle.lines.proofs.answer.put_closing.Statement.{statement}
 use Rattle.lines.proofs.answer.put_closing.Tie as tie
-use Rattle.lines.proofs.answer.put_closing.Reads as reads
-use Rattle.lines.proofs.answer.put_closing.Lts as lts
-use Rattle.lines.proofs.answer.above.Reads as above-reads
-use Rattle.lines.proofs.answer.put_bytes.Reads as put-bytes-reads
-use Rattle.lines.proofs.answer.put_closed.Reads as put-closed-reads
 
--- src/answer.rt:261:9
 above-requires : tie.Need-above-requires
 above-requires c κs = search needs
 
--- src/answer.rt:262:9
 put-closed-requires : tie.Need-put-closed-requires
 put-closed-requires c κs = search needs
 
--- src/answer.rt:264:35
 slice-aggregate-put-bytes : tie.Need-slice-aggregate-put-bytes
 slice-aggregate-put-bytes c = search needs
 
--- src/answer.rt:264:9
 put-bytes-requires : tie.Need-put-bytes-requires
 put-bytes-requires c κs = omega (arith, c .before .before .before .before .before .before .before .above .ensures, c .before .before .before .before .before .put-closed .ensures .1)
 
--- src/answer.rt:264:9
 same-length : tie.Need-same-length
 same-length c = search needs
 
--- src/answer.rt:264:9
 returns : tie.Need-returns
 returns c =
     let p = c .before .before .before .before .before .before .before .before .put-closed .ensures in
     (rw (eq-eqb (c .before .before .before .before .before .before .before .before .before .before .before .before .args .m) 1 (c .before .before .before .before .before .if1 .taken), ← (c .before .before .before .before .before .before .before .before .before .before .above .ensures)) (puts-more (p .0) (c .before .before .put-bytes .ensures)), omega (arith, c .before .before .before .before .before .before .before .before .before .before .above .ensures, p .1, c .before .before .put-bytes .ensures .next))
 
--- src/answer.rt:257:1
 same-length-2 : tie.Need-same-length-2
 same-length-2 c = search needs
 
--- src/answer.rt:257:1
 returns-2 : tie.Need-returns-2
 returns-2 c =
     let p = c .before .before .before .put-closed .ensures in

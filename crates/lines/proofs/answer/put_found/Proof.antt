@@ -9,10 +9,6 @@ use Prim.Native.Nat.{_≤_, _-_}
 use borrow.Author.Needs.{needs}
 use Rattle.lines.proofs.answer.put_found.Statement.{statement}
 use Rattle.lines.proofs.answer.put_found.Tie as tie
-use Rattle.lines.proofs.answer.put_found.Reads as reads
-use Rattle.lines.proofs.answer.put_found.Lts as lts
-use Rattle.lines.proofs.answer.put_bytes.Reads as put-bytes-reads
-use Rattle.lines.proofs.answer.put_hit.Reads as put-hit-reads
 
 abbrev Inv-loop : tie.InvT-loop
 Inv-loop area₀ table shown marks i₀ t6 area i = (i ≤ length shown) × (area ≡ area₀) × (hitsOf (drop i marks) (drop i (viewOf table shown)) ≡ hitsOf marks (viewOf table shown))
@@ -20,23 +16,18 @@ Inv-loop area₀ table shown marks i₀ t6 area i = (i ≤ length shown) × (are
 abbrev μ-loop : tie.MeasureT-loop
 μ-loop area₀ table shown marks i₀ t6 area i = length shown - i
 
--- src/answer.rt:216:5
 loop-holds : tie.Need-loop-holds Inv-loop μ-loop
 loop-holds c = (search needs, refl, refl)
 
--- src/answer.rt:217:12
 shared-slice-read-if1 : tie.Need-shared-slice-read-if1 Inv-loop μ-loop
 shared-slice-read-if1 c = search needs
 
--- src/answer.rt:218:13
 put-hit-requires : tie.Need-put-hit-requires Inv-loop μ-loop
 put-hit-requires c κs = search needs
 
--- src/answer.rt:218:13
 same-length : tie.Need-same-length Inv-loop μ-loop
 same-length c = search needs
 
--- src/answer.rt:218:13
 returns : tie.Need-returns Inv-loop μ-loop
 returns c =
     let a = c .before .before .before .before .before .before .before .before .before .before .before .before .args in
@@ -44,15 +35,12 @@ returns c =
     let n = view-length (a .table .now) (a .shown .now) in
     rw (found-hit (a .marks .now) (viewOf (a .table .now) (a .shown .now)) (l .i) (l .inv .2) (omega arith) (omega arith) (c .before .before .before .before .if1 .taken), ← (l .inv .1)) (c .before .before .put-hit .ensures .0)
 
--- src/answer.rt:220:9
 add-i : tie.Need-add-i Inv-loop μ-loop
 add-i c = search needs
 
--- src/answer.rt:216:5
 loop-less : tie.Need-loop-less Inv-loop μ-loop
 loop-less c = search needs
 
--- src/answer.rt:216:5
 loop-again : tie.Need-loop-again Inv-loop μ-loop
 loop-again c =
     let a = c .before .before .before .before .before .before .before .before .args in
@@ -60,19 +48,15 @@ loop-again c =
     let n = view-length (a .table .now) (a .shown .now) in
     (search needs, l .inv .1, sym (hits-pass (a .marks .now) (viewOf (a .table .now) (a .shown .now)) (l .i) (omega arith) (omega arith) (c .if1 .left)) ∙ l .inv .2)
 
--- src/answer.rt:222:24
 slice-aggregate-put-bytes : tie.Need-slice-aggregate-put-bytes Inv-loop μ-loop
 slice-aggregate-put-bytes c = search needs
 
--- src/answer.rt:222:5
 put-bytes-requires : tie.Need-put-bytes-requires Inv-loop μ-loop
 put-bytes-requires c κs = search needs
 
--- src/answer.rt:211:1
 same-length-2 : tie.Need-same-length-2 Inv-loop μ-loop
 same-length-2 c = search needs
 
--- src/answer.rt:211:1
 returns-2 : tie.Need-returns-2 Inv-loop μ-loop
 returns-2 c =
     let a = c .before .before .before .before .before .before .before .before .before .before .before .args in

@@ -10,9 +10,6 @@ use Prim.Native.Nat.{_≤_, _-_, _*_}
 use borrow.Author.Needs.{needs}
 use Rattle.lines.proofs.answer.put_hits.Statement.{statement}
 use Rattle.lines.proofs.answer.put_hits.Tie as tie
-use Rattle.lines.proofs.answer.put_hits.Reads as reads
-use Rattle.lines.proofs.answer.put_hits.Lts as lts
-use Rattle.lines.proofs.answer.put_marked.Reads as put-marked-reads
 
 abbrev Inv-loop : tie.InvT-loop
 Inv-loop area₀ table shown marks at₀ i₀ area at i = (i ≤ length shown) × (at ≤ 64 * i) × (length area ≡ length area₀) × (Toward (hitLines (hitsOf marks (viewOf table shown))) (hitLines (hitsOf (drop i marks) (drop i (viewOf table shown)))) 0 area₀ area at)
@@ -20,25 +17,20 @@ Inv-loop area₀ table shown marks at₀ i₀ area at i = (i ≤ length shown) �
 abbrev μ-loop : tie.MeasureT-loop
 μ-loop area₀ table shown marks at₀ i₀ area at i = length shown - i
 
--- src/answer.rt:159:5
 loop-holds : tie.Need-loop-holds Inv-loop μ-loop
 loop-holds c =
     let a = c .before .before .before .before .args in
     (search needs, search needs, refl, toward-start (hitLines (hitsOf (a .marks .now) (viewOf (a .table .now) (a .shown .now)))) 0 (a .area .now))
 
--- src/answer.rt:160:9
 put-marked-requires : tie.Need-put-marked-requires Inv-loop μ-loop
 put-marked-requires c κs = search needs
 
--- src/answer.rt:161:9
 add-i : tie.Need-add-i Inv-loop μ-loop
 add-i c = search needs
 
--- src/answer.rt:159:5
 loop-less : tie.Need-loop-less Inv-loop μ-loop
 loop-less c = search needs
 
--- src/answer.rt:159:5
 loop-again : tie.Need-loop-again Inv-loop μ-loop
 loop-again c =
     let a = c .before .before .before .before .before .before .before .before .before .before .args in
@@ -46,11 +38,9 @@ loop-again c =
     let n = view-length (a .table .now) (a .shown .now) in
     (search needs, search needs, search needs, toward-more (l .inv .3) (c .before .before .put-marked .ensures .0) (hits-step (a .marks .now) (viewOf (a .table .now) (a .shown .now)) (l .i) (omega arith) (omega arith)))
 
--- src/answer.rt:153:1
 same-length : tie.Need-same-length Inv-loop μ-loop
 same-length c = search needs
 
--- src/answer.rt:153:1
 returns : tie.Need-returns Inv-loop μ-loop
 returns c =
     let a = c .before .before .before .before .before .before .args in

@@ -3,98 +3,75 @@ use Rattle.lines.proofs.NodeLaws.{label-hidden, label-read, label-short
 use Rattle.lines.proofs.AnswerLaws.{take-short}
 use Rattle.rights.proofs.Lists.{part-of}
 use native.Mathlib.Omega.{arith}
-use lib.ListN.{take, drop, getD}
-use mathlib.Core.Path.{_≡_, _∙_}
+use lib.ListN.{drop, getD}
+use mathlib.Core.Path.{_∙_}
 use Prim.Native.Nat.{_+_, _-_}
 use borrow.Author.Needs.{needs}
 use Rattle.lines.proofs.answer.put_label.Statement.{statement}
 use Rattle.lines.proofs.answer.put_label.Tie as tie
-use Rattle.lines.proofs.answer.put_label.Reads as reads
-use Rattle.lines.proofs.answer.put_label.Lts as lts
-use Rattle.lines.proofs.answer.put_bytes.Reads as put-bytes-reads
-use Rattle.lines.proofs.answer.record_place.Reads as record-place-reads
-use Rattle.lines.proofs.answer.wide_number.Reads as wide-number-reads
-use Rattle.rights.proofs.bytes.wide.Reads as wide-reads
 
--- src/answer.rt:107:13
 mul-x : tie.Need-mul-x
 mul-x c = search needs
 
--- src/answer.rt:107:13
 shared-slice-read-x : tie.Need-shared-slice-read-x
 shared-slice-read-x c = search needs
 
--- src/answer.rt:108:23
 wide-number-requires : tie.Need-wide-number-requires
 wide-number-requires c κs = search needs
 
--- src/answer.rt:109:36
 slice-aggregate-put-bytes : tie.Need-slice-aggregate-put-bytes
 slice-aggregate-put-bytes c = search needs
 
--- src/answer.rt:109:9
 put-bytes-requires : tie.Need-put-bytes-requires
 put-bytes-requires c κs = search needs
 
--- src/answer.rt:109:9
 same-length : tie.Need-same-length
 same-length c = search needs
 
--- src/answer.rt:109:9
 returns : tie.Need-returns
 returns c =
     let a = c .before .before .before .before .before .before .before .before .before .before .before .args in
     (rw (label-hidden (a .table .now) (a .shown .now) (a .i) (omega arith) (omega arith)) (c .before .before .put-bytes .ensures), omega (arith, c .before .before .put-bytes .ensures .next))
 
--- src/answer.rt:111:9
 record-place-requires : tie.Need-record-place-requires
 record-place-requires c κs = search needs
 
--- src/answer.rt:112:16
 add-from : tie.Need-add-from
 add-from c =
     let w = c .before .before .before .before .before .before .before .pre .0 .stands (c .before .before .before .before .before .before .before .args .i) (omega arith) in
     omega (arith, w .room, c .record-place .ensures)
 
--- src/answer.rt:113:33
 add-wide : tie.Need-add-wide
 add-wide c =
     let w = c .before .before .before .before .before .before .before .pre .0 .stands (c .before .before .before .before .before .before .before .args .i) (omega arith) in
     omega (arith, w .room, c .record-place .ensures)
 
--- src/answer.rt:113:27
 shared-slice-read-wide : tie.Need-shared-slice-read-wide
 shared-slice-read-wide c =
     let w = c .before .before .before .before .before .before .before .before .pre .0 .stands (c .before .before .before .before .before .before .before .before .args .i) (omega arith) in
     omega (arith, w .room, c .before .record-place .ensures)
 
--- src/answer.rt:113:22
 wide-requires : tie.Need-wide-requires
 wide-requires c κs = search needs
 
--- src/answer.rt:113:15
 add-end : tie.Need-add-end
 add-end c =
     let w = c .before .before .before .before .before .before .before .before .before .pre .0 .stands (c .before .before .before .before .before .before .before .before .before .args .i) (omega arith) in
     let s = label-short (c .before .before .before .before .before .before .before .before .before .args .table .now) (recordPlace (getD (c .before .before .before .before .before .before .before .before .before .args .shown .now) (c .before .before .before .before .before .before .before .before .before .args .i) 0)) (w .short) (c .before .before .record-place .ensures) (c .wide .ensures) in
     omega (arith, w .room, c .before .before .record-place .ensures)
 
--- src/answer.rt:114:25
 sub-put-bytes : tie.Need-sub-put-bytes
 sub-put-bytes c = search needs
 
--- src/answer.rt:114:25
 part-put-bytes-start : tie.Need-part-put-bytes-start
 part-put-bytes-start c = search needs
 
--- src/answer.rt:114:25
 part-put-bytes-end : tie.Need-part-put-bytes-end
 part-put-bytes-end c =
     let w = c .before .before .before .before .before .before .before .before .before .before .pre .0 .stands (c .before .before .before .before .before .before .before .before .before .before .args .i) (omega arith) in
     let s = label-short (c .before .before .before .before .before .before .before .before .before .before .args .table .now) (recordPlace (getD (c .before .before .before .before .before .before .before .before .before .before .args .shown .now) (c .before .before .before .before .before .before .before .before .before .before .args .i) 0)) (w .short) (c .before .before .before .record-place .ensures) (c .before .wide .ensures) in
     omega (arith, w .room, c .before .before .before .record-place .ensures)
 
--- src/answer.rt:114:5
 put-bytes-requires-2 : tie.Need-put-bytes-requires-2
 put-bytes-requires-2 c κs =
     let w = c .before .before .before .before .before .before .before .before .before .before .before .pre .0 .stands (c .before .before .before .before .before .before .before .before .before .before .before .args .i) (omega arith) in
@@ -103,11 +80,9 @@ put-bytes-requires-2 c κs =
     let n = c .before .before .wide .result in
     omega (arith, take-short (f + n - f) (drop f (c .before .before .before .before .before .before .before .before .before .before .before .args .table .now)))
 
--- src/answer.rt:103:1
 same-length-2 : tie.Need-same-length-2
 same-length-2 c = search needs
 
--- src/answer.rt:103:1
 returns-2 : tie.Need-returns-2
 returns-2 c =
     let a = c .before .before .before .before .before .before .before .before .before .before .before .before .before .before .args in

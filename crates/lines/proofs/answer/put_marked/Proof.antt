@@ -5,29 +5,21 @@ use native.Mathlib.Omega.{arith}
 use borrow.Author.Needs.{needs}
 use Rattle.lines.proofs.answer.put_marked.Statement.{statement}
 use Rattle.lines.proofs.answer.put_marked.Tie as tie
-use Rattle.lines.proofs.answer.put_marked.Reads as reads
-use Rattle.lines.proofs.answer.put_marked.Lts as lts
-use Rattle.lines.proofs.answer.put_hit.Reads as put-hit-reads
 
--- src/answer.rt:146:8
 shared-slice-read-if1 : tie.Need-shared-slice-read-if1
 shared-slice-read-if1 c = search needs
 
--- src/answer.rt:147:9
 returns : tie.Need-returns
 returns c =
     let a = c .before .before .before .before .before .before .args in
     (rw (hit-none (a .marks .now) (viewOf (a .table .now) (a .shown .now)) (a .i) (c .if1 .taken)) (puts-none (a .at) (a .area .now)), omega arith)
 
--- src/answer.rt:149:5
 put-hit-requires : tie.Need-put-hit-requires
 put-hit-requires c κs = search needs
 
--- src/answer.rt:135:1
 same-length : tie.Need-same-length
 same-length c = search needs
 
--- src/answer.rt:135:1
 returns-2 : tie.Need-returns-2
 returns-2 c =
     let a = c .before .before .before .before .before .before .before .before .before .before .args in

@@ -5,43 +5,28 @@ use native.Mathlib.Omega.{arith}
 use borrow.Author.Needs.{needs}
 use Rattle.lines.proofs.answer.put_node.Statement.{statement}
 use Rattle.lines.proofs.answer.put_node.Tie as tie
-use Rattle.lines.proofs.answer.put_node.Reads as reads
-use Rattle.lines.proofs.answer.put_node.Lts as lts
-use Rattle.lines.proofs.answer.level_at.Reads as level-at-reads
-use Rattle.lines.proofs.answer.next_level.Reads as next-level-reads
-use Rattle.lines.proofs.answer.put_closing.Reads as put-closing-reads
-use Rattle.lines.proofs.answer.put_label.Reads as put-label-reads
-use Rattle.lines.proofs.answer.put_opening.Reads as put-opening-reads
 
--- src/answer.rt:286:9
 level-at-requires : tie.Need-level-at-requires
 level-at-requires c κs = search needs
 
--- src/answer.rt:287:9
 next-level-requires : tie.Need-next-level-requires
 next-level-requires c κs = search needs
 
--- src/answer.rt:288:9
 put-opening-requires : tie.Need-put-opening-requires
 put-opening-requires c κs = search needs
 
--- src/answer.rt:289:9
 put-label-requires : tie.Need-put-label-requires
 put-label-requires c κs = search needs
 
--- src/answer.rt:290:26
 add-put-closing : tie.Need-add-put-closing
 add-put-closing c = search needs
 
--- src/answer.rt:290:5
 put-closing-requires : tie.Need-put-closing-requires
 put-closing-requires c κs = search needs
 
--- src/answer.rt:282:1
 same-length : tie.Need-same-length
 same-length c = search needs
 
--- src/answer.rt:282:1
 returns : tie.Need-returns
 unfolding levelAt labelAt nodeText
 returns c =

@@ -4,46 +4,33 @@ use Rattle.lines.proofs.AnswerLaws.{puts-more}
 use Rattle.rights.specs.Nodes.{viewOf}
 use native.Mathlib.Omega.{arith}
 use lib.ListN.{length}
-use mathlib.Core.Path.{_≡_, _∙_}
+use mathlib.Core.Path.{_∙_}
 use Prim.Native.Nat.{_-_}
 use borrow.Author.Needs.{needs}
 use Rattle.lines.proofs.answer.put_query.Statement.{statement}
 use Rattle.lines.proofs.answer.put_query.Tie as tie
-use Rattle.lines.proofs.answer.put_query.Reads as reads
-use Rattle.lines.proofs.answer.put_query.Lts as lts
-use Rattle.lines.proofs.answer.count_marked.Reads as count-marked-reads
-use Rattle.lines.proofs.answer.put_end.Reads as put-end-reads
-use Rattle.lines.proofs.answer.put_hits.Reads as put-hits-reads
 
--- src/answer.rt:201:26
 sub-count-marked : tie.Need-sub-count-marked
 sub-count-marked c = search needs
 
--- src/answer.rt:201:26
 part-count-marked-start : tie.Need-part-count-marked-start
 part-count-marked-start c = search needs
 
--- src/answer.rt:201:26
 part-count-marked-end : tie.Need-part-count-marked-end
 part-count-marked-end c = search needs
 
--- src/answer.rt:201:9
 count-marked-requires : tie.Need-count-marked-requires
 count-marked-requires c κs = search needs
 
--- src/answer.rt:202:9
 put-hits-requires : tie.Need-put-hits-requires
 put-hits-requires c κs = search needs
 
--- src/answer.rt:203:5
 put-end-requires : tie.Need-put-end-requires
 put-end-requires c κs = search needs
 
--- src/answer.rt:196:1
 same-length : tie.Need-same-length
 same-length c = search needs
 
--- src/answer.rt:196:1
 returns : tie.Need-returns
 returns c =
     let a = c .before .before .before .before .before .before .before .before .before .before .before .before .before .before .args in

@@ -4,48 +4,35 @@ use Rattle.lines.proofs.AnswerLaws.{puts-more}
 use Rattle.rights.specs.Nodes.{viewOf}
 use native.Mathlib.Omega.{arith}
 use lib.ListN.{length}
-use mathlib.Core.Path.{_≡_, sym, refl}
+use mathlib.Core.Path.{sym}
 use borrow.Author.Needs.{needs}
 use Rattle.lines.proofs.answer.put_view.Statement.{statement}
 use Rattle.lines.proofs.answer.put_view.Tie as tie
-use Rattle.lines.proofs.answer.put_view.Reads as reads
-use Rattle.lines.proofs.answer.put_view.Lts as lts
-use Rattle.lines.proofs.answer.put_children.Reads as put-children-reads
-use Rattle.lines.proofs.answer.put_end.Reads as put-end-reads
-use Rattle.lines.proofs.answer.put_root.Reads as put-root-reads
 
--- src/answer.rt:323:9
 put-end-requires : tie.Need-put-end-requires
 put-end-requires c κs = search needs
 
--- src/answer.rt:323:9
 same-length : tie.Need-same-length
 same-length c = search needs
 
--- src/answer.rt:323:9
 returns : tie.Need-returns
 returns c =
     let a = c .before .before .before .before .before .before .before .before .args in
     let n = view-length (a .table .now) (a .shown .now) in
     rw (view-none (viewOf (a .table .now) (a .shown .now)) (omega arith)) (c .before .before .put-end .ensures)
 
--- src/answer.rt:325:9
 put-root-requires : tie.Need-put-root-requires
 put-root-requires c κs = search needs
 
--- src/answer.rt:326:9
 put-children-requires : tie.Need-put-children-requires
 put-children-requires c κs = search needs
 
--- src/answer.rt:327:5
 put-end-requires-2 : tie.Need-put-end-requires-2
 put-end-requires-2 c κs = search needs
 
--- src/answer.rt:318:1
 same-length-2 : tie.Need-same-length-2
 same-length-2 c = search needs
 
--- src/answer.rt:318:1
 returns-2 : tie.Need-returns-2
 returns-2 c =
     let a = c .before .before .before .before .before .before .before .before .before .before .before .before .before .before .before .before .args in
