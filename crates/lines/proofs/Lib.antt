@@ -5,3 +5,8 @@ pub mod FormLaws
 pub mod TreeWritten
 pub mod FormWritten
 pub mod FormPlaces
+pub mod AnswerLaws
+pub mod AnswerNodes
+pub mod NodeLaws
+pub mod AnswerTreeLaws
+pub mod AnswerNumbers

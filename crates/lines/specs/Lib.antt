@@ -5,3 +5,9 @@ pub mod Tree
 pub mod Form
 pub mod TreeText
 pub mod FormText
+pub mod Answer
+pub mod AnswerChoice
+pub mod AnswerTree
+pub mod AnswerArea
+pub mod AnswerParts
+pub mod Line

@@ -5,3 +5,6 @@ pub mod part;
 pub mod text;
 pub mod tree;
 pub mod word;
+// Reading lines, the session, stages, refusals and answers (document 01).
+pub mod answer;
+pub mod line;

@@ -15,3 +15,4 @@ pub mod XPath
 pub mod Selection
 pub mod Record
 pub mod PolicyEdit
+pub mod Nodes
