@@ -22,3 +22,12 @@ pub mod Words
 pub mod Sounds
 pub mod PolicyWords
 pub mod RightsLaws
+pub mod PassLaws
+pub mod MatcherLaws
+pub mod WalkLaws
+pub mod XPathLists
+pub mod XPathAxes
+pub mod XPathLaws
+pub mod ViewNested
+pub mod StarredPaths
+pub mod NodeLaws

@@ -9,3 +9,6 @@ pub mod PathText
 pub mod Rights
 pub mod Automaton
 pub mod PolicyCheck
+pub mod Nodes
+pub mod XPath
+pub mod Selection

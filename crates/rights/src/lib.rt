@@ -2,8 +2,10 @@
 pub mod bytes;
 pub mod labels;
 pub mod limits;
+pub mod passes;
 pub mod path;
 pub mod policy;
 pub mod policy_check;
 pub mod rights;
+pub mod selection;
 pub mod table;

@@ -14,14 +14,12 @@ pub const LABEL_AT: usize = 2;
 pub const RECORDS_MAX: usize = 16384;
 // A policy's subjects start at byte 8.
 pub const SUBJECTS_AT: usize = 8;
-// At most 64 subjects, 128 isa lines, 128 rules; a path has at most 16 steps.
+// At most 64 subjects, 128 isa lines, 128 rules.
 pub const SUBJECTS_MAX: usize = 64;
 
 pub const ISA_MAX: usize = 128;
 
 pub const RULES_MAX: usize = 128;
-
-pub const STEPS_MAX: usize = 16;
 // Where a policy's isa lines and rules start, and how long they and a whole policy are; a rule's steps start at its byte 8.
 pub const ISA_AT: usize = 2056;
 
@@ -34,3 +32,9 @@ pub const RULE_BYTES: usize = 520;
 pub const STEPS_AT: usize = 8;
 
 pub const POLICY_BYTES: usize = 68872;
+// A path is 1 to 16 steps, a step has at most 2 brackets, and brackets nest at most 3 deep.
+pub const STEPS_MAX: usize = 16;
+
+pub const BRACKETS_MAX: usize = 2;
+
+pub const NESTING_MAX: usize = 3;
