@@ -16,3 +16,6 @@ pub mod Selection
 pub mod Record
 pub mod PolicyEdit
 pub mod Nodes
+pub mod Nodes
+pub mod XPath
+pub mod Selection

@@ -12,4 +12,5 @@ pub mod rights;
 pub mod record;
 pub mod selection;
 pub mod record;
+pub mod selection;
 pub mod table;

@@ -15,13 +15,12 @@ pub const RECORDS_MAX: usize = 16384;
 // A policy's subjects start at byte 8.
 pub const SUBJECTS_AT: usize = 8;
 // At most 64 subjects, 128 isa lines, 128 rules; a path has at most 16 steps.
+// At most 64 subjects, 128 isa lines, 128 rules.
 pub const SUBJECTS_MAX: usize = 64;
 
 pub const ISA_MAX: usize = 128;
 
 pub const RULES_MAX: usize = 128;
-
-pub const STEPS_MAX: usize = 16;
 // Where a policy's isa lines and rules start, and how long they and a whole policy are; a rule's steps start at its byte 8.
 pub const ISA_AT: usize = 2056;
 
@@ -48,3 +47,8 @@ pub const INSERT: u8 = 4;
 pub const UPDATE: u8 = 8;
 
 pub const DELETE: u8 = 16;
+pub const STEPS_MAX: usize = 16;
+
+pub const BRACKETS_MAX: usize = 2;
+
+pub const NESTING_MAX: usize = 3;

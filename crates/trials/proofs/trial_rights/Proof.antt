@@ -1,0 +1,50 @@
+use Prim.Native.Nat.{_≤_}
+use mathlib.Core.Path.{_≡_, refl, sym, _∙_}
+use Rattle.trials.proofs.TrialLaws.{rights-gives, asks-gives, rights-done, rights-refused}
+use Rattle.rights.proofs.Facts.{table-long, table-few}
+use native.Mathlib.Omega.{arith}
+use borrow.Author.Needs.{needs}
+use Rattle.trials.proofs.trial_rights.Statement.{statement}
+use Rattle.trials.proofs.trial_rights.Tie as tie
+
+may-ask-rights-requires : tie.Need-may-ask-rights-requires
+may-ask-rights-requires c κs = search needs
+
+rights-on-requires : tie.Need-rights-on-requires
+rights-on-requires c κs =
+    let g = rights-gives _ _ _ _ (sym (c .before .before .may-ask-rights .ensures) ∙ c .before .if1 .taken) in
+    let a = asks-gives _ _ _ (g .0) in
+    (a .0, a .1, a .2, g .1)
+
+count-of-requires : tie.Need-count-of-requires
+count-of-requires c κs =
+    let g = rights-gives _ _ _ _ (sym (c .before .before .before .before .before .may-ask-rights .ensures) ∙ c .before .before .before .before .if1 .taken) in
+    table-long _ (asks-gives _ _ _ (g .0) .2)
+
+cast-result : tie.Need-cast-result
+cast-result c =
+    let g = rights-gives _ _ _ _ (sym (c .before .before .before .before .before .before .may-ask-rights .ensures) ∙ c .before .before .before .before .before .if1 .taken) in
+    let h : c .count-of .result ≤ 16384 = rw (c .count-of .ensures) (table-few _ (asks-gives _ _ _ (g .0) .2)) in
+    search needs
+
+same-length : tie.Need-same-length
+same-length c = search needs
+
+returns : tie.Need-returns
+returns c =
+    rights-done _ _ _ _ (sym (c .before .before .before .before .before .before .may-ask-rights .ensures) ∙ c .before .before .before .before .before .if1 .taken) _ (c .count-of .ensures) _ (c .before .before .before .rights-on .ensures)
+
+returns-2 : tie.Need-returns-2
+returns-2 c = rights-refused _ _ _ _ (sym (c .before .may-ask-rights .ensures) ∙ c .if1 .left)
+
+pub trial-rights-spec : {M : Type 1} → statement M
+trial-rights-spec =
+    tie.close
+    (tie.spec
+    may-ask-rights-requires
+    rights-on-requires
+    count-of-requires
+    cast-result
+    same-length
+    returns
+    returns-2)
