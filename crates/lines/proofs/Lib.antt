@@ -10,3 +10,5 @@ pub mod AnswerNodes
 pub mod NodeLaws
 pub mod AnswerTreeLaws
 pub mod AnswerNumbers
+pub mod StateLaws
+pub mod StepLaws

@@ -10,4 +10,5 @@ pub mod AnswerChoice
 pub mod AnswerTree
 pub mod AnswerArea
 pub mod AnswerParts
-pub mod Line
+pub mod State
+pub mod Step

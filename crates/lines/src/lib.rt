@@ -1,10 +1,11 @@
-// Lines (document 01, "Lines"): what a line says.
+// Lines (document 01): reading them, the session, stages, refusals and answers.
+pub mod answer;
 pub mod form;
 pub mod limits;
+pub mod line;
 pub mod part;
+pub mod queries;
+pub mod state;
 pub mod text;
 pub mod tree;
 pub mod word;
-// Reading lines, the session, stages, refusals and answers (document 01).
-pub mod answer;
-pub mod line;

@@ -33,7 +33,6 @@ pub mod ViewNested
 pub mod StarredPaths
 pub mod NodeLaws
 pub mod RecordMade
-pub mod RecordLaws
 pub mod StoredPaths
 pub mod EditTests
 pub mod EditBytes

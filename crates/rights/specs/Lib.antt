@@ -13,9 +13,4 @@ pub mod Record
 pub mod Nodes
 pub mod XPath
 pub mod Selection
-pub mod Record
 pub mod PolicyEdit
-pub mod Nodes
-pub mod Nodes
-pub mod XPath
-pub mod Selection

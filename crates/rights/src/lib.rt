@@ -9,8 +9,5 @@ pub mod policy_check;
 pub mod policy_edit;
 pub mod record;
 pub mod rights;
-pub mod record;
-pub mod selection;
-pub mod record;
 pub mod selection;
 pub mod table;

@@ -49,6 +49,3 @@ pub const UPDATE: u8 = 8;
 pub const DELETE: u8 = 16;
 pub const STEPS_MAX: usize = 16;
 
-pub const BRACKETS_MAX: usize = 2;
-
-pub const NESTING_MAX: usize = 3;

@@ -1,0 +1,134 @@
+-- What is made of a line, by the tests that it meets. Assumes nothing.
+use Prim.Native.Nat.{ℕ, zero, suc, _+_, _-_, _≤_, _<_}
+use mathlib.Core.Bool.{Bool, true, false, cond}
+use mathlib.Core.Path.{_≡_, refl, sym, ap, _∙_}
+use mathlib.Core.List.{List, [], _∷_, _++_, map}
+use native.Mathlib.Omega.{arith}
+use borrow.Author.Tests.{eq-eqb, ne-eqb, eqb-false}
+use lib.Dec.{leb, eqb}
+use lib.ListN.{length, take, drop, getD, length-map, length-append}
+use Rattle.rights.specs.Path.{Path}
+use Rattle.rights.specs.PathReader.{Got, got, bad, placeOf, pathOf}
+use Rattle.rights.specs.declared.path.Read.the-variants.{At, Bad}
+use Rattle.rights.specs.PolicyBytes.{policyOf, subjectCount, Subject}
+use Rattle.rights.specs.Table.{count, records, recordsFrom, tableOk}
+use Rattle.rights.specs.PolicyCheck.{policyOk}
+use Rattle.rights.specs.Rights.{rightsBy, chains, rightsOn}
+use Rattle.rights.proofs.Facts.{table-few}
+use Rattle.rights.proofs.Lists.{rest-of}
+use lib.Seq.{take-at}
+use Rattle.rights.specs.Nodes.{Fits, viewOf}
+use Rattle.views.specs.Shown.{Stored, storedFrom, stored, shownNumbers}
+use Rattle.views.proofs.ViewLaws.{view-fits, view-by-numbers}
+use Rattle.lines.specs.Answer.{viewText, queryText, hitsOf}
+use Rattle.lines.specs.AnswerArea.{Answered}
+use Rattle.lines.specs.State.{userByte, userOf, policyBytes, policyIn, storeOk}
+use Rattle.lines.specs.Step.{Outcome, Made, refusal, finish, fitted, noUser, notPath, rightsIn, storedIn, viewIn, marksIn, stepView, stepQuery, stepFind}
+use Rattle.lines.specs.declared.line.Answer.{Answer}
+use Rattle.lines.specs.declared.line.Answer.the-variants.{Accepted, Refused}
+use Rattle.lines.proofs.StateLaws.{Held, store-held}
+
+-- what is refused leaves all as it was
+pub refused : {n : ℕ} {s t area : List ℕ} → Made (refusal n s t) area (Refused n) s t area
+refused = record { answer = refl; state = refl; table = refl; area = refl }
+
+-- what is made for an outcome is made for one that equals it
+pub made-at : {o p : Outcome} {area s t area' : List ℕ} {r : Answer} → o ≡ p → Made p area r s t area' → Made o area r s t area'
+made-at e m = rw e m
+
+-- an answer that was put if it fits, and a line that changes nothing
+pub made-finish : (text before after s t : List ℕ) (need : ℕ) (r : Answer) → Answered text before after need → r ≡ fitted need (length before)
+    → Made (finish (length before) text s t s t) before r s t after
+made-finish text before after s t need r a e = go (leb (length text) (length before)) refl
+  where
+    go : (b : Bool) → leb (length text) (length before) ≡ b → Made (finish (length before) text s t s t) before r s t after
+    go true q =
+        let z : leb need (length before) ≡ true = ap (λ n. leb n (length before)) (a .size) ∙ q in
+        let w : r ≡ Accepted need = rw z at e in
+        rw q (record { answer = w ∙ ap Accepted (a .size); state = refl; table = refl; area = rw q at (a .area) })
+    go false q =
+        let z : leb need (length before) ≡ false = ap (λ n. leb n (length before)) (a .size) ∙ q in
+        let w : r ≡ Refused 12 = rw z at e in
+        rw q (record { answer = w; state = refl; table = refl; area = rw q at (a .area) })
+
+-- the user of a store that passed is a declared subject
+module _ (s t : List ℕ) (ok : storeOk s t ≡ true) (u : noUser s ≡ false) where
+  pub user-some : 0 < userByte s
+  user-some = go (userByte s) (eqb-false (userByte s) 0 u)
+    where
+      go : (n : ℕ) → (n ≡ 0 → ⊥) → 0 < n
+      go zero h = absurd (h refl)
+      go (suc n) h = omega arith
+
+  pub user-declared : userOf s < subjectCount (policyBytes s)
+  user-declared = omega (arith, user-some, store-held s t ok .user)
+
+-- rights beyond the nodes are not looked at
+stored-more : (rs : List (List ℕ)) (ss more : List ℕ) (i : ℕ) → length ss ≡ length rs → storedFrom i rs (ss ++ more) ≡ storedFrom i rs ss
+unfolding storedFrom
+stored-more [] ss more i e = refl
+stored-more (r ∷ rs) [] more i e = absurd (omega arith)
+stored-more (r ∷ rs) (x ∷ ss) more i e = ap (λ l. record { number = i; bytes = r; rights = x } ∷ l) (stored-more rs ss more (suc i) (omega arith))
+
+chains-length : (c rs : List (List ℕ)) → length (chains c rs) ≡ length rs
+unfolding chains
+chains-length c [] = refl
+chains-length c (r ∷ rs) = ap suc (chains-length _ rs)
+
+records-length : (t : List ℕ) (n i : ℕ) → length (recordsFrom t n i) ≡ n
+unfolding recordsFrom
+records-length t zero i = refl
+records-length t (suc n) i = ap suc (records-length t n (suc i))
+
+pub rights-length : (s t : List ℕ) → length (rightsIn s t) ≡ count t
+rights-length s t = length-map (chains [] (records t)) (rightsBy _ (userOf s)) ∙ chains-length [] (records t) ∙ records-length t (count t) 0
+
+pub stored-in : (s t more rights' : List ℕ) → rights' ≡ rightsIn s t ++ more → stored t rights' ≡ storedIn s t
+stored-in s t more rights' e = ap (stored t) e ∙ stored-more (records t) (rightsIn s t) more 0 (rights-length s t ∙ sym (records-length t (count t) 0))
+
+-- what the rights of the user ask, where the policy is a part of the state
+module _ (s t : List ℕ) (ok : storeOk s t ≡ true) (u : noUser s ≡ false) (user n : ℕ) (e : user ≡ userByte s) where
+  pub rights-asks : n ≡ 16384
+      → (policyOk (take (length s - 8) (drop 8 s)) ≡ true) × (user - 1 < subjectCount (take (length s - 8) (drop 8 s))) × (tableOk t ≡ true) × (count t ≤ n)
+  rights-asks q =
+      let h = store-held s t ok in
+      rw (rest-of s 8) (h .policy, rw e (user-declared s t ok u), h .table, omega (arith, table-few t (h .table)))
+
+-- what the rights of the user are, and give
+module _ (s t rights' more : List ℕ) (user : ℕ) (e : user ≡ userByte s) (q : rights' ≡ rightsOn (policyOf (take (length s - 8) (drop 8 s))) (user - 1) (records t) ++ more) where
+  rights-held : rights' ≡ rightsIn s t ++ more
+  rights-held =
+      q
+      ∙ ap (λ p. rightsOn (policyOf p) (user - 1) (records t) ++ more) (rest-of s 8)
+      ∙ ap (λ n. rightsOn (policyIn s) (n - 1) (records t) ++ more) e
+
+  pub rights-cover : count t ≤ length rights'
+  rights-cover = omega (arith, ap length rights-held, length-append (rightsIn s t) more, rights-length s t)
+
+  pub rights-stored : stored t rights' ≡ storedIn s t
+  rights-stored = stored-in s t more rights' rights-held
+
+-- the numbers of the shown nodes, as the part of an area that holds them
+module _ (s t : List ℕ) (ok : storeOk s t ≡ true) (shown' more : List ℕ) (k : ℕ) (e : k ≡ length (shownNumbers (storedIn s t))) (q : shown' ≡ shownNumbers (storedIn s t) ++ more) where
+  pub shown-part : take (k - 0) (drop 0 shown') ≡ shownNumbers (storedIn s t)
+  shown-part =
+      let z : k - 0 ≡ length (shownNumbers (storedIn s t)) = omega arith in
+      rw (z, q) (take-at (shownNumbers (storedIn s t)) more (length (shownNumbers (storedIn s t))) refl)
+
+  pub shown-fits : Fits t (take (k - 0) (drop 0 shown'))
+  shown-fits = rw shown-part (view-fits t (rightsIn s t) (store-held s t ok .table))
+
+  pub shown-long : k ≤ length shown'
+  shown-long = omega (arith, ap length q, length-append (shownNumbers (storedIn s t)) more)
+
+  pub shown-view : viewOf t (take (k - 0) (drop 0 shown')) ≡ viewIn s t
+  shown-view = ap (viewOf t) shown-part ∙ view-by-numbers t (rightsIn s t) (store-held s t ok .table)
+
+module _ (s t : List ℕ) (room : ℕ) where
+  pub view-no-user : noUser s ≡ true → stepView s t room ≡ refusal 8 s t
+  unfolding stepView
+  view-no-user e = rw e
+
+  pub view-seen : noUser s ≡ false → stepView s t room ≡ finish room (viewText (viewIn s t)) s t s t
+  unfolding stepView
+  view-seen e = rw e

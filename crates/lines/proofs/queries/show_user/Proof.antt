@@ -1,0 +1,70 @@
+use Rattle.rights.specs.Table.{count}
+use mathlib.Core.List.{_++_}
+use lib.ListN.{drop}
+use Rattle.views.specs.Shown.{shownNumbers}
+use Rattle.lines.proofs.StepLaws.{rights-cover, rights-stored}
+use mathlib.Core.Path.{_≡_, sym, ap, _∙_}
+use native.Mathlib.Omega.{arith}
+use lib.ListN.{length}
+use Rattle.rights.proofs.Facts.{table-few}
+use Rattle.rights.proofs.Lists.{rest-of}
+use Rattle.lines.proofs.StateLaws.{store-held}
+use Rattle.lines.proofs.StepLaws.{user-some, rights-asks, stored-in}
+use borrow.Author.Needs.{needs}
+use Rattle.lines.proofs.queries.show_user.Statement.{statement}
+use Rattle.lines.proofs.queries.show_user.Tie as tie
+
+shared-slice-read-wide : tie.Need-shared-slice-read-wide
+shared-slice-read-wide c = let g = c .before .before .before .before .before .pre in omega (arith, store-held _ _ (g .0) .size)
+
+wide-requires : tie.Need-wide-requires
+wide-requires c κs = search needs
+
+sub-user : tie.Need-sub-user
+sub-user c = let g = c .before .before .before .before .before .before .pre in omega (arith, c .wide .ensures, user-some _ _ (g .0) (g .1))
+
+sub-rights-on : tie.Need-sub-rights-on
+sub-rights-on c = let g = c .before .before .before .before .before .before .pre in omega (arith, store-held _ _ (g .0) .size)
+
+part-rights-on-start : tie.Need-part-rights-on-start
+part-rights-on-start c = let g = c .before .before .before .before .before .before .pre in omega (arith, store-held _ _ (g .0) .size)
+
+part-rights-on-end : tie.Need-part-rights-on-end
+part-rights-on-end c = search needs
+
+rights-on-requires : tie.Need-rights-on-requires
+rights-on-requires c κs = let g = c .before .before .before .before .before .before .before .before .pre in rights-asks _ _ (g .0) (g .1) _ _ (c .before .before .wide .ensures) (g .2)
+
+show-requires : tie.Need-show-requires
+show-requires c κs = let g = c .before .before .before .before .before .before .before .before .before .before .before .before .before .pre in
+    let a = c .before .before .before .before .before .before .before .before .before .before .before .before .before .args in
+    let h = store-held _ _ (g .0) in
+    (h .table, rights-cover (a .state .now) (a .table .now) _ (drop (count (a .table .now)) (a .rights .now)) _ (c .before .before .before .before .before .before .before .wide .ensures) (c .before .before .before .before .rights-on .ensures), omega (arith, table-few _ (h .table), g .3))
+
+same-length : tie.Need-same-length
+same-length c = search needs
+
+same-length-2 : tie.Need-same-length-2
+same-length-2 c = search needs
+
+returns : tie.Need-returns
+returns c = let r = c .before .before .show .ensures in
+    let a = c .before .before .before .before .before .before .before .before .before .before .before .before .before .before .before .before .args in
+    let e = rights-stored (a .state .now) (a .table .now) _ (drop (count (a .table .now)) (a .rights .now)) _ (c .before .before .before .before .before .before .before .before .before .before .wide .ensures) (c .before .before .before .before .before .before .before .rights-on .ensures) in
+    (rw e at (r .0), rw e at (r .1))
+
+pub show-user-spec : {M : Type 1} → statement M
+show-user-spec =
+    tie.close
+    (tie.spec
+    shared-slice-read-wide
+    wide-requires
+    sub-user
+    sub-rights-on
+    part-rights-on-start
+    part-rights-on-end
+    rights-on-requires
+    show-requires
+    same-length
+    same-length-2
+    returns)

@@ -1,0 +1,41 @@
+use mathlib.Core.Path.{_≡_, refl}
+use native.Mathlib.Omega.{arith}
+use borrow.Author.Tests.{eq-eqb, ne-eqb}
+use Rattle.lines.proofs.StateLaws.{store-held}
+use Rattle.lines.proofs.StepLaws.{made-at, refused, view-no-user}
+use borrow.Author.Needs.{needs}
+use Rattle.lines.proofs.queries.view.Statement.{statement}
+use Rattle.lines.proofs.queries.view.Tie as tie
+
+shared-slice-read-if1 : tie.Need-shared-slice-read-if1
+shared-slice-read-if1 c = omega (arith, store-held _ _ (c .before .before .before .before .pre) .size)
+
+returns : tie.Need-returns
+returns c = made-at (view-no-user _ _ _ (eq-eqb _ _ (c .if1 .taken))) refused
+
+slice-aggregate-view-with : tie.Need-slice-aggregate-view-with
+slice-aggregate-view-with c = search needs
+
+slice-aggregate-view-with-2 : tie.Need-slice-aggregate-view-with-2
+slice-aggregate-view-with-2 c = search needs
+
+view-with-requires : tie.Need-view-with-requires
+view-with-requires c κs = (c .before .before .before .before .before .before .before .before .pre, ne-eqb _ _ (c .before .before .before .if1 .left), refl, refl)
+
+same-length : tie.Need-same-length
+same-length c = search needs
+
+returns-2 : tie.Need-returns-2
+returns-2 c = search needs
+
+pub view-spec : {M : Type 1} → statement M
+view-spec =
+    tie.close
+    (tie.spec
+    shared-slice-read-if1
+    returns
+    slice-aggregate-view-with
+    slice-aggregate-view-with-2
+    view-with-requires
+    same-length
+    returns-2)

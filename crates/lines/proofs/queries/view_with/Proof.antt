@@ -1,0 +1,60 @@
+use mathlib.Core.Path.{_≡_, sym, ap, _∙_}
+use native.Mathlib.Omega.{arith}
+use Rattle.lines.specs.Answer.{viewText}
+use Rattle.lines.specs.AnswerArea.{Answered}
+use Rattle.lines.proofs.StepLaws.{made-at, made-finish, shown-fits, shown-long, shown-view, view-seen}
+use borrow.Author.Needs.{needs}
+use Rattle.lines.proofs.queries.view_with.Statement.{statement}
+use Rattle.lines.proofs.queries.view_with.Tie as tie
+
+show-user-requires : tie.Need-show-user-requires
+show-user-requires c κs = search needs
+
+sub-answer-view : tie.Need-sub-answer-view
+sub-answer-view c = search needs
+
+part-answer-view-start : tie.Need-part-answer-view-start
+part-answer-view-start c = search needs
+
+part-answer-view-end : tie.Need-part-answer-view-end
+part-answer-view-end c = let g = c .before .before .before .before .before .before .before .before .before .before .before .before .before .pre in
+    let a = c .before .before .before .before .before .before .before .before .before .before .before .before .before .args in
+    shown-long (a .state .now) (a .table .now) (g .0) _ _ _ (c .before .before .before .before .before .show-user .ensures .0) (c .before .before .before .before .before .show-user .ensures .1)
+
+answer-view-requires : tie.Need-answer-view-requires
+answer-view-requires c κs = let g = c .before .before .before .before .before .before .before .before .before .before .before .before .before .before .before .pre in
+    let a = c .before .before .before .before .before .before .before .before .before .before .before .before .before .before .before .args in
+    shown-fits (a .state .now) (a .table .now) (g .0) _ _ _ (c .before .before .before .before .before .before .before .show-user .ensures .0) (c .before .before .before .before .before .before .before .show-user .ensures .1)
+
+finished-requires : tie.Need-finished-requires
+finished-requires c κs = search needs
+
+same-length : tie.Need-same-length
+same-length c = search needs
+
+same-length-2 : tie.Need-same-length-2
+same-length-2 c = search needs
+
+same-length-3 : tie.Need-same-length-3
+same-length-3 c = search needs
+
+returns : tie.Need-returns
+returns c = let g = c .before .before .before .before .before .before .before .before .before .before .before .before .before .before .before .before .before .before .before .pre in
+    let a = c .before .before .before .before .before .before .before .before .before .before .before .before .before .before .before .before .before .before .before .args in
+    let e = shown-view (a .state .now) (a .table .now) (g .0) _ _ _ (c .before .before .before .before .before .before .before .before .before .before .before .show-user .ensures .0) (c .before .before .before .before .before .before .before .before .before .before .before .show-user .ensures .1) in
+    made-at (view-seen _ _ _ (g .1)) (made-finish _ _ _ _ _ _ _ (rw e at (c .before .before .before .answer-view .ensures)) (c .finished .ensures))
+
+pub view-with-spec : {M : Type 1} → statement M
+view-with-spec =
+    tie.close
+    (tie.spec
+    show-user-requires
+    sub-answer-view
+    part-answer-view-start
+    part-answer-view-end
+    answer-view-requires
+    finished-requires
+    same-length
+    same-length-2
+    same-length-3
+    returns)

@@ -1,0 +1,65 @@
+-- The state (document 01, "Lines" and 13; docs/FORMAT.md): 8 bytes of the session (stage, user, and 6 zero bytes), then the policy.
+use Prim.Native.Nat.{ℕ, _-_}
+use mathlib.Core.Bool.{Bool, true, false, _&&_, _||_, Bool·beq}
+use mathlib.Core.List.{List, [], _∷_, _++_}
+use lib.Dec.{leb, eqb}
+use lib.ListN.{length, getD, take, drop}
+use Rattle.rights.specs.Bytes.{zeros}
+use Rattle.rights.specs.Table.{count, tableOk}
+use Rattle.rights.specs.Policy.{Policy}
+use Rattle.rights.specs.PolicyBytes.{policyOf, subjectCount, ruleCount}
+use Rattle.rights.specs.PolicyCheck.{policyOk}
+
+-- "Stages, in order" A to E, by number
+abbrev pub stageA : ℕ
+stageA = 0
+
+abbrev pub stageB : ℕ
+stageB = 1
+
+abbrev pub stageC : ℕ
+stageC = 2
+
+abbrev pub stageD : ℕ
+stageD = 3
+
+abbrev pub stageE : ℕ
+stageE = 4
+
+-- the stage that a state is in; the session's user, 0 for none, else one more than the subject's number; the policy
+abbrev pub stage : List ℕ → ℕ
+stage s = getD s 0 0
+
+abbrev pub userByte : List ℕ → ℕ
+userByte s = getD s 1 0
+
+abbrev pub userOf : List ℕ → ℕ
+userOf s = userByte s - 1
+
+abbrev pub policyBytes : List ℕ → List ℕ
+policyBytes s = drop 8 s
+
+abbrev pub policyIn : List ℕ → Policy
+policyIn s = policyOf (policyBytes s)
+
+-- a state with another stage and user, and with another policy
+abbrev pub withSession : ℕ → ℕ → List ℕ → List ℕ
+withSession g u s = g ∷ u ∷ drop 2 s
+
+abbrev pub withPolicy : List ℕ → List ℕ → List ℕ
+withPolicy p s = take 8 s ++ p
+
+-- The session beside its policy and its table: a stage of the five; a rule is held from stage B on; "a root in the table without the root line taken, or the
+-- reverse"; a user exactly at stage E, and a declared one.
+unfoldable pub sessionOk : List ℕ → List ℕ → Bool
+sessionOk s t =
+    leb (stage s) stageE
+    && (leb (userByte s) (subjectCount (policyBytes s))
+    && (zeros s 2 6
+    && ((eqb (ruleCount (policyBytes s)) 0 || leb stageB (stage s))
+    && (Bool·beq (leb stageC (stage s)) (leb 1 (count t))
+    && Bool·beq (eqb (stage s) stageE) (leb 1 (userByte s))))))
+
+-- What 13 lets pass
+unfoldable pub storeOk : List ℕ → List ℕ → Bool
+storeOk s t = tableOk t && (eqb (length s) 68880 && (policyOk (policyBytes s) && sessionOk s t))

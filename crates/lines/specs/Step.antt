@@ -1,0 +1,114 @@
+-- One line: what it answers, and what it leaves (document 01, "Lines", "What is written", "Who can be turned down").
+use Prim.Native.Nat.{ℕ}
+use mathlib.Core.Path.{_≡_}
+use mathlib.Core.Bool.{Bool, true, false, cond}
+use mathlib.Core.List.{List, [], _∷_, _++_}
+use lib.Dec.{leb, eqb}
+use lib.ListN.{length, drop}
+use Rattle.rights.specs.Path.{Path}
+use Rattle.rights.specs.PathReader.{Got, got, bad, pathOf}
+use Rattle.rights.specs.Nodes.{Node, Nodes}
+use Rattle.rights.specs.Policy.{passesOwn}
+use Rattle.rights.specs.Rights.{rightsOn}
+use Rattle.rights.specs.Selection.{selection}
+use Rattle.rights.specs.Table.{records}
+use Rattle.views.specs.Shown.{Stored, stored, view, shownNumbers}
+use Rattle.lines.specs.Answer.{okText, hitsOf, queryText, viewText}
+use Rattle.lines.specs.AnswerChoice.{Choice, chosen, findText}
+use Rattle.lines.specs.State.{userByte, userOf, policyIn}
+use Rattle.lines.specs.declared.line.Answer.{Answer}
+use Rattle.lines.specs.declared.line.Answer.the-variants.{Accepted, Refused}
+
+-- What a call gives
+
+-- the answer's bytes, or the number of a refusal
+pub data Reply : Type 0 where
+  says : List ℕ → Reply
+  refuses : ℕ → Reply
+
+-- the reply, and the state and the table afterwards
+pub record Outcome : Type 0 where
+  pub reply : Reply
+  pub state : List ℕ
+  pub table : List ℕ
+
+-- "An accepted line returns the answer's length, and the area beyond it keeps its bytes."
+abbrev pub answerOf : Reply → Answer
+answerOf (says b) = Accepted (length b)
+answerOf (refuses n) = Refused n
+
+abbrev pub areaAfter : Reply → List ℕ → List ℕ
+areaAfter (says b) area = b ++ drop (length b) area
+areaAfter (refuses n) area = area
+
+-- what is returned and left is what the outcome says
+pub record Made (o : Outcome) (before : List ℕ) (r : Answer) (state' table' area' : List ℕ) : Type 0 where
+  pub answer : r ≡ answerOf (o .reply)
+  pub state : state' ≡ o .state
+  pub table : table' ≡ o .table
+  pub area : area' ≡ areaAfter (o .reply) before
+
+-- "The number is returned; state, tables and answer area keep their bytes."
+abbrev pub refusal : ℕ → List ℕ → List ℕ → Outcome
+refusal n s t = record { reply = refuses n; state = s; table = t }
+
+-- refused with n if the condition holds, else what follows
+abbrev pub refuse : Bool → ℕ → List ℕ → List ℕ → Outcome → Outcome
+refuse b n s t o = cond b (refusal n s t) o
+
+-- "12 answer area shorter than the answer": the answer, with the state s' and the table t' afterwards, if it fits
+abbrev pub finish : ℕ → List ℕ → List ℕ → List ℕ → List ℕ → List ℕ → Outcome
+finish room text s' t' s t = cond (leb (length text) room) (record { reply = says text; state = s'; table = t' }) (refusal 12 s t)
+
+-- what is returned for an answer of a length
+abbrev pub fitted : ℕ → ℕ → Answer
+fitted need room = cond (leb need room) (Accepted need) (Refused 12)
+
+-- What a session's user has and sees
+
+-- "8 no user yet"
+abbrev pub noUser : List ℕ → Bool
+noUser s = eqb (userByte s) 0
+
+-- the user's rights on each node of the stored tree, the stored nodes with them, and the view
+abbrev pub rightsIn : List ℕ → List ℕ → List ℕ
+rightsIn s t = rightsOn (policyIn s) (userOf s) (records t)
+
+abbrev pub storedIn : List ℕ → List ℕ → List Stored
+storedIn s t = stored t (rightsIn s t)
+
+abbrev pub viewIn : List ℕ → List ℕ → Nodes
+viewIn s t = view (storedIn s t)
+
+-- "4 path not well formed"
+abbrev pub notPath : Got Path → Bool
+notPath (got p e) = false
+notPath bad = true
+
+-- "Paths of E run on the view": the marks of what a path selects there, `$` being the login name
+abbrev pub marksIn : List ℕ → List ℕ → List ℕ → List ℕ
+marksIn s t path = selection path (passesOwn (policyIn s) (userOf s)) (viewIn s t)
+
+-- what the selection of a path leaves: the number of the shown nodes, their numbers, and their marks; the rest of both areas is as it was
+pub record Chosen (s t path shown marks : List ℕ) (k : ℕ) (shown' marks' : List ℕ) : Type 0 where
+  pub size : k ≡ length (shownNumbers (storedIn s t))
+  pub numbers : shown' ≡ shownNumbers (storedIn s t) ++ drop k shown
+  pub picked : marks' ≡ marksIn s t path ++ drop k marks
+
+-- `(view)`
+unfoldable pub stepView : List ℕ → List ℕ → ℕ → Outcome
+stepView s t room = refuse (noUser s) 8 s t (finish room (viewText (viewIn s t)) s t s t)
+
+-- `(query P)`
+unfoldable pub stepQuery : List ℕ → List ℕ → ℕ → List ℕ → Outcome
+stepQuery s t room path =
+    refuse (notPath (pathOf path)) 4 s t
+    (refuse (noUser s) 8 s t
+    (finish room (queryText (hitsOf (marksIn s t path) (viewIn s t))) s t s t))
+
+-- `(find P)`
+unfoldable pub stepFind : Choice → List ℕ → List ℕ → ℕ → List ℕ → Outcome
+stepFind choice s t room path =
+    refuse (notPath (pathOf path)) 4 s t
+    (refuse (noUser s) 8 s t
+    (finish room (findText (choice (marksIn s t path) (viewIn s t))) s t s t))
