@@ -22,6 +22,7 @@ pub mod Words
 pub mod Sounds
 pub mod PolicyWords
 pub mod RightsLaws
+pub mod RecordLaws
 pub mod PassLaws
 pub mod MatcherLaws
 pub mod WalkLaws
@@ -31,3 +32,12 @@ pub mod XPathLaws
 pub mod ViewNested
 pub mod StarredPaths
 pub mod NodeLaws
+pub mod RecordMade
+pub mod RecordLaws
+pub mod StoredPaths
+pub mod EditTests
+pub mod EditBytes
+pub mod EditKept
+pub mod RecordRead
+pub mod StoredSteps
+pub mod PolicyEdits

@@ -9,6 +9,13 @@ pub mod PathText
 pub mod Rights
 pub mod Automaton
 pub mod PolicyCheck
+pub mod Record
+pub mod Nodes
+pub mod XPath
+pub mod Selection
+pub mod Record
+pub mod PolicyEdit
+pub mod Nodes
 pub mod Nodes
 pub mod XPath
 pub mod Selection

@@ -2,10 +2,15 @@
 pub mod bytes;
 pub mod labels;
 pub mod limits;
-pub mod passes;
+mod passes;
 pub mod path;
 pub mod policy;
 pub mod policy_check;
+pub mod policy_edit;
+pub mod record;
 pub mod rights;
+pub mod record;
+pub mod selection;
+pub mod record;
 pub mod selection;
 pub mod table;

@@ -14,6 +14,7 @@ pub const LABEL_AT: usize = 2;
 pub const RECORDS_MAX: usize = 16384;
 // A policy's subjects start at byte 8.
 pub const SUBJECTS_AT: usize = 8;
+// At most 64 subjects, 128 isa lines, 128 rules; a path has at most 16 steps.
 // At most 64 subjects, 128 isa lines, 128 rules.
 pub const SUBJECTS_MAX: usize = 64;
 
@@ -33,6 +34,19 @@ pub const STEPS_AT: usize = 8;
 
 pub const POLICY_BYTES: usize = 68872;
 // A path is 1 to 16 steps, a step has at most 2 brackets, and brackets nest at most 3 deep.
+pub const BRACKETS_MAX: usize = 2;
+
+pub const NESTING_MAX: usize = 3;
+// The bit of each right in a set of rights.
+pub const POSITION: u8 = 1;
+
+pub const READ: u8 = 2;
+
+pub const INSERT: u8 = 4;
+
+pub const UPDATE: u8 = 8;
+
+pub const DELETE: u8 = 16;
 pub const STEPS_MAX: usize = 16;
 
 pub const BRACKETS_MAX: usize = 2;

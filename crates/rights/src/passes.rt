@@ -7,6 +7,7 @@ use crate::limits::COUNT_BYTES;
 use crate::limits::LABEL_AT;
 use crate::limits::RECORD_BYTES;
 use crate::limits::RECORDS_MAX;
+use crate::path::byte_is;
 use crate::path::digit_byte;
 use crate::policy::passes_own;
 ghost use mathlib.Core.Path.{_≡_};
@@ -329,9 +330,5 @@ pub fn goes_far(s: &[u8], at: usize) -> bool
     requires { ⌜ at < length (now s) ⌝ }
     ensures { λ r. ⌜ axisBy r ≡ axisAt (now (s .entry)) at ⌝ }
 {
-    let i = at + 1;
-    if s.len() <= i {
-        return false;
-    }
-    s[i] == b'/'
+    byte_is(s, at + 1, b'/')
 }

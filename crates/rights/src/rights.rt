@@ -295,3 +295,11 @@ pub fn rights_on(policy: &[u8], u: usize, table: &[u8], out: &mut [u8])
     let n = count_of(table);
     rights_of(policy, u, table, n, out);
 }
+
+// Whether a set of rights holds the right with this bit.
+pub fn holds_right(set: u8, right: u8) -> bool
+    requires { ⌜ 0 < right ⌝ }
+    ensures { λ r. ⌜ r ≡ eqb (set / right % 2) 1 ⌝ }
+{
+    set / right % 2 == 1
+}

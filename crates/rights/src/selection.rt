@@ -14,6 +14,7 @@ use crate::passes::mark_test;
 use crate::passes::mark_under;
 use crate::path::Read;
 use crate::path::after_slash;
+use crate::path::byte_is;
 use crate::path::check_path;
 use crate::path::is_position;
 use crate::path::read_position;
@@ -23,7 +24,7 @@ ghost use lib.ListN.{length};
 ghost use Rattle.rights.specs.Policy.{passesOwn};
 ghost use Rattle.rights.specs.PolicyBytes.{policyOf, Subject};
 ghost use Rattle.rights.specs.Nodes.{viewOf, Fits};
-ghost use Rattle.rights.specs.Selection.{PathMatched, BracketsMatched, PathWalked, Selects};
+ghost use Rattle.rights.specs.Selection.{PathMatched, StepMatched, BracketsMatched, BracketMatched, PathWalked, Selects};
 
 pub enum Selection {
     Selected,
@@ -31,7 +32,7 @@ pub enum Selection {
 }
 
 // The nodes from which the path at `at` finds something. It has at most `left` steps, and brackets nest at most `deep` deep.
-pub fn match_path(
+fn match_path(
     policy: &[u8],
     user: usize,
     table: &[u8],
@@ -48,7 +49,7 @@ pub fn match_path(
 {
     let mut kept = [0u8; RECORDS_MAX];
     let mut rest = [0u8; RECORDS_MAX];
-    match_step(
+    match_steps(
         policy,
         user,
         table,
@@ -64,7 +65,8 @@ pub fn match_path(
     )
 }
 
-fn match_step(
+// The same, with room for the marks of the first step and of the steps after it.
+fn match_steps(
     policy: &[u8],
     user: usize,
     table: &[u8],
@@ -84,19 +86,10 @@ fn match_step(
     if left == 0 {
         return Read::Bad;
     }
-    let Read::At(i) = read_test(s, at) else {
+    let Read::At(j) = match_step(policy, user, table, shown, s, at, deep, kept) else {
         return Read::Bad;
     };
-    mark_test(policy, user, table, shown, s, at, i, kept);
-    let Read::At(j) = match_brackets(policy, user, table, shown, s, i, BRACKETS_MAX, deep, kept)
-    else {
-        return Read::Bad;
-    };
-    if s.len() <= j {
-        mark_some(table, shown, far, &kept[..], marks);
-        return Read::At(j);
-    }
-    if s[j] != b'/' {
+    if byte_is(s, j, b'/') {} else {
         mark_some(table, shown, far, &kept[..], marks);
         return Read::At(j);
     }
@@ -109,6 +102,27 @@ fn match_step(
     keep_both(shown.len(), kept, &rest[..]);
     mark_some(table, shown, far, &kept[..], marks);
     Read::At(e)
+}
+
+// The nodes that pass the step at `at`: its test, and its brackets in turn.
+fn match_step(
+    policy: &[u8],
+    user: usize,
+    table: &[u8],
+    shown: &[u16],
+    s: &[u8],
+    at: usize,
+    deep: usize,
+    marks: &mut [u8],
+) -> Read
+    requires { ⌜ Subject (now policy) user × Fits (now table) (now shown) × (length (now shown) ≤ length (now marks)) ⌝ }
+    ensures { λ r. ⌜ StepMatched (viewOf (now (table .entry)) (now (shown .entry))) (passesOwn (policyOf (now (policy .entry))) user) (now (s .entry)) at deep (length (now (shown .entry))) (now (marks .exit)) r ⌝ }
+{
+    let Read::At(i) = read_test(s, at) else {
+        return Read::Bad;
+    };
+    mark_test(policy, user, table, shown, s, at, i, marks);
+    match_brackets(policy, user, table, shown, s, i, BRACKETS_MAX, deep, marks)
 }
 
 // Of the marked nodes, those that pass the brackets at `at`, at most `left`, the first of them first.
@@ -126,10 +140,7 @@ fn match_brackets(
     requires { ⌜ Subject (now policy) user × Fits (now table) (now shown) × (length (now shown) ≤ length (now marks)) × (at ≤ length (now s)) ⌝ }
     ensures { λ r. ⌜ BracketsMatched (viewOf (now (table .entry)) (now (shown .entry))) (passesOwn (policyOf (now (policy .entry))) user) (now (s .entry)) at left deep (length (now (shown .entry))) (now (marks .entry)) (now (marks .exit)) r ⌝ }
 {
-    if s.len() <= at {
-        return Read::At(at);
-    }
-    if s[at] != b'[' {
+    if byte_is(s, at, b'[') {} else {
         return Read::At(at);
     }
     if left == 0 {
@@ -138,13 +149,32 @@ fn match_brackets(
     if deep == 0 {
         return Read::Bad;
     }
-    let inside = at + 1;
-    if is_position(s, inside) {
-        let Read::At(i) = read_position(s, inside) else {
+    let Read::At(i) = match_bracket(policy, user, table, shown, s, at + 1, deep - 1, marks) else {
+        return Read::Bad;
+    };
+    match_brackets(policy, user, table, shown, s, i, left - 1, deep, marks)
+}
+
+// Of the marked nodes, those that pass the bracket whose `[` stands before `at`: a position, or a path that finds something from the node.
+fn match_bracket(
+    policy: &[u8],
+    user: usize,
+    table: &[u8],
+    shown: &[u16],
+    s: &[u8],
+    at: usize,
+    deep: usize,
+    marks: &mut [u8],
+) -> Read
+    requires { ⌜ Subject (now policy) user × Fits (now table) (now shown) × (length (now shown) ≤ length (now marks)) × (at ≤ length (now s)) ⌝ }
+    ensures { λ r. ⌜ BracketMatched (viewOf (now (table .entry)) (now (shown .entry))) (passesOwn (policyOf (now (policy .entry))) user) (now (s .entry)) at deep (length (now (shown .entry))) (now (marks .entry)) (now (marks .exit)) r ⌝ }
+{
+    if is_position(s, at) {
+        let Read::At(i) = read_position(s, at) else {
             return Read::Bad;
         };
-        keep_position(table, shown, s, inside, marks);
-        return match_brackets(policy, user, table, shown, s, i, left - 1, deep, marks);
+        keep_position(table, shown, s, at, marks);
+        return Read::At(i);
     }
     let mut sub = [0u8; RECORDS_MAX];
     let Read::At(j) = match_path(
@@ -153,22 +183,19 @@ fn match_brackets(
         table,
         shown,
         s,
-        inside,
+        at,
         STEPS_MAX,
-        deep - 1,
+        deep,
         false,
         &mut sub,
     ) else {
         return Read::Bad;
     };
-    if s.len() <= j {
-        return Read::Bad;
-    }
-    if s[j] != b']' {
+    if byte_is(s, j, b']') {} else {
         return Read::Bad;
     }
     keep_both(shown.len(), marks, &sub);
-    match_brackets(policy, user, table, shown, s, j + 1, left - 1, deep, marks)
+    Read::At(j + 1)
 }
 
 // Marked are the nodes that the first step at `at` goes to; they become those that the path selects.
@@ -189,28 +216,11 @@ fn walk_path(
     if left == 0 {
         return Read::Bad;
     }
-    let Read::At(i) = read_test(s, at) else {
-        return Read::Bad;
-    };
-    mark_test(policy, user, table, shown, s, at, i, kept);
-    let Read::At(j) = match_brackets(
-        policy,
-        user,
-        table,
-        shown,
-        s,
-        i,
-        BRACKETS_MAX,
-        NESTING_MAX,
-        kept,
-    ) else {
+    let Read::At(j) = match_step(policy, user, table, shown, s, at, NESTING_MAX, kept) else {
         return Read::Bad;
     };
     keep_both(shown.len(), marks, &kept[..]);
-    if s.len() <= j {
-        return Read::At(j);
-    }
-    if s[j] != b'/' {
+    if byte_is(s, j, b'/') {} else {
         return Read::At(j);
     }
     let k = after_slash(s, j);

@@ -1,0 +1,83 @@
+-- The bytes of each answer (document 01, "What is written"). Each of these lines ends with a line feed.
+use Prim.Native.Nat.{ℕ, suc, _-_}
+use mathlib.Core.Bool.{cond}
+use mathlib.Core.List.{List, [], _∷_, _++_}
+use lib.Dec.{eqb}
+use lib.ListN.{length, replicate}
+use Rattle.rights.specs.PathText.{decimal}
+use Rattle.rights.specs.Nodes.{Node, levelOf, labelOf}
+
+-- a number in decimal, without leading zero; 20 digits are enough for every number of 64 bits
+abbrev pub number : ℕ → List ℕ
+number n = decimal 20 n
+
+-- `)` and a line feed
+abbrev pub closed : List ℕ
+closed = 41 ∷ 10 ∷ []
+
+-- "A to D and `user`: `(ok)`."
+abbrev pub okText : List ℕ
+okText = 40 ∷ 111 ∷ 107 ∷ closed
+
+-- "The answer is `(done S D)`"
+abbrev pub doneText : ℕ → ℕ → List ℕ
+doneText s d = (40 ∷ 100 ∷ 111 ∷ 110 ∷ 101 ∷ 32 ∷ []) ++ (number s ++ ((32 ∷ []) ++ (number d ++ closed)))
+
+-- `(refused N)`, which the program prints for a refusal
+abbrev pub refusedText : ℕ → List ℕ
+refusedText n = (40 ∷ 114 ∷ 101 ∷ 102 ∷ 117 ∷ 115 ∷ 101 ∷ 100 ∷ 32 ∷ []) ++ (number n ++ closed)
+
+-- `(end K)`
+abbrev pub endLine : ℕ → List ℕ
+endLine k = (40 ∷ 101 ∷ 110 ∷ 100 ∷ 32 ∷ []) ++ (number k ++ closed)
+
+-- `(hit LEVEL L)`
+abbrev pub hitLine : Node → List ℕ
+hitLine n = (40 ∷ 104 ∷ 105 ∷ 116 ∷ 32 ∷ []) ++ (number (levelOf n) ++ ((32 ∷ []) ++ (labelOf n ++ closed)))
+
+-- `(none)`
+abbrev pub noneLine : List ℕ
+noneLine = 40 ∷ 110 ∷ 111 ∷ 110 ∷ 101 ∷ closed
+
+-- the nodes that are marked, in document order: the hits of a path, where the marks are its selection
+unfoldable pub hitsOf : List ℕ → List Node → List Node
+hitsOf [] ns = []
+hitsOf (m ∷ ms) [] = []
+hitsOf (m ∷ ms) (n ∷ ns) = cond (eqb m 0) (hitsOf ms ns) (n ∷ hitsOf ms ns)
+
+unfoldable pub hitLines : List Node → List ℕ
+hitLines [] = []
+hitLines (n ∷ ns) = hitLine n ++ hitLines ns
+
+-- "`query`: `(hit LEVEL L)` in document order, `(end K)`, K hits."
+abbrev pub queryText : List Node → List ℕ
+queryText hits = hitLines hits ++ endLine (length hits)
+
+-- `(root L)`
+abbrev pub rootLine : List ℕ → List ℕ
+rootLine l = (40 ∷ 114 ∷ 111 ∷ 111 ∷ 116 ∷ 32 ∷ []) ++ (l ++ closed)
+
+-- A view is printed node by node. AnswerTree has the same text by nested trees, and proofs/AnswerTreeLaws that they are equal.
+
+-- before the label of a node of level l: a child of the root begins a line with `(child (`; any other node is parted by a space
+abbrev pub opening : ℕ → List ℕ
+opening l = cond (eqb l 1) (40 ∷ 99 ∷ 104 ∷ 105 ∷ 108 ∷ 100 ∷ 32 ∷ 40 ∷ []) (32 ∷ 40 ∷ [])
+
+-- the trees of level m and deeper that are open below level l end with a `)` each, and the line too if a node of level 1 is next
+abbrev pub closing : ℕ → ℕ → List ℕ
+closing l m = replicate (l - m) 41 ++ cond (eqb m 1) closed []
+
+-- the level of the next node; after the last node it is that of a next line
+abbrev pub nextLevel : List Node → ℕ
+nextLevel [] = 1
+nextLevel (n ∷ ns) = levelOf n
+
+-- the nodes below the root
+unfoldable pub childLines : List Node → List ℕ
+childLines [] = []
+childLines (n ∷ ns) = opening (levelOf n) ++ (labelOf n ++ (closing (suc (levelOf n)) (nextLevel ns) ++ childLines ns))
+
+-- "`view`: `(root L)`, a `(child TREE)` for each shown child, `(end K)`, K shown nodes; nothing but `(end 0)` if the root is hidden."
+unfoldable pub viewText : List Node → List ℕ
+viewText [] = endLine 0
+viewText (r ∷ ns) = rootLine (labelOf r) ++ (childLines ns ++ endLine (suc (length ns)))

@@ -1,0 +1,121 @@
+-- What is selected and done, node by node. Assumes nothing.
+use Prim.Native.Nat.{ℕ, zero, suc, _+_, _%_, _≤_, _<_}
+use mathlib.Core.Bool.{Bool, true, false, cond, not, _&&_}
+use mathlib.Core.Path.{_≡_, refl, sym, ap, _∙_}
+use mathlib.Core.List.{List, [], _∷_, _++_, map}
+use native.Mathlib.Omega.{arith}
+use borrow.Author.Tests.{eq-eqb, ne-eqb}
+use lib.Dec.{eqb}
+use lib.ListN.{length, take, drop, getD, length-map}
+use lib.Seq.{take-at}
+use Rattle.rights.specs.Automaton.{bit}
+use Rattle.rights.specs.Table.{recordsFrom, count, tableOk}
+use Rattle.views.specs.Marks.{marksOf, markCount, marked, eachFrom}
+use Rattle.views.specs.Shown.{Stored, storedFrom, stored, storedLevel, granted, shownAfter, shown, keep, numberOf, shownNumbers}
+use Rattle.views.specs.Done.{does, askedOf, doneMarks, inTable, isNext, byNumbers}
+use Rattle.views.specs.declared.done.Change.{Change}
+use Rattle.views.proofs.MarkLaws.{marks-bits, each-at}
+use Rattle.views.proofs.StoredNodes.{good}
+use Rattle.views.proofs.ViewLaws.{Every, every-keep, every-map, number-mod}
+
+-- Record i is done exactly if the change does a node with its level, rights and label, shown and selected as it is, under its parent.
+pub done-at : (c : Change) (word : List ℕ → Bool) (t ss : List ℕ) (ms : List Bool) (i : ℕ) → i < count t
+    → getD (doneMarks c word t ss ms) i false ≡ does c (askedOf word t ss ms i)
+done-at c word t ss ms i h =
+    let z : 0 + i ≡ i = omega arith in
+    rw z at (each-at (λ k. does c (askedOf word t ss ms k)) false 0 (count t) i h)
+
+each-length : {A : Type 0} (f : ℕ → A) (i n : ℕ) → length (eachFrom f i n) ≡ n
+unfolding eachFrom
+each-length f i zero = refl
+each-length f i (suc n) = ap suc (each-length f (suc i) n)
+
+pub done-length : (c : Change) (word : List ℕ → Bool) (t ss : List ℕ) (ms : List Bool) → length (doneMarks c word t ss ms) ≡ count t
+done-length c word t ss ms = each-length (λ k. does c (askedOf word t ss ms k)) 0 (count t)
+
+-- S and D: the marks that were written, counted
+pub marked-bits : (bs : List Bool) (s : List ℕ) (n : ℕ) → length bs ≡ n → marked n (map bit bs ++ s) ≡ markCount bs
+marked-bits bs s n e = ap (λ l. markCount (marksOf l)) (take-at (map bit bs) s n (length-map bs bit ∙ e)) ∙ ap markCount (marks-bits bs)
+
+-- Selected records
+
+-- "Paths of E run on the view": a selected record is shown
+pub selected-shown : (bs ms : List Bool) (i : ℕ) → getD (inTable bs ms) i false ≡ true → getD bs i false ≡ true
+unfolding inTable
+selected-shown [] ms i e = e
+selected-shown (true ∷ bs) ms zero e = refl
+selected-shown (true ∷ bs) ms (suc i) e = selected-shown bs (drop 1 ms) i e
+selected-shown (false ∷ bs) ms zero e = e
+selected-shown (false ∷ bs) ms (suc i) e = selected-shown bs ms i e
+
+-- the marks of the shown records, in document order, are those of the view's nodes
+pub keep-in-table : (bs ms : List Bool) → markCount bs ≤ length ms → keep bs (inTable bs ms) ≡ take (markCount bs) ms
+unfolding inTable keep
+keep-in-table [] ms h = refl
+keep-in-table (true ∷ bs) [] h = absurd (omega arith)
+keep-in-table (true ∷ bs) (m ∷ ms) h = ap (λ l. m ∷ l) (keep-in-table bs ms (omega arith))
+keep-in-table (false ∷ bs) ms h = keep-in-table bs ms h
+
+-- "each counted once": as many records are selected as nodes of the view
+pub count-in-table : (bs ms : List Bool) → markCount bs ≤ length ms → markCount (inTable bs ms) ≡ markCount (take (markCount bs) ms)
+unfolding inTable
+count-in-table [] ms h = refl
+count-in-table (true ∷ bs) [] h = absurd (omega arith)
+count-in-table (true ∷ bs) (true ∷ ms) h = ap suc (count-in-table bs ms (omega arith))
+count-in-table (true ∷ bs) (false ∷ ms) h = count-in-table bs ms (omega arith)
+count-in-table (false ∷ bs) ms h = count-in-table bs ms h
+
+-- By numbers
+
+not-next : (xs : List ℕ) (i : ℕ) → Every (λ x. i < x % 16384) xs → isNext xs i ≡ false
+not-next [] i p = refl
+not-next (x ∷ xs) i p = ne-eqb (x % 16384) i (λ e. omega (arith, p .0))
+
+-- the nodes from j on, of a table of less than 16384
+abbrev From : ℕ → Stored → Type 0
+From j x = (j ≤ x .number) × (x .number < 16384)
+
+from : (i j : ℕ) (rs : List (List ℕ)) (ss : List ℕ) → j ≤ i → i + length rs ≤ 16384 → Every (From j) (storedFrom i rs ss)
+unfolding storedFrom
+from i j [] ss h k = tt
+from i j (r ∷ rs) [] h k = tt
+from i j (r ∷ rs) (s ∷ ss) h k = ((h, omega arith), from (suc i) j rs ss (omega arith) (omega arith))
+
+by-numbers : (bs ms : List Bool) (i : ℕ) (rs : List (List ℕ)) (ss : List ℕ) → length rs ≤ length ss → i + length rs ≤ 16384 → length bs ≡ length rs
+    → byNumbers (map numberOf (keep bs (storedFrom i rs ss))) ms (length rs) i ≡ inTable bs ms
+unfolding byNumbers inTable keep storedFrom
+by-numbers [] ms i [] ss a b e = refl
+by-numbers [] ms i (r ∷ rs) ss a b e = absurd (omega (arith, e))
+by-numbers (x ∷ bs) ms i [] ss a b e = absurd (omega (arith, e))
+by-numbers (x ∷ bs) ms i (r ∷ rs) [] a b e = absurd (omega arith)
+by-numbers (true ∷ bs) ms i (r ∷ rs) (s ∷ ss) a b e =
+    rw (eq-eqb _ i (number-mod (record { number = i; bytes = r; rights = s }) (omega arith)))
+    (ap (λ l. getD ms 0 false ∷ l) (by-numbers bs (drop 1 ms) (suc i) rs ss (omega arith) (omega arith) (omega (arith, e))))
+by-numbers (false ∷ bs) ms i (r ∷ rs) (s ∷ ss) a b e =
+    rw
+    (not-next (map numberOf (keep bs (storedFrom (suc i) rs ss))) i
+    (every-map (From (suc i)) (λ x. i < x % 16384) numberOf (λ x p. rw (number-mod x (p .1)) (p .0))
+    (keep bs (storedFrom (suc i) rs ss))
+    (every-keep (From (suc i)) bs (storedFrom (suc i) rs ss) (from (suc i) (suc i) rs ss (omega arith) (omega arith)))))
+    (ap (λ l. false ∷ l) (by-numbers bs ms (suc i) rs ss (omega arith) (omega arith) (omega (arith, e))))
+
+shown-length : (before : List (ℕ × Bool)) (i : ℕ) (rs : List (List ℕ)) (ss : List ℕ) → length rs ≤ length ss
+    → length (shownAfter storedLevel granted before (storedFrom i rs ss)) ≡ length rs
+unfolding shownAfter storedFrom
+shown-length before i [] ss h = refl
+shown-length before i (r ∷ rs) [] h = absurd (omega arith)
+shown-length before i (r ∷ rs) (s ∷ ss) h = ap suc (shown-length _ (suc i) rs ss (omega arith))
+
+records-length : (t : List ℕ) (n i : ℕ) → length (recordsFrom t n i) ≡ n
+unfolding recordsFrom
+records-length t zero i = refl
+records-length t (suc n) i = ap suc (records-length t n (suc i))
+
+-- the marks of the shown nodes, at the places that their numbers name, are at the places of their records
+pub numbers-in-table : (t ss : List ℕ) (ms : List Bool) → tableOk t ≡ true → count t ≤ length ss
+    → byNumbers (shownNumbers (stored t ss)) ms (count t) 0 ≡ inTable (shown (stored t ss)) ms
+numbers-in-table t ss ms ok h =
+    let g = good t ok in
+    let n = records-length t (count t) 0 in
+    ap (λ k. byNumbers (shownNumbers (stored t ss)) ms k 0) (sym n)
+    ∙ by-numbers (shown (stored t ss)) ms 0 (recordsFrom t (count t) 0) ss (omega (arith, n, h)) (omega (arith, n, g .few)) (shown-length [] 0 (recordsFrom t (count t) 0) ss (omega (arith, n, h)))

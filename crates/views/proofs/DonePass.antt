@@ -1,0 +1,151 @@
+-- The pass that marks what a change does: its step and its end. Assumes nothing.
+use Prim.Native.Nat.{ℕ, zero, suc, _+_, _*_, _-_, _≤_, _<_}
+use mathlib.Core.Bool.{Bool, true, false, cond, not, _&&_}
+use mathlib.Core.Path.{_≡_, refl, sym, ap, _∙_}
+use mathlib.Core.List.{List, [], _∷_, _++_, map}
+use native.Mathlib.Numerals.{add-one}
+use native.Mathlib.Nat.{sub-zero}
+use native.Mathlib.Omega.{arith}
+use lib.Dec.{eqb, ltb, leb}
+use lib.ListN.{length, take, drop, getD, set, length-set, replicate, getD-replicate}
+use lib.Seq.{drop-drop, getD-drop}
+use Rattle.rights.specs.Automaton.{bit}
+use Rattle.rights.specs.Policy.{insert}
+use Rattle.rights.specs.Rights.{holds}
+use Rattle.rights.specs.Table.{recordAt, level, label, count, tableOk}
+use Rattle.rights.proofs.Lists.{byCase}
+use Rattle.views.specs.Marks.{marksOf, eachFrom}
+use Rattle.views.specs.Shown.{atParent, nearestFirst, stored, storedLevel, grants, granted, depthAfter, shown, shownFrom}
+use Rattle.views.specs.Done.{Asked, does, askedOf, doneMarks}
+use Rattle.views.specs.declared.done.Change.{Change}
+use Rattle.views.proofs.Fill.{push-take, push-drop, filled}
+use Rattle.views.proofs.MarkLaws.{mark-at, each-step, each-end}
+use Rattle.views.proofs.StoredNodes.{good, level-at, storedAt, rest, rest-step, rest-whole, table-by-depth}
+
+pub set-bit : (x : ℕ) (b : Bool) → x ≡ bit b → not (eqb x 0) ≡ b
+set-bit x true e = rw e
+set-bit x false e = rw e
+
+-- a slot a level: what f says of the node above
+module _ (lv : ℕ → ℕ) (f : ℕ → Bool) where
+  abbrev pub Slots : List ℕ → ℕ → Type 0
+  Slots a i = (l : ℕ) → l < 16 → getD a l 0 ≡ bit (atParent false (nearestFirst (λ k. (lv k, f k)) i) l)
+
+  pub slots-first : Slots (replicate 16 0) 0
+  unfolding atParent nearestFirst
+  slots-first l h = getD-replicate 16 l 0 0 h
+
+  pub slots-next : (a a' : List ℕ) (i k u : ℕ) → k ≡ lv i → u ≡ bit (f i) → Slots a i
+      → ((l : ℕ) → l < 16 → getD a' l 0 ≡ cond (ltb k l) u (getD a l 0)) → Slots a' (i + 1)
+  unfolding atParent nearestFirst
+  slots-next a a' i k u p q inv g l h =
+      g l h
+      ∙ rw (p, q, inv l h, add-one i)
+      (byCase (ltb (lv i) l) (λ e. rw e) (λ e. rw e))
+
+module _ (c : Change) (word : List ℕ → Bool) (t ss m d₀ : List ℕ) (n : ℕ) where
+  abbrev pub isDoneAt : ℕ → Bool
+  isDoneAt i = does c (askedOf word t ss (marksOf m) i)
+
+  abbrev pub levelIn : ℕ → ℕ
+  levelIn k = level (recordAt t k)
+
+  abbrev pub selectedIn : ℕ → Bool
+  selectedIn k = getD (marksOf m) k false
+
+  abbrev pub insertIn : ℕ → Bool
+  insertIn k = holds insert (getD ss k 0)
+
+  pub record Marking (o a b : List ℕ) (d i : ℕ) : Type 0 where
+    pub within : i ≤ n
+    pub size : length o ≡ length d₀
+    pub after : drop i o ≡ drop i d₀
+    pub chosen : length a ≡ 16
+    pub granting : length b ≡ 16
+    pub chosen-is : Slots levelIn selectedIn a i
+    pub granting-is : Slots levelIn insertIn b i
+    pub depth-is : drop i (shown (stored t ss)) ≡ shownFrom storedLevel granted d (rest t ss n i)
+    pub written : take i o ++ map bit (eachFrom isDoneAt i (n - i)) ≡ map bit (eachFrom isDoneAt 0 n)
+
+  -- what is asked of a node is what the pass finds
+  found : (i k s : ℕ) (on sel up may z : Bool) → k ≡ levelIn i → s ≡ getD ss i 0 → on ≡ getD (shown (stored t ss)) i false → sel ≡ selectedIn i
+      → up ≡ atParent false (nearestFirst (λ j. (levelIn j, selectedIn j)) i) (levelIn i)
+      → may ≡ atParent false (nearestFirst (λ j. (levelIn j, insertIn j)) i) (levelIn i)
+      → z ≡ does c (record { level = k; rights = s; shown = on; selected = sel; word = word (label (recordAt t i)); parentSelected = up; parentInsert = may })
+      → z ≡ isDoneAt i
+  found i k s on sel up may z p q r e u w x = x ∙ rw (p, q, r, e, u, w) refl
+
+  -- the next of the shown marks
+  shown-next : (i : ℕ) (s tl : List Bool) (b : Bool) → drop i s ≡ b ∷ tl → (getD s i false ≡ b) × (drop (i + 1) s ≡ tl)
+  shown-next i s tl b e =
+      let z : i + 0 ≡ i = omega arith in
+      ((rw z at (sym (getD-drop i s 0 false))) ∙ ap (λ l. getD l 0 false) e, sym (drop-drop 1 i s) ∙ ap (drop 1) e)
+
+  pub marking-more : (o a b a' b' : List ℕ) (d i k e v u w : ℕ) (on sel up may z : Bool) → i < n → n ≤ length d₀ → n ≤ length ss
+      → getD t (4 + i * 32) 0 < 12
+      → k ≡ getD t (4 + i * 32) 0
+      → Marking o a b d i
+      → on ≡ (grants (getD ss i 0) && leb (getD t (4 + i * 32) 0) d)
+      → sel ≡ not (eqb (getD m i 0) 0)
+      → up ≡ not (eqb (getD a k 0) 0)
+      → may ≡ not (eqb (getD b k 0) 0)
+      → z ≡ does c (record { level = getD t (4 + i * 32) 0; rights = getD ss i 0; shown = on; selected = sel; word = word (label (recordAt t i)); parentSelected = up; parentInsert = may })
+      → v ≡ bit z
+      → u ≡ bit sel
+      → w ≡ bit (insertIn i)
+      → (length a' ≡ 16) × ((l : ℕ) → l < 16 → getD a' l 0 ≡ cond (ltb k l) u (getD a l 0))
+      → (length b' ≡ 16) × ((l : ℕ) → l < 16 → getD b' l 0 ≡ cond (ltb k l) w (getD b l 0))
+      → e ≡ depthAfter d (getD t (4 + i * 32) 0) on
+      → Marking (set o i v) a' b' e (i + 1)
+  unfolding shownFrom
+  marking-more o a b a' b' d i k e v u w on sel up may z h hd hs low ke g p q r x y vv uu ww ga gb ee =
+      let lv : getD t (4 + i * 32) 0 ≡ levelIn i = sym (level-at t i) in
+      let kl : k ≡ levelIn i = ke ∙ lv in
+      let size = g .size in
+      let here : drop i (shown (stored t ss)) ≡ on ∷ shownFrom storedLevel granted e (rest t ss n (i + 1)) = g .depth-is ∙ rw (rest-step t ss n i h (omega arith), level-at t i, ee, p) refl in
+      let nx = shown-next i (shown (stored t ss)) (shownFrom storedLevel granted e (rest t ss n (i + 1))) on here in
+      let se : sel ≡ selectedIn i = q ∙ sym (mark-at m i) in
+      let ue : up ≡ atParent false (nearestFirst (λ j. (levelIn j, selectedIn j)) i) (levelIn i) = r ∙ set-bit _ _ (g .chosen-is k (omega arith)) ∙ ap (atParent false (nearestFirst (λ j. (levelIn j, selectedIn j)) i)) kl in
+      let me : may ≡ atParent false (nearestFirst (λ j. (levelIn j, insertIn j)) i) (levelIn i) = x ∙ set-bit _ _ (g .granting-is k (omega arith)) ∙ ap (atParent false (nearestFirst (λ j. (levelIn j, insertIn j)) i)) kl in
+      let f : z ≡ isDoneAt i = found i (getD t (4 + i * 32) 0) (getD ss i 0) on sel up may z lv refl (sym (nx .0)) se ue me y in
+      record {
+        within = omega arith;
+        size = length-set o i v ∙ size;
+        after = push-drop o i v d₀ (g .after);
+        chosen = ga .0;
+        granting = gb .0;
+        chosen-is = slots-next levelIn selectedIn a a' i k u kl (uu ∙ ap bit se) (g .chosen-is) (ga .1);
+        granting-is = slots-next levelIn insertIn b b' i k w kl ww (g .granting-is) (gb .1);
+        depth-is = nx .1;
+        written =
+            sym
+            (push-take o i v (omega arith)
+            (ap (map bit) (each-step isDoneAt n i h) ∙ ap (λ k. k ∷ map bit (eachFrom isDoneAt (i + 1) (n - (i + 1)))) (sym (vv ∙ ap bit f))))
+            ∙ g .written;
+      }
+
+  pub marking-end : (o a b : List ℕ) (d i : ℕ) → n ≤ i → Marking o a b d i → o ≡ map bit (eachFrom isDoneAt 0 n) ++ drop n d₀
+  marking-end o a b d i h g =
+      let k = g .within in
+      let e : i ≡ n = omega arith in
+      filled o d₀ (map bit (eachFrom isDoneAt 0 n)) n
+      (ap (λ l. take n o ++ map bit l) (sym (each-end isDoneAt n n (omega arith))) ∙ (rw e at (g .written)))
+      (rw e at (g .after))
+
+  pub marking-start : n ≡ count t → tableOk t ≡ true → Marking d₀ (replicate 16 0) (replicate 16 0) 0 0
+  marking-start e ok =
+      record {
+        within = omega arith;
+        size = refl;
+        after = refl;
+        chosen = refl;
+        granting = refl;
+        chosen-is = slots-first levelIn selectedIn;
+        granting-is = slots-first levelIn insertIn;
+        depth-is = table-by-depth t ss ok ∙ rw e (ap (shownFrom storedLevel granted 0) (sym (rest-whole t ss (count t))));
+        written = ap (λ k. map bit (eachFrom isDoneAt 0 k)) (sub-zero n);
+      }
+
+  pub marking-gives : (o a b : List ℕ) (d i : ℕ) → n ≡ count t → n ≤ i → Marking o a b d i
+      → o ≡ map bit (doneMarks c word t ss (marksOf m)) ++ drop (count t) d₀
+  marking-gives o a b d i e h g = rw e at (marking-end o a b d i h g)

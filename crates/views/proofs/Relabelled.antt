@@ -1,0 +1,96 @@
+-- Laws of a renaming. Assumes nothing.
+use mathlib.Core.Path.{_≡_, ap, sym, _∙_}
+use mathlib.Core.List.{List, _++_, append-assoc, append-nil}
+use mathlib.Core.Bool.{true, cond, not}
+use Prim.Native.Nat.{ℕ, _+_, _-_, _*_, _≤_, _<_}
+use native.Mathlib.Omega.{arith}
+use native.Mathlib.Nat.{zero-add}
+use lib.ListN.{length, getD, take, drop, replicate, take-append-drop, length-append, length-drop}
+use lib.Seq.{take-take, drop-drop, take-at, drop-at, length-take-le, take-append-le}
+use lib.Dec.{eqb}
+use borrow.Author.Tests.{eq-eqb, ne-eqb}
+use Rattle.views.proofs.Chunks.{join-chunks}
+use Rattle.views.proofs.Copies.{drop-more}
+use Rattle.views.proofs.RecordBytes.{rest-cons, rest-same, rest-none}
+use Rattle.views.proofs.Chunks.{level-first, one-more, marks-drop}
+use Rattle.rights.specs.Table.{level, count, tableOk}
+use Rattle.rights.specs.Record.{recordOf}
+use Rattle.rights.proofs.RecordLaws.{length-record}
+use Rattle.views.proofs.TableFacts.{facts, count-bytes, zero-replicate}
+use Rattle.views.proofs.Waiting.{length-rename}
+use Rattle.views.specs.Change.{rename, chunks, relabel, renamed, changed}
+use Rattle.views.specs.Marks.{marksOf}
+use Rattle.views.specs.Pass.{rest}
+
+-- a label stored in a record
+module _ (t p s : List ℕ) (i : ℕ) (room : 4 + i * 32 + 32 ≤ length t) (short : length s ≤ 24)
+    (e : p ≡ take (4 + i * 32) t ++ (recordOf (getD t (4 + i * 32) 0) s ++ drop (4 + i * 32 + 32) t)) where
+  new : List ℕ
+  new = recordOf (getD t (4 + i * 32) 0) s
+
+  length-new : length (take (4 + i * 32) t ++ new) ≡ 4 + i * 32 + 32
+  unfolding new
+  length-new = rw (length-append, length-take-le (4 + i * 32) t (omega arith), length-record (getD t (4 + i * 32) 0) s short)
+
+  parts : p ≡ (take (4 + i * 32) t ++ new) ++ drop (4 + i * 32 + 32) t
+  unfolding new
+  parts = e ∙ sym (append-assoc (take (4 + i * 32) t) (recordOf (getD t (4 + i * 32) 0) s) (drop (4 + i * 32 + 32) t))
+
+  pub label-front : take (4 + i * 32 + 32) p ≡ take (4 + i * 32) t ++ relabel s (take 32 (drop (4 + i * 32) t))
+  unfolding new
+  label-front = rw (level-first (4 + i * 32) t) (ap (take (4 + i * 32 + 32)) parts ∙ take-at (take (4 + i * 32) t ++ new) (drop (4 + i * 32 + 32) t) (4 + i * 32 + 32) length-new)
+
+  pub label-back : drop (4 + i * 32 + 32) p ≡ drop (4 + i * 32 + 32) t
+  label-back = ap (drop (4 + i * 32 + 32)) parts ∙ drop-at (take (4 + i * 32) t ++ new) (drop (4 + i * 32 + 32) t) (4 + i * 32 + 32) length-new
+
+pub new-label : (b : ℕ) (x y z w : List ℕ) → (b ≡ 0 → ⊥) → x ≡ y ++ z → x ≡ y ++ cond (not (eqb b 0)) z w
+new-label b x y z w n e = rw (ne-eqb b 0 n) e
+
+pub old-label : (b i : ℕ) (t z : List ℕ) → b ≡ 0 → take (4 + i * 32 + 32) t ≡ take (4 + i * 32) t ++ cond (not (eqb b 0)) z (take 32 (drop (4 + i * 32) t))
+old-label b i t z n = rw (eq-eqb b 0 n) (lib.Seq.take-add (4 + i * 32) 32 t)
+
+module _ (n : ℕ) (lb ms : List ℕ) where
+  pub naming : ℕ → List ℕ → List (List ℕ)
+  naming i t = chunks i (drop 4 t) ++ renamed lb (drop i ms) (rest n 0 i t)
+
+  pub naming-none : (t : List ℕ) → naming 0 t ≡ renamed lb ms (chunks n (drop 4 t))
+  unfolding naming chunks
+  naming-none t = let z : n - 0 ≡ n = omega arith in rw z
+
+  pub naming-all : (i : ℕ) (t : List ℕ) → n ≤ i → naming i t ≡ chunks i (drop 4 t)
+  unfolding naming rename
+  naming-all i t h = rw (rest-none n 0 i t h, append-nil)
+
+  module _ (i : ℕ) (t p : List ℕ) (inside : i < n) (many : n ≤ length ms) (size : 4 + n * 32 ≤ length t)
+      (head : take (4 + i * 32 + 32) p ≡ take (4 + i * 32) t ++ cond (not (eqb (getD ms i 0) 0)) (relabel lb (take 32 (drop (4 + i * 32) t))) (take 32 (drop (4 + i * 32) t)))
+      (back : drop (4 + i * 32 + 32) p ≡ drop (4 + i * 32 + 32) t) where
+    pub naming-more : naming (i + 1) p ≡ naming i t
+    unfolding naming rename
+    naming-more =
+        let h : i < length ms = omega arith in
+        let o = one-more i t p _ (omega arith) head in
+        let r : rest n 0 (i + 1) p ≡ rest n 0 (i + 1) t = rest-same n 0 (i + 1) (4 + i * 32 + 32) t p (omega arith) back in
+        rw (o, r, rest-cons n 0 i t inside, marks-drop ms i h, zero-add i) (append-assoc (chunks i (drop 4 t)) _ _)
+
+    pub count-stays : take 4 p ≡ take 4 t
+    count-stays =
+        let a : 4 ≤ 4 + i * 32 + 32 = omega arith in
+        let b : 4 ≤ 4 + i * 32 = omega arith in
+        let c : 4 ≤ length (take (4 + i * 32) t) = rw (length-take-le (4 + i * 32) t (omega arith)) b in
+        sym (take-take 4 (4 + i * 32 + 32) p a) ∙ ap (take 4) head ∙ take-append-le 4 (take (4 + i * 32) t) _ c ∙ take-take 4 (4 + i * 32) t b
+
+    pub tail-stays : drop (4 + n * 32) p ≡ drop (4 + n * 32) t
+    tail-stays = drop-more (4 + i * 32 + 32) ((n - (i + 1)) * 32) p t (4 + n * 32) (omega arith) back
+
+-- the whole table
+pub length-renamed : (lb ms : List ℕ) (rs : List (List ℕ)) → length (renamed lb ms rs) ≡ length rs
+length-renamed lb ms rs = length-rename level (relabel lb) (marksOf ms) rs
+
+pub renamed-table : (t p : List ℕ) (rs : List (List ℕ)) → tableOk t ≡ true → ((i : ℕ) → getD t i 0 < 256) → length p ≡ length t → length rs ≡ count t
+    → chunks (count t) (drop 4 p) ≡ rs → take 4 p ≡ take 4 t → drop (4 + count t * 32) p ≡ drop (4 + count t * 32) t → p ≡ changed t rs
+unfolding changed
+renamed-table t p rs ok small l k e a b =
+    let f = facts t ok in
+    let z : drop (4 + count t * 32) t ≡ replicate (length t - (4 + count t * 32)) 0 = rw (← length-drop (4 + count t * 32) t) (zero-replicate (drop (4 + count t * 32) t) (f .clear)) in
+    sym (take-append-drop 4 p)
+    ∙ rw (a, k, ← count-bytes t (f .head) small, ← z, ← b, ← e, join-chunks (count t) (drop 4 p), ← drop-drop (count t * 32) 4 p, take-append-drop (count t * 32) (drop 4 p))

@@ -1,0 +1,143 @@
+-- The nodes of a table with the rights on each: one step of a loop over them, and what a table that passes its check gives. Assumes nothing.
+use Prim.Native.Nat.{ℕ, zero, suc, _+_, _*_, _-_, _/_, _≤_, _<_, min}
+use mathlib.Core.Bool.{Bool, true, false, cond, _&&_, and-eq-true-iff}
+use mathlib.Core.Path.{_≡_, refl, sym, ap, _∙_}
+use mathlib.Core.List.{List, [], _∷_, _++_, map}
+use native.Mathlib.Numerals.{add-one}
+use native.Mathlib.Nat.{add-zero, sub-zero, div-mul-le-self}
+use native.Mathlib.Omega.{arith}
+use borrow.Author.Tests.{leb-true}
+use lib.Dec.{leb, lit<}
+use lib.ListN.{length, take, drop, getD, set}
+use lib.Seq.{drop-cons, getD-take, getD-drop}
+use Rattle.rights.specs.Table.{recordAt, recordsFrom, records, level, recordOk, recordsOk, tableOk, count, capacity}
+use Rattle.rights.proofs.Records.{records-step, records-end}
+use Rattle.rights.specs.PolicyBytes.{Text}
+use Rattle.rights.proofs.Texts.{byte-at}
+use Rattle.rights.proofs.Facts.{Sound, all-sound, both}
+use Rattle.views.specs.Shown.{Stored, storedFrom, stored, storedLevel, grants, granted, depthAfter, isShownAt, shown, shownFrom, keep, numberOf, shownNumbers, numbersFrom}
+use Rattle.views.proofs.Fill.{put-take, put-drop, put-length, put-next, filled, filled-length}
+use Rattle.views.proofs.ShownDepth.{Steps, shown-by-depth}
+
+-- What a table's check gives.
+pub record Good (t : List ℕ) : Type 0 where
+  pub head : 4 ≤ length t
+  pub room : 4 + count t * 32 ≤ length t
+  pub few : count t ≤ 16384
+  pub ordered : recordsOk 0 0 (records t) ≡ true
+
+pub good : (t : List ℕ) → tableOk t ≡ true → Good t
+unfolding tableOk
+good t e =
+    let f = simp (tableOk, and-eq-true-iff) at e in
+    let h : 4 ≤ length t = leb-true _ _ (f .0) in
+    let c : count t ≤ capacity (length t) = leb-true _ _ (f .1 .0) in
+    record {
+      head = h;
+      room = omega (arith, div-mul-le-self (length t - 4) 32);
+      few = omega arith;
+      ordered = f .1 .1 .0;
+    }
+
+pub level-at : (t : List ℕ) (i : ℕ) → level (recordAt t i) ≡ getD t (4 + i * 32) 0
+level-at t i = rw (getD-take 32 (drop (4 + i * 32) t) 0 0 (lit< tt), getD-drop, add-zero)
+
+-- what a record of a table holds
+pub record-text : (t : List ℕ) → tableOk t ≡ true → (i : ℕ) → i < count t → Text t (4 + i * 32) × (getD t (4 + i * 32) 0 < 12)
+record-text t ok i h =
+    let g = good t ok in
+    let f = all-sound 0 0 t (count t) 0 i (g .ordered) h in
+    let k : 0 + i ≡ i = omega arith in
+    let s : Sound (recordAt t i) = rw k at f in
+    let b = byte-at t (4 + i * 32) 1 (omega arith) in
+    let a = level-at t i in
+    (record { room = omega (arith, g .room); some = omega (arith, s .some-label); short = omega (arith, s .short-label) }, omega (arith, s .low-level))
+
+-- node i of a table
+abbrev pub storedAt : List ℕ → List ℕ → ℕ → Stored
+storedAt t ss i = record { number = i; bytes = recordAt t i; rights = getD ss i 0 }
+
+-- the nodes from i on, of n
+abbrev pub rest : List ℕ → List ℕ → ℕ → ℕ → List Stored
+rest t ss n i = storedFrom i (recordsFrom t (n - i) i) (drop i ss)
+
+module _ (t ss : List ℕ) (n i : ℕ) where
+  pub rest-step : i < n → i < length ss → rest t ss n i ≡ storedAt t ss i ∷ rest t ss n (i + 1)
+  unfolding storedFrom
+  rest-step h k = rw (records-step t n i h, add-one i, drop-cons ss i 0)
+
+  pub rest-end : n ≤ i → rest t ss n i ≡ []
+  unfolding storedFrom
+  rest-end h = rw (records-end t n i h)
+
+pub rest-whole : (t ss : List ℕ) (n : ℕ) → rest t ss n 0 ≡ storedFrom 0 (recordsFrom t n 0) ss
+rest-whole t ss n = rw (sub-zero n)
+
+pub stored-steps : (low high i : ℕ) (rs : List (List ℕ)) (ss : List ℕ) → recordsOk low high rs ≡ true → Steps storedLevel granted high (storedFrom i rs ss)
+unfolding recordsOk recordOk storedFrom
+stored-steps low high i [] ss e = tt
+stored-steps low high i (r ∷ rs) [] e = tt
+stored-steps low high i (r ∷ rs) (s ∷ ss) e =
+    let w = both (recordOk low high r) (recordsOk 1 (level r + 1) rs) e in
+    (leb-true _ _ ((simp and-eq-true-iff at (w .0)) .1 .0), stored-steps 1 (level r + 1) (suc i) rs ss (w .1))
+
+-- the shown nodes of a table, by one number
+pub table-by-depth : (t ss : List ℕ) → tableOk t ≡ true → shown (stored t ss) ≡ shownFrom storedLevel granted 0 (stored t ss)
+table-by-depth t ss e = shown-by-depth storedLevel granted (stored t ss) (stored-steps 0 0 0 (records t) ss (good t e .ordered))
+
+map-cond : {A B : Type 0} (f : A → B) (b : Bool) (x : A) (xs : List A) → map f (cond b (x ∷ xs) xs) ≡ cond b (f x ∷ map f xs) (map f xs)
+map-cond f true x xs = refl
+map-cond f false x xs = refl
+
+module _ (t ss : List ℕ) (n i d : ℕ) where
+  pub numbers-step : (b : Bool) (m e : ℕ) → i < n → i < length ss → b ≡ isShownAt storedLevel granted d (storedAt t ss i) → m ≡ numberOf (storedAt t ss i)
+      → e ≡ depthAfter d (level (recordAt t i)) b
+      → numbersFrom d (rest t ss n i) ≡ cond b (m ∷ numbersFrom e (rest t ss n (i + 1))) (numbersFrom e (rest t ss n (i + 1)))
+  unfolding shownFrom keep
+  numbers-step b m e h k p q r = rw (rest-step t ss n i h k, r, q, p)
+      (map-cond numberOf (isShownAt storedLevel granted d (storedAt t ss i)) (storedAt t ss i)
+      (keep (shownFrom storedLevel granted (depthAfter d (level (recordAt t i)) (isShownAt storedLevel granted d (storedAt t ss i))) (rest t ss n (i + 1))) (rest t ss n (i + 1))))
+
+  pub numbers-end : n ≤ i → numbersFrom d (rest t ss n i) ≡ []
+  unfolding shownFrom keep
+  numbers-end h = rw (rest-end t ss n i h)
+
+-- The loop that writes the numbers: k of them stand at the front of s, of the first i nodes.
+module _ (t ss s₀ : List ℕ) (n : ℕ) where
+  abbrev pub Showing : List ℕ → ℕ → ℕ → ℕ → Type 0
+  Showing s d k i =
+      (i ≤ n)
+      × (k ≤ i)
+      × (length s ≡ length s₀)
+      × (drop k s ≡ drop k s₀)
+      × (take k s ++ numbersFrom d (rest t ss n i) ≡ numbersFrom 0 (rest t ss n 0))
+
+  pub showing-more : (s s' : List ℕ) (d k i k' e m : ℕ) (b : Bool) → i < n → n ≤ length ss → n ≤ length s₀ → Showing s d k i
+      → b ≡ (grants (getD ss i 0) && leb (getD t (4 + i * 32) 0) d)
+      → m ≡ numberOf (storedAt t ss i)
+      → k' ≡ cond b (k + 1) k
+      → s' ≡ cond b (set s k m) s
+      → e ≡ depthAfter d (getD t (4 + i * 32) 0) b
+      → Showing s' e k' (i + 1)
+  showing-more s s' d k i k' e m b h hs hn inv p q z y w =
+      rw (z, y) (
+        omega arith,
+        (let x = put-next s k m b in omega arith),
+        put-length s k m b ∙ inv .2,
+        put-drop s k m b s₀ (inv .3),
+        sym (put-take s k m b (numbersFrom e (rest t ss n (i + 1))) (omega arith))
+            ∙ ap (λ l. take k s ++ l) (sym (numbers-step t ss n i d b m e h (omega arith) (rw level-at p) q (rw level-at w)))
+            ∙ inv .4,
+      )
+
+  pub showing-end : (s : List ℕ) (d k i : ℕ) → n ≤ i → n ≤ length s₀ → Showing s d k i
+      → (k ≡ length (numbersFrom 0 (storedFrom 0 (recordsFrom t n 0) ss)))
+      × (s ≡ numbersFrom 0 (storedFrom 0 (recordsFrom t n 0) ss) ++ drop k s₀)
+  showing-end s d k i h hn inv =
+      let e : take k s ++ [] ≡ numbersFrom 0 (storedFrom 0 (recordsFrom t n 0) ss) = rw (← numbers-end t ss n i d h) (inv .4 ∙ ap (numbersFrom 0) (rest-whole t ss n)) in
+      (filled-length s _ k (omega arith) e, filled s s₀ _ k e (inv .3))
+
+pub show-gives : (t ss s s₀ : List ℕ) (n k : ℕ) → tableOk t ≡ true → n ≡ count t
+    → (k ≡ length (numbersFrom 0 (storedFrom 0 (recordsFrom t n 0) ss))) × (s ≡ numbersFrom 0 (storedFrom 0 (recordsFrom t n 0) ss) ++ drop k s₀)
+    → (k ≡ length (shownNumbers (stored t ss))) × (s ≡ shownNumbers (stored t ss) ++ drop k s₀)
+show-gives t ss s s₀ n k e q h = rw (table-by-depth t ss e) (rw q at h)

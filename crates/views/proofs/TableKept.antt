@@ -1,0 +1,335 @@
+-- The table after a change passes the check (refusal 13 never comes of a change). Assumes nothing.
+use Prim.Native.Nat.{ℕ, zero, suc, _+_, _-_, _*_, _/_, _≤_, _<_, min}
+use mathlib.Core.Bool.{Bool, true, false, not, _&&_, false≢true}
+use mathlib.Core.Path.{_≡_, refl, sym, ap, _∙_}
+use mathlib.Core.List.{List, [], _∷_, _++_}
+use native.Mathlib.Omega.{arith}
+use native.Mathlib.Numerals.{add-one}
+use native.Mathlib.Nat.{add-zero}
+use borrow.Author.Tests.{leb-true, le-leb}
+use lib.Dec.{leb}
+use lib.ListN.{length, getD, drop, replicate, length-append, length-replicate, length-drop}
+use lib.Seq.{take-at, drop-at, drop-drop, length-take-le, getD-drop}
+use Rattle.rights.specs.Bytes.{all, isZero}
+use Rattle.rights.specs.Labels.{labelByte, sameLabel, restricted}
+use Rattle.rights.specs.Table.{recordOk, recordsOk, level, label, tableOk, count, capacity, records}
+use Rattle.rights.proofs.Facts.{both}
+use Rattle.rights.proofs.Lists.{byCase}
+use Rattle.rights.proofs.Records.{table-yes}
+use Rattle.rights.proofs.RecordLaws.{length-record}
+use Rattle.rights.proofs.RecordMade.{zeros-zero, made-ok, level-made}
+use Rattle.views.specs.declared.insert.Place.{Place}
+use Rattle.views.specs.declared.insert.Place.the-variants.{Append, After, Before}
+use Rattle.views.specs.Change.{isDone, later, dropBelow, putBehind, remove, insertBehind, insertInFront, rename, chunks, raise, lower, placed, removed, relabel, renamed, join, changed, deepest, tooDeep, hasRoom}
+use Rattle.views.specs.Marks.{marksOf, marked}
+use Rattle.views.specs.Pass.{Above, Front, AtDone, Shallow}
+use Rattle.views.specs.Nodes.{All, Nested, TreeOk, LabelOk}
+use Rattle.views.proofs.Chunks.{all-chunks, length-chunks, level-first}
+use Rattle.views.proofs.TableFacts.{facts}
+use Rattle.views.proofs.Waiting.{length-rename}
+use Rattle.views.proofs.RecordBytes.{length-raised, above-raise}
+use Rattle.views.proofs.Whole.{placed-length}
+use Rattle.views.proofs.Depth.{shallow-places}
+use Rattle.views.proofs.NestedLaws.{nested-remove, nested-insertBehind, nested-insertInFront, nested-rename, all-remove, all-putBehind, all-insertBehind, all-insertInFront, all-rename, done-from, drop-all, shorter-remove}
+
+abbrev pub Full : List ℕ → Type 0
+Full r = length r ≡ 32
+
+-- records of 32 bytes each, one after the other
+pub length-join : (rs : List (List ℕ)) → All Full rs → length (join rs) ≡ length rs * 32
+unfolding join
+length-join [] a = refl
+length-join (r ∷ rs) a = rw (length-append r (join rs)) (omega (arith, a .0, length-join rs (a .1)))
+
+pub chunks-join : (rs : List (List ℕ)) (z : List ℕ) → All Full rs → chunks (length rs) (join rs ++ z) ≡ rs
+unfolding chunks join
+chunks-join [] z a = refl
+chunks-join (r ∷ rs) z a =
+    let e : (r ++ join rs) ++ z ≡ r ++ (join rs ++ z) = mathlib.Core.List.append-assoc r (join rs) z in
+    rw (e, take-at r (join rs ++ z) 32 (a .0), drop-at r (join rs ++ z) 32 (a .0)) (ap (λ (u : List (List ℕ)). r ∷ u) (chunks-join rs z (a .1)))
+
+-- what is read of the bytes that a change leaves
+module _ (t : List ℕ) (rs : List (List ℕ)) (head : 4 ≤ length t) (room : length rs ≤ capacity (length t)) (full : All Full rs) where
+  fits : (length rs ≤ 16384) × (4 + length rs * 32 ≤ length t)
+  fits = let r : length rs ≤ min ((length t - 4) / 32) 16384 = room in (omega (arith, r), omega (arith, r, head))
+
+  pub length-changed : length (changed t rs) ≡ length t
+  unfolding changed
+  length-changed =
+      rw (length-append (join rs) (replicate (length t - (4 + length rs * 32)) 0), length-join rs full, length-replicate {A = ℕ} (length t - (4 + length rs * 32)) 0) (omega (arith, fits .1))
+
+  pub count-changed : count (changed t rs) ≡ length rs
+  unfolding changed
+  count-changed = let n : ℕ = length rs in let h : n ≤ 16384 = fits .0 in omega (arith, h)
+
+  back : drop 4 (changed t rs) ≡ join rs ++ replicate (length t - (4 + length rs * 32)) 0
+  unfolding changed
+  back = refl
+
+  pub records-changed : records (changed t rs) ≡ rs
+  records-changed = all-chunks (changed t rs) ∙ rw (count-changed, back) (chunks-join rs (replicate (length t - (4 + length rs * 32)) 0) full)
+
+  clear : all isZero (drop (4 + count (changed t rs) * 32) (changed t rs)) ≡ true
+  clear =
+      rw (count-changed, ← drop-drop (length rs * 32) 4 (changed t rs), back, drop-at (join rs) (replicate (length t - (4 + length rs * 32)) 0) (length rs * 32) (length-join rs full))
+      (zeros-zero (length t - (4 + length rs * 32)))
+
+  pub changed-ok : recordsOk 0 0 rs ≡ true → tableOk (changed t rs) ≡ true
+  changed-ok e = table-yes (changed t rs) (rw length-changed head) (rw (length-changed, count-changed) room) (rw records-changed e) ∙ clear
+
+-- a record apart from its level
+abbrev named : List ℕ → Bool
+named r =
+    leb 1 (getD r 1 0) && (leb (getD r 1 0) 24 && (all labelByte (label r) && (not (sameLabel (label r) restricted) && all isZero (drop (2 + getD r 1 0) r))))
+
+pub loosen : (low high : ℕ) (r : List ℕ) → recordOk low high r ≡ true → (low ≤ level r) × (level r ≤ high) × (recordOk 0 11 r ≡ true)
+unfolding recordOk
+loosen low high r e =
+    let f = both (leb low (level r)) (leb (level r) high && (leb (level r) 11 && named r)) e in
+    let g = both (leb (level r) high) (leb (level r) 11 && named r) (f .1) in
+    let h = both (leb (level r) 11) (named r) (g .1) in
+    (leb-true _ _ (f .0), leb-true _ _ (g .0), rw (le-leb 0 (level r) (omega arith), h .0) (h .1))
+
+parts : (r : List ℕ) → recordOk 0 11 r ≡ true → (leb (level r) 11 ≡ true) × (named r ≡ true)
+unfolding recordOk
+parts r e =
+    let f = both (leb 0 (level r)) (leb (level r) 11 && (leb (level r) 11 && named r)) e in
+    let g = both (leb (level r) 11) (leb (level r) 11 && named r) (f .1) in
+    both (leb (level r) 11) (named r) (g .1)
+
+pub tighten : (low high : ℕ) (r : List ℕ) → low ≤ level r → level r ≤ high → recordOk 0 11 r ≡ true → recordOk low high r ≡ true
+unfolding recordOk
+tighten low high r a b e =
+    let h = parts r e in
+    rw (le-leb low (level r) a, le-leb (level r) high b, h .0) (h .1)
+
+-- a record with another level
+pub relevel : (l : ℕ) (xs : List ℕ) → l ≤ 11 → recordOk 0 11 (0 ∷ xs) ≡ true → recordOk 0 11 (l ∷ xs) ≡ true
+unfolding recordOk
+relevel l xs h e =
+    let z : 2 + getD xs 0 0 ≡ suc (suc (getD xs 0 0)) = omega arith in
+    let k = rw z at (parts (0 ∷ xs) e .1) in
+    rw (le-leb 0 l (omega arith), le-leb l 11 h, z) k
+
+-- a record below the root
+abbrev pub Good : List ℕ → Type 0
+Good r = (1 ≤ level r) × (length r ≡ 32) × (recordOk 0 11 r ≡ true)
+
+good-full : (rs : List (List ℕ)) → All Good rs → All Full rs
+good-full [] a = tt
+good-full (r ∷ rs) a = (a .0 .1, good-full rs (a .1))
+
+good-deep : (rs : List (List ℕ)) → All Good rs → All (λ r. 1 ≤ level r) rs
+good-deep [] a = tt
+good-deep (r ∷ rs) a = (a .0 .0, good-deep rs (a .1))
+
+inner-nodes : (n : ℕ) (rs : List (List ℕ)) → recordsOk 1 n rs ≡ true → All Full rs → Nested level n rs × All Good rs
+unfolding recordsOk
+inner-nodes n [] e a = (tt, tt)
+inner-nodes n (r ∷ rs) e a =
+    let f = both (recordOk 1 n r) (recordsOk 1 (level r + 1) rs) e in
+    let g = loosen 1 n r (f .0) in
+    let h = inner-nodes (suc (level r)) rs (rw (← add-one (level r)) (f .1)) (a .1) in
+    ((g .1, h .0), ((g .0, a .0, g .2), h .1))
+
+nodes-inner : (n : ℕ) (rs : List (List ℕ)) → Nested level n rs → All Good rs → recordsOk 1 n rs ≡ true
+unfolding recordsOk
+nodes-inner n [] w a = refl
+nodes-inner n (r ∷ rs) w a = rw (tighten 1 n r (a .0 .0) (w .0) (a .0 .2), add-one (level r)) (nodes-inner (suc (level r)) rs (w .1) (a .1))
+
+-- the root and what is below it
+root-split : (r : List ℕ) (rs : List (List ℕ)) → recordsOk 0 0 (r ∷ rs) ≡ true → All Full rs
+    → (level r ≡ 0) × (recordOk 0 11 r ≡ true) × Nested level (suc (level r)) rs × All Good rs
+unfolding recordsOk
+root-split r rs e a =
+    let f = both (recordOk 0 0 r) (recordsOk 1 (level r + 1) rs) e in
+    let g = loosen 0 0 r (f .0) in
+    let h = inner-nodes (suc (level r)) rs (rw (← add-one (level r)) (f .1)) a in
+    (omega (arith, g .1), g .2, h .0, h .1)
+
+root-join : (r : List ℕ) (rs : List (List ℕ)) → level r ≡ 0 → recordOk 0 11 r ≡ true → Nested level (suc (level r)) rs → All Good rs → recordsOk 0 0 (r ∷ rs) ≡ true
+unfolding recordsOk
+root-join r rs z e w a = rw (tighten 0 0 r (omega arith) (omega (arith, z)) e, add-one (level r)) (nodes-inner (suc (level r)) rs w a)
+
+-- the records after a change
+abbrev pub Ok : List (List ℕ) → Type 0
+Ok rs = (recordsOk 0 0 rs ≡ true) × All Full rs
+
+remove-kept : (ms : List Bool) (rs : List (List ℕ)) → Ok rs → Ok (remove level ms rs)
+unfolding remove recordsOk
+remove-kept ms [] k = (refl, tt)
+remove-kept ms (r ∷ rs) k =
+    let s = root-split r rs (k .0) (k .1 .1) in
+    let u = remove level (later ms) rs in
+    let w = nested-remove level (suc (level r)) (later ms) rs (s .2) in
+    let g = all-remove level Good (later ms) rs (s .3) in
+    byCase (isDone ms)
+    (λ d. let z : dropBelow level (level r) u ≡ [] = rw (s .0) (drop-all level u (good-deep u g)) in rw (d, z) (refl, tt))
+    (λ d. rw d (root-join r u (s .0) (s .1) w g, (k .1 .0, good-full u g)))
+
+module _ (y : List ℕ → List (List ℕ)) (k : List ℕ → ℕ) (lo : (x : List ℕ) → level x ≤ k x) (hi : (x : List ℕ) → k x ≤ suc (level x))
+    (wy : (x : List ℕ) → Nested level (k x) (y x)) (ab : (x : List ℕ) → Above level (k x) (y x)) (fr : (x : List ℕ) → Front level (k x) (y x)) where
+  behind-kept : (ms : List Bool) (rs : List (List ℕ)) → Ok rs → AtDone (λ x. All Good (y x)) ms rs → Ok (insertBehind level y ms rs)
+  unfolding insertBehind recordsOk
+  behind-kept ms [] q d = (refl, tt)
+  behind-kept ms (r ∷ rs) q d =
+      let s = root-split r rs (q .0) (q .1 .1) in
+      let u = insertBehind level y (later ms) rs in
+      let w = nested-insertBehind level y k lo hi wy ab fr (level r) ms (r ∷ rs) (omega arith, s .2) in
+      let g = all-insertBehind level Good y (later ms) rs (s .3) (d .1) in
+      byCase (isDone ms)
+      (λ e. let v = (rw e at w) .1 in let h = all-putBehind level Good (level r) (y r) u (d .0 e) g in
+      rw e (root-join r (putBehind level (level r) (y r) u) (s .0) (s .1) v h, (q .1 .0, good-full (putBehind level (level r) (y r) u) h)))
+      (λ e. let v = (rw e at w) .1 in rw e (root-join r u (s .0) (s .1) v g, (q .1 .0, good-full u g)))
+
+module _ (y : List ℕ → List (List ℕ)) (wy : (x : List ℕ) → Nested level (level x) (y x)) (ab : (x : List ℕ) → Above level (level x) (y x))
+    (fr : (x : List ℕ) → Front level (level x) (y x)) where
+  front-kept : (ms : List Bool) (rs : List (List ℕ)) → isDone ms ≡ false → Ok rs → AtDone (λ x. All Good (y x)) ms rs → Ok (insertInFront level y ms rs)
+  unfolding insertInFront recordsOk
+  front-kept ms [] e q d = (refl, tt)
+  front-kept ms (r ∷ rs) e q d =
+      let s = root-split r rs (q .0) (q .1 .1) in
+      let u = insertInFront level y (later ms) rs in
+      let w = nested-insertInFront level y wy ab fr (suc (level r)) (later ms) rs (s .2) in
+      let g = all-insertInFront level Good y (later ms) rs (s .3) (d .1) in
+      rw e (root-join r u (s .0) (s .1) w g, (q .1 .0, good-full u g))
+
+rename-kept : (s : List ℕ) → LabelOk s → (ms : List Bool) (rs : List (List ℕ)) → Ok rs → Ok (rename level (relabel s) ms rs)
+unfolding rename recordsOk
+rename-kept s l ms [] q = (refl, tt)
+rename-kept s l ms (r ∷ rs) q =
+    let p = root-split r rs (q .0) (q .1 .1) in
+    let u = rename level (relabel s) (later ms) rs in
+    let w = nested-rename level (relabel s) (λ x. level-made (level x) s) (suc (level r)) (later ms) rs (p .2) in
+    let g = all-rename level Good (relabel s) good (later ms) rs (p .3) in
+    byCase (isDone ms)
+    (λ d. rw d (root-join (relabel s r) u (level-made (level r) s ∙ p .0) (made (omega (arith, p .0))) (rw (level-made (level r) s) w) g, (length-record (level r) s (l .short), good-full u g)))
+    (λ d. rw d (root-join r u (p .0) (p .1) w g, (q .1 .0, good-full u g)))
+  where
+    made : level r ≤ 11 → recordOk 0 11 (relabel s r) ≡ true
+    made h = made-ok 0 11 (level r) s (omega arith) h h (l .some) (l .short) (l .bytes) (l .free)
+
+    good : (x : List ℕ) → Good x → Good (relabel s x)
+    good x h =
+        let e = leb-true (level x) 11 (parts x (h .2) .0) in
+        (rw (level-made (level x) s) (h .0), length-record (level x) s (l .short), made-ok 0 11 (level x) s (omega arith) e e (l .some) (l .short) (l .bytes) (l .free))
+
+-- a tree at its place
+nested-raise : (k n : ℕ) (tree : List (List ℕ)) → Nested level n tree → Nested level (k + n) (raise k tree)
+unfolding raise
+nested-raise k n [] w = tt
+nested-raise k n (r ∷ rs) w =
+    let z : suc (k + level r) ≡ k + suc (level r) = omega arith in
+    (omega (arith, w .0), rw z (nested-raise k (suc (level r)) rs (w .1)))
+
+tree-nested : (k : ℕ) (tree : List (List ℕ)) → Nested level 0 tree → Nested level k (raise k tree)
+tree-nested k tree w = let e = nested-raise k 0 tree w in rw (add-zero k) at e
+
+tree-front : (k : ℕ) (tree : List (List ℕ)) → Nested level 0 tree → Front level k (raise k tree)
+unfolding raise
+tree-front k [] w = tt
+tree-front k (r ∷ rs) w = omega (arith, w .0)
+
+tree-good : (k : ℕ) (tree : List (List ℕ)) → 1 ≤ k → All (λ r. (length r ≡ 32) × (recordOk 0 11 (0 ∷ drop 1 r) ≡ true)) tree → All (λ r. k + level r ≤ 11) tree
+    → All Good (raise k tree)
+unfolding raise
+tree-good k [] h a b = tt
+tree-good k (r ∷ rs) h a b =
+    ((omega (arith, h), length-raised k r (omega (arith, a .0 .0)) ∙ a .0 .0, relevel (k + level r) (drop 1 r) (b .0) (a .0 .1)), tree-good k rs h (a .1) (b .1))
+
+tree-levels : (k m : ℕ) (tree : List ℕ) → ((j : ℕ) → j < m → k + getD tree (j * 32) 0 < 12) → All (λ r. k + level r ≤ 11) (chunks m tree)
+unfolding chunks
+tree-levels k zero tree h = tt
+tree-levels k (suc m) tree h = (
+  omega (arith, h 0 (omega arith), level-first 0 tree),
+  tree-levels k m (drop 32 tree) (λ j q. let e : suc j * 32 ≡ 32 + j * 32 = omega arith in rw (getD-drop 32 tree (j * 32) 0, ← e) (h (suc j) (omega (arith, q)))),
+)
+
+done-with : (P Q R : List ℕ → Type 0) → ((x : List ℕ) → P x → Q x → R x) → (ms : List Bool) (t : List (List ℕ)) → All P t → AtDone Q ms t → AtDone R ms t
+done-with P Q R h ms [] a b = tt
+done-with P Q R h ms (x ∷ t) a b = ((λ e. h x (a .0) (b .0 e)), done-with P Q R h (later ms) t (a .1) (b .1))
+
+module _ (m : ℕ) (tree : List ℕ) (ok : TreeOk (chunks m tree)) where
+  lands : (k : ℕ) → 1 ≤ k → ((j : ℕ) → j < m → k + getD tree (j * 32) 0 < 12) → All Good (raise k (chunks m tree))
+  lands k h s = tree-good k (chunks m tree) h (ok .labels) (tree-levels k m tree s)
+
+  -- beside a node that is not the root
+  beside : (ms : List Bool) (rs : List (List ℕ)) → isDone ms ≡ false → Ok rs → AtDone (λ r. Shallow 0 m tree (level r)) ms rs
+      → AtDone (λ r. All Good (raise (level r) (chunks m tree))) ms rs
+  beside ms [] e q d = tt
+  beside ms (r ∷ rs) e q d = (
+    (λ f. absurd (false≢true (sym e ∙ f))),
+    done-with Good (λ r. Shallow 0 m tree (level r)) (λ r. All Good (raise (level r) (chunks m tree)))
+        (λ x g s. lands (level x) (g .0) (λ j h. omega (arith, s j h))) (later ms) rs (root-split r rs (q .0) (q .1 .1) .3) (d .1),
+  )
+
+  placed-kept : (place : Place) (ms : List ℕ) (rs : List (List ℕ)) → Ok rs → AtDone (λ r. Shallow (lower place) m tree (level r)) (marksOf ms) rs
+      → (lower place ≡ 0 → isDone (marksOf ms) ≡ false) → Ok (placed place m tree ms rs)
+  placed-kept Append ms rs q d root =
+      behind-kept (λ x. raise (suc (level x)) (chunks m tree)) (λ x. suc (level x)) (λ x. omega arith) (λ x. omega arith)
+      (λ x. tree-nested (suc (level x)) (chunks m tree) (ok .nested)) (λ x. above-raise (suc (level x)) (suc (level x)) (chunks m tree) (omega arith))
+      (λ x. tree-front (suc (level x)) (chunks m tree) (ok .nested)) (marksOf ms) rs q
+      (done-from level (λ r. Shallow 1 m tree (level r)) (λ r. All Good (raise (suc (level r)) (chunks m tree)))
+      (λ x s. lands (suc (level x)) (omega arith) (λ j h. omega (arith, s j h))) (marksOf ms) rs d)
+  placed-kept After ms rs q d root =
+      behind-kept (λ x. raise (level x) (chunks m tree)) (λ x. level x) (λ x. omega arith) (λ x. omega arith)
+      (λ x. tree-nested (level x) (chunks m tree) (ok .nested)) (λ x. above-raise (level x) (level x) (chunks m tree) (omega arith))
+      (λ x. tree-front (level x) (chunks m tree) (ok .nested)) (marksOf ms) rs q (beside (marksOf ms) rs (root refl) q d)
+  placed-kept Before ms rs q d root =
+      front-kept (λ x. raise (level x) (chunks m tree))
+      (λ x. tree-nested (level x) (chunks m tree) (ok .nested)) (λ x. above-raise (level x) (level x) (chunks m tree) (omega arith))
+      (λ x. tree-front (level x) (chunks m tree) (ok .nested)) (marksOf ms) rs (root refl) q (beside (marksOf ms) rs (root refl) q d)
+
+-- the records of a table
+pub full-chunks : (n : ℕ) (x : List ℕ) → n * 32 ≤ length x → All Full (chunks n x)
+unfolding chunks
+full-chunks zero x h = tt
+full-chunks (suc n) x h = (length-take-le 32 x (omega arith), full-chunks n (drop 32 x) (rw length-drop (omega arith)))
+
+pub length-records : (t : List ℕ) → length (records t) ≡ count t
+length-records t = ap length (all-chunks t) ∙ length-chunks (count t) (drop 4 t)
+
+records-kept : (t : List ℕ) → tableOk t ≡ true → Ok (records t)
+records-kept t e = let f = facts t e in (f .nested, rw (all-chunks t) (full-chunks (count t) (drop 4 t) (rw length-drop (omega (arith, f .size)))))
+
+pub length-placed : (place : Place) (t ms tree : List ℕ) (m : ℕ) → length (placed place m tree ms (records t)) ≡ count t + marked (count t) ms * m
+length-placed place t ms tree m = ap (λ (rs : List (List ℕ)). length (placed place m tree ms rs)) (all-chunks t) ∙ placed-length place (count t) m tree ms (drop 4 t)
+
+-- ----------------------------------------------------------------------------
+-- The table after a removal, a renaming, an insertion: its length is kept, it passes the check, and its records are those that the change gives.
+
+pub record Stored (t : List ℕ) (rs : List (List ℕ)) : Type 0 where
+  pub ok : tableOk (changed t rs) ≡ true
+  pub same-length : length (changed t rs) ≡ length t
+  pub held : records (changed t rs) ≡ rs
+  pub counted : count (changed t rs) ≡ length rs
+
+stored : (t : List ℕ) (rs : List (List ℕ)) → 4 ≤ length t → length rs ≤ capacity (length t) → Ok rs → Stored t rs
+stored t rs h r k = record {
+  ok = changed-ok t rs h r (k .1) (k .0);
+  same-length = length-changed t rs h r (k .1);
+  held = records-changed t rs h r (k .1);
+  counted = count-changed t rs h r (k .1);
+}
+
+pub removed-stored : (t ms : List ℕ) → tableOk t ≡ true → Stored t (removed ms (records t))
+removed-stored t ms e =
+    let f = facts t e in
+    let l : length (removed ms (records t)) ≤ count t = omega (arith, shorter-remove level (marksOf ms) (records t), length-records t) in
+    stored t (removed ms (records t)) (f .head) (omega (arith, l, f .held)) (remove-kept (marksOf ms) (records t) (records-kept t e))
+
+pub renamed-stored : (t ms s : List ℕ) → tableOk t ≡ true → LabelOk s → Stored t (renamed s ms (records t))
+renamed-stored t ms s e l =
+    let f = facts t e in
+    let n : length (renamed s ms (records t)) ≡ count t = length-rename level (relabel s) (marksOf ms) (records t) ∙ length-records t in
+    stored t (renamed s ms (records t)) (f .head) (omega (arith, n, f .held)) (rename-kept s l (marksOf ms) (records t) (records-kept t e))
+
+pub placed-stored : (place : Place) (t ms tree : List ℕ) (m : ℕ) → tableOk t ≡ true → TreeOk (chunks m tree)
+    → tooDeep (lower place + deepest (chunks m tree)) (marksOf ms) (records t) ≡ false → hasRoom t ms m ≡ true → (lower place ≡ 0 → isDone (marksOf ms) ≡ false)
+    → Stored t (placed place m tree ms (records t))
+placed-stored place t ms tree m e ok deep room root =
+    let f = facts t e in
+    let n = length-placed place t ms tree m in
+    let r : marked (count t) ms * m ≤ capacity (length t) - count t = leb-true _ _ room in
+    stored t (placed place m tree ms (records t)) (f .head) (omega (arith, n, r, f .held))
+    (placed-kept m tree ok place ms (records t) (records-kept t e) (shallow-places (lower place) m tree (marksOf ms) (records t) deep) root)

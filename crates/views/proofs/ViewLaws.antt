@@ -1,0 +1,216 @@
+-- What a view is like: the numbers of its nodes give its levels and labels, it is a tree, and every number is that of a record. Assumes nothing.
+use Prim.Native.Nat.{ℕ, zero, suc, _+_, _*_, _-_, _%_, _≤_, _<_, min}
+use mathlib.Core.Bool.{Bool, true, false, cond, _&&_, and-eq-true-iff}
+use mathlib.Core.Path.{_≡_, refl, sym, ap, ap₂, _∙_}
+use mathlib.Core.List.{List, [], _∷_, map}
+use native.Mathlib.Nat.{mod-eq-of-lt, add-mod-right}
+use native.Mathlib.Omega.{arith}
+use borrow.Author.Tests.{leb-true, le-leb, lt-leb}
+use lib.Dec.{leb}
+use lib.ListN.{length, getD, length-map}
+use Rattle.rights.specs.Labels.{restricted}
+use Rattle.rights.specs.Table.{recAt, recordAt, recordsFrom, records, level, label, recordOk, recordsOk, tableOk, count}
+use Rattle.rights.specs.Policy.{read}
+use Rattle.rights.specs.PolicyBytes.{Text}
+use Rattle.rights.specs.Rights.{holds}
+use Rattle.rights.specs.Nodes.{Node, node, Nodes, levelOf, levelAt, Nested, recordPlace, seen, viewOf, Fits}
+use Rattle.rights.proofs.Facts.{both}
+use Rattle.rights.proofs.Lists.{byCase}
+use Rattle.views.specs.Shown.{Stored, storedFrom, stored, storedLevel, granted, isShownAt, depthAfter, shownFrom, shown, keep, carried, numberOf, view, shownNumbers, numbersFrom}
+use Rattle.views.proofs.StoredNodes.{good, record-text, table-by-depth}
+
+-- Numbers of records
+
+pub number-mod : (x : Stored) → x .number < 16384 → numberOf x % 16384 ≡ x .number
+number-mod x h =
+    byCase (holds read (x .rights))
+    (λ e. rw e (mod-eq-of-lt h))
+    (λ e. rw e (add-mod-right (x .number) 16384 ∙ mod-eq-of-lt h))
+
+number-hidden : (x : Stored) → x .number < 16384 → cond (leb 16384 (numberOf x)) restricted (label (x .bytes)) ≡ carried x
+number-hidden x h =
+    byCase (holds read (x .rights))
+    (λ e. rw (e, lt-leb 16384 (x .number) h))
+    (λ e. rw (e, le-leb 16384 (x .number + 16384) (omega arith)))
+
+-- a shown node by its number is what the view has of it
+seen-number : (t : List ℕ) (x : Stored) → x .number < 16384 → x .bytes ≡ recordAt t (x .number) → seen t (numberOf x) ≡ node (storedLevel x) (carried x)
+unfolding seen recordPlace
+seen-number t x h e = rw (number-mod x h, ← e, number-hidden x h)
+
+-- a test that passes at every element
+abbrev pub Every : {A : Type 0} → (A → Type 0) → List A → Type 0
+Every P [] = Unit {0}
+Every P (x ∷ xs) = P x × Every P xs
+
+pub every-keep : {A : Type 0} (P : A → Type 0) (bs : List Bool) (xs : List A) → Every P xs → Every P (keep bs xs)
+unfolding keep
+every-keep P [] xs p = tt
+every-keep P (b ∷ bs) [] p = tt
+every-keep P (true ∷ bs) (x ∷ xs) p = (p .0, every-keep P bs xs (p .1))
+every-keep P (false ∷ bs) (x ∷ xs) p = every-keep P bs xs (p .1)
+
+pub every-map : {A B : Type 0} (P : A → Type 0) (Q : B → Type 0) (f : A → B) → ((x : A) → P x → Q (f x)) → (xs : List A) → Every P xs → Every Q (map f xs)
+every-map P Q f g [] p = tt
+every-map P Q f g (x ∷ xs) p = (g x (p .0), every-map P Q f g xs (p .1))
+
+map-same : {A B C : Type 0} (P : A → Type 0) (f : B → C) (g : A → B) (h : A → C) → ((x : A) → P x → f (g x) ≡ h x) → (xs : List A) → Every P xs → map f (map g xs) ≡ map h xs
+map-same P f g h e [] p = refl
+map-same P f g h e (x ∷ xs) p = ap₂ _∷_ (e x (p .0)) (map-same P f g h e xs (p .1))
+
+pub every-at : (P : ℕ → Type 0) (xs : List ℕ) (i : ℕ) → Every P xs → i < length xs → P (getD xs i 0)
+every-at P [] i p h = absurd (omega arith)
+every-at P (x ∷ xs) zero p h = p .0
+every-at P (x ∷ xs) (suc i) p h = every-at P xs i (p .1) (omega arith)
+
+-- a node of the table t, whose records are n
+abbrev Own : List ℕ → ℕ → Stored → Type 0
+Own t n x = (x .number < n) × (x .bytes ≡ recordAt t (x .number))
+
+own : (t : List ℕ) (n i m : ℕ) (ss : List ℕ) → i + n ≤ m → Every (Own t m) (storedFrom i (recordsFrom t n i) ss)
+unfolding storedFrom recordsFrom
+own t zero i m ss h = tt
+own t (suc n) i m [] h = tt
+own t (suc n) i m (s ∷ ss) h = ((omega arith, refl), own t n (suc i) m ss (omega arith))
+
+module _ (t ss : List ℕ) (ok : tableOk t ≡ true) where
+  shown-own : Every (Own t (count t)) (keep (shown (stored t ss)) (stored t ss))
+  shown-own = every-keep (Own t (count t)) (shown (stored t ss)) (stored t ss) (own t (count t) 0 (count t) ss (omega arith))
+
+  -- the numbers give the view
+  pub view-by-numbers : viewOf t (shownNumbers (stored t ss)) ≡ view (stored t ss)
+  unfolding viewOf
+  view-by-numbers =
+      map-same (Own t (count t)) (seen t) numberOf (λ x. node (storedLevel x) (carried x))
+      (λ x p. let g = good t ok in seen-number t x (omega (arith, g .few, p .0)) (p .1))
+      (keep (shown (stored t ss)) (stored t ss)) shown-own
+
+  -- every number is that of a record
+  pub numbers-below : (j : ℕ) → j < length (shownNumbers (stored t ss)) → getD (shownNumbers (stored t ss)) j 0 % 16384 < count t
+  numbers-below j h =
+      every-at (λ m. m % 16384 < count t) (shownNumbers (stored t ss)) j
+      (every-map (Own t (count t)) (λ m. m % 16384 < count t) numberOf
+      (λ x p. let g = good t ok in rw (number-mod x (omega (arith, g .few, p .0))) (p .0))
+      (keep (shown (stored t ss)) (stored t ss)) shown-own)
+      h
+
+-- A view is a tree
+
+-- after a node of level l come nodes of levels from 1 to one more than the one before
+abbrev Linked : ℕ → Nodes → Type 0
+Linked l [] = Unit {0}
+Linked l (x ∷ xs) = (0 < levelOf x) × (levelOf x ≤ suc l) × Linked (levelOf x) xs
+
+linked-one : (l : ℕ) (xs : Nodes) → Linked l xs → (i : ℕ) → i < length xs → 0 < levelAt xs i
+unfolding levelAt
+linked-one l [] k i h = absurd (omega arith)
+linked-one l (x ∷ xs) k zero h = k .0
+linked-one l (x ∷ xs) k (suc i) h = linked-one (levelOf x) xs (k .2) i (omega arith)
+
+linked-steps : (x : Node) (xs : Nodes) → Linked (levelOf x) xs → (i : ℕ) → suc i < length (x ∷ xs) → levelAt (x ∷ xs) (suc i) ≤ suc (levelAt (x ∷ xs) i)
+unfolding levelAt
+linked-steps x [] k i h = absurd (omega arith)
+linked-steps x (y ∷ ys) k zero h = k .1
+linked-steps x (y ∷ ys) k (suc i) h = linked-steps y ys (k .2) i (omega arith)
+
+linked-nested : (x : Node) (xs : Nodes) → levelOf x ≡ 0 → Linked (levelOf x) xs → Nested (x ∷ xs)
+unfolding levelAt
+linked-nested x xs e k = record { root = e; one = one; steps = linked-steps x xs k }
+  where
+    one : (i : ℕ) → 0 < i → i < length (x ∷ xs) → 0 < levelAt (x ∷ xs) i
+    one zero a b = absurd (omega arith)
+    one (suc i) a b = linked-one (levelOf x) xs k i (omega arith)
+
+nothing-nested : Nested []
+unfolding levelAt
+nothing-nested = record { root = refl; one = λ i a b. absurd (omega arith); steps = λ i a. absurd (omega arith) }
+
+-- what is shown of these nodes, below a shown chain of depth d
+abbrev viewFrom : ℕ → List Stored → Nodes
+viewFrom d xs = map (λ x. node (storedLevel x) (carried x)) (keep (shownFrom storedLevel granted d xs) xs)
+
+levels : (low high : ℕ) (r : List ℕ) (rs : List (List ℕ)) → recordsOk low high (r ∷ rs) ≡ true → (low ≤ level r) × (level r ≤ high) × (recordsOk 1 (level r + 1) rs ≡ true)
+unfolding recordsOk recordOk
+levels low high r rs e =
+    let w = both (recordOk low high r) (recordsOk 1 (level r + 1) rs) e in
+    let f = simp and-eq-true-iff at (w .0) in
+    (leb-true _ _ (f .0), leb-true _ _ (f .1 .0), w .1)
+
+linked-from : (l d high i : ℕ) (rs : List (List ℕ)) (ss : List ℕ) → d ≤ suc l → recordsOk 1 high rs ≡ true → Linked l (viewFrom d (storedFrom i rs ss))
+unfolding storedFrom shownFrom keep
+linked-from l d high i [] ss h e = tt
+linked-from l d high i (r ∷ rs) [] h e = tt
+linked-from l d high i (r ∷ rs) (s ∷ ss) h e =
+    let w = levels 1 high r rs e in
+    let x : Stored = record { number = i; bytes = r; rights = s } in
+    byCase (isShownAt storedLevel granted d x)
+    (λ q. let k : level r ≤ d = leb-true _ _ (both (granted x) (leb (level r) d) q .1) in
+    rw q (w .0, omega arith, linked-from (level r) (level r + 1) (level r + 1) (suc i) rs ss (omega arith) (w .2)))
+    (λ q. rw q (linked-from l (min d (level r)) (level r + 1) (suc i) rs ss (omega arith) (w .2)))
+
+-- below a hidden root nothing is shown
+hidden-root : (high i : ℕ) (rs : List (List ℕ)) (ss : List ℕ) → recordsOk 1 high rs ≡ true → viewFrom 0 (storedFrom i rs ss) ≡ []
+unfolding storedFrom shownFrom keep
+hidden-root high i [] ss e = refl
+hidden-root high i (r ∷ rs) [] e = refl
+hidden-root high i (r ∷ rs) (s ∷ ss) e =
+    let w = levels 1 high r rs e in
+    let x : Stored = record { number = i; bytes = r; rights = s } in
+    let z : min 0 (level r) ≡ 0 = omega arith in
+    byCase (isShownAt storedLevel granted 0 x)
+    (λ q. let k : level r ≤ 0 = leb-true _ _ (both (granted x) (leb (level r) 0) q .1) in absurd (omega arith))
+    (λ q. rw (q, z) (hidden-root (level r + 1) (suc i) rs ss (w .2)))
+
+nested-from : (i : ℕ) (rs : List (List ℕ)) (ss : List ℕ) → recordsOk 0 0 rs ≡ true → Nested (viewFrom 0 (storedFrom i rs ss))
+unfolding storedFrom shownFrom keep
+nested-from i [] ss e = nothing-nested
+nested-from i (r ∷ rs) [] e = nothing-nested
+nested-from i (r ∷ rs) (s ∷ ss) e =
+    let w = levels 0 0 r rs e in
+    let x : Stored = record { number = i; bytes = r; rights = s } in
+    let z : min 0 (level r) ≡ 0 = omega arith in
+    byCase (isShownAt storedLevel granted 0 x)
+    (λ q. rw q (linked-nested (node (level r) (carried x)) (viewFrom (level r + 1) (storedFrom (suc i) rs ss)) (omega arith) (linked-from (level r) (level r + 1) (level r + 1) (suc i) rs ss (omega arith) (w .2))))
+    (λ q. rw (q, z, hidden-root (level r + 1) (suc i) rs ss (w .2)) nothing-nested)
+
+-- the view of a table is a tree, or nothing
+pub view-nested : (t ss : List ℕ) → tableOk t ≡ true → Nested (view (stored t ss))
+view-nested t ss ok = rw (table-by-depth t ss ok) (nested-from 0 (records t) ss (good t ok .ordered))
+
+-- What the passes of a selection ask of the numbers
+
+keep-length : {A : Type 0} (bs : List Bool) (xs : List A) → length (keep bs xs) ≤ length xs
+unfolding keep
+keep-length [] xs = omega arith
+keep-length (b ∷ bs) [] = omega arith
+keep-length (true ∷ bs) (x ∷ xs) = let h = keep-length bs xs in omega arith
+keep-length (false ∷ bs) (x ∷ xs) = let h = keep-length bs xs in omega arith
+
+stored-length : (t : List ℕ) (n i : ℕ) (ss : List ℕ) → length (storedFrom i (recordsFrom t n i) ss) ≤ n
+unfolding storedFrom recordsFrom
+stored-length t zero i ss = omega arith
+stored-length t (suc n) i [] = omega arith
+stored-length t (suc n) i (s ∷ ss) = let h = stored-length t n (suc i) ss in omega arith
+
+module _ (t ss : List ℕ) (ok : tableOk t ≡ true) where
+  -- no more nodes are shown than there are
+  pub shown-few : length (shownNumbers (stored t ss)) ≤ count t
+  shown-few =
+      omega (
+        arith,
+        length-map (keep (shown (stored t ss)) (stored t ss)) numberOf,
+        keep-length (shown (stored t ss)) (stored t ss),
+        stored-length t (count t) 0 ss,
+      )
+
+  record-fits : (m : ℕ) → m % 16384 < count t → Text t (recordPlace m) × (getD t (recordPlace m) 0 < 12)
+  unfolding recordPlace
+  record-fits m h = record-text t ok (m % 16384) h
+
+  pub view-fits : Fits t (shownNumbers (stored t ss))
+  view-fits =
+      record {
+        few = (let g = good t ok in omega (arith, g .few, shown-few));
+        stands = λ i h. record-fits _ (numbers-below t ss ok i h) .0;
+        low = λ i h. record-fits _ (numbers-below t ss ok i h) .1;
+      }

@@ -1,0 +1,182 @@
+use Rattle.rights.specs.Automaton.{bit}
+use Prim.Native.Nat.{_-_}
+use mathlib.Core.Path.{_≡_, refl, sym, ap, _∙_}
+use native.Mathlib.Omega.{arith}
+use borrow.Author.Needs.{needs}
+use Rattle.rights.specs.Policy.{policyWord}
+use Rattle.rights.specs.PolicyBytes.{policyOf}
+use Rattle.rights.specs.Table.{count}
+use Rattle.views.proofs.StoredNodes.{good, record-text}
+use Rattle.views.proofs.DonePass.{Marking, marking-start, marking-more, marking-gives}
+use Rattle.views.proofs.done.mark_done.Statement.{statement}
+use Rattle.views.proofs.done.mark_done.Tie as tie
+
+abbrev Inv-loop : tie.InvT-loop
+Inv-loop change policy table rights selected done₀ n chosen₀ granting₀ depth₀ i₀ done chosen granting depth i =
+    (n ≡ count table) × Marking change (policyWord (policyOf policy)) table rights selected done₀ n done chosen granting depth i
+
+abbrev μ-loop : tie.MeasureT-loop
+μ-loop change policy table rights selected done₀ n chosen₀ granting₀ depth₀ i₀ done chosen granting depth i = n - i
+
+count-of-requires : tie.Need-count-of-requires Inv-loop μ-loop
+count-of-requires c κs = good _ (c .before .before .before .before .before .pre .1) .head
+
+loop-holds : tie.Need-loop-holds Inv-loop μ-loop
+loop-holds c =
+    let a = c .before .before .before .before .before .before .args in
+    (c .count-of .ensures, marking-start (a .change) (policyWord (policyOf (a .policy .now))) (a .table .now) (a .rights .now) (a .selected .now) (a .done .now) (c .count-of .result) (c .count-of .ensures) (c .before .before .before .before .before .before .pre .1))
+
+mul-level : tie.Need-mul-level Inv-loop μ-loop
+mul-level c =
+    let a = c .before .before .before .before .before .before .before .before .args in
+    let l = c .before .loop in
+    let g = good (a .table .now) (c .before .before .before .before .before .before .before .before .pre .1) in
+    omega arith
+
+add-level : tie.Need-add-level Inv-loop μ-loop
+add-level c =
+    let a = c .before .before .before .before .before .before .before .before .args in
+    let l = c .before .loop in
+    let g = good (a .table .now) (c .before .before .before .before .before .before .before .before .pre .1) in
+    omega arith
+
+shared-slice-read-level : tie.Need-shared-slice-read-level Inv-loop μ-loop
+shared-slice-read-level c =
+    let a = c .before .before .before .before .before .before .before .before .before .args in
+    let l = c .before .before .loop in
+    let g = good (a .table .now) (c .before .before .before .before .before .before .before .before .before .pre .1) in
+    omega arith
+
+wide-requires : tie.Need-wide-requires Inv-loop μ-loop
+wide-requires c κs = search needs
+
+shared-slice-read-set : tie.Need-shared-slice-read-set Inv-loop μ-loop
+shared-slice-read-set c = search needs
+
+is-shown-requires : tie.Need-is-shown-requires Inv-loop μ-loop
+is-shown-requires c κs = search needs
+
+shared-slice-read-is-set : tie.Need-shared-slice-read-is-set Inv-loop μ-loop
+shared-slice-read-is-set c = search needs
+
+is-set-requires : tie.Need-is-set-requires Inv-loop μ-loop
+is-set-requires c κs = search needs
+
+array-read-is-set : tie.Need-array-read-is-set Inv-loop μ-loop
+array-read-is-set c =
+    let a = c .before .before .before .before .before .before .before .before .before .before .before .before .before .before .args in
+    let l = c .before .before .before .before .before .before .before .loop in
+    let k = record-text (a .table .now) (c .before .before .before .before .before .before .before .before .before .before .before .before .before .before .pre .1) (l .i) (omega arith) in
+    omega (arith, k .1, c .before .before .before .before .wide .ensures)
+
+is-set-requires-2 : tie.Need-is-set-requires-2 Inv-loop μ-loop
+is-set-requires-2 c κs = search needs
+
+array-read-is-set-2 : tie.Need-array-read-is-set-2 Inv-loop μ-loop
+array-read-is-set-2 c =
+    let a = c .before .before .before .before .before .before .before .before .before .before .before .before .before .before .before .args in
+    let l = c .before .before .before .before .before .before .before .before .loop in
+    let k = record-text (a .table .now) (c .before .before .before .before .before .before .before .before .before .before .before .before .before .before .before .pre .1) (l .i) (omega arith) in
+    omega (arith, k .1, c .before .before .before .before .before .wide .ensures)
+
+is-set-requires-3 : tie.Need-is-set-requires-3 Inv-loop μ-loop
+is-set-requires-3 c κs = search needs
+
+is-done-requires : tie.Need-is-done-requires Inv-loop μ-loop
+is-done-requires c κs =
+    let a = c .before .before .before .before .before .before .before .before .before .before .before .before .before .before .before .before .args in
+    let l = c .before .before .before .before .before .before .before .before .before .loop in
+    let k = record-text (a .table .now) (c .before .before .before .before .before .before .before .before .before .before .before .before .before .before .before .before .pre .1) (l .i) (omega arith) in
+    (c .before .before .before .before .before .before .before .before .before .before .before .before .before .before .before .before .pre .0, k .0)
+
+mark-of-requires : tie.Need-mark-of-requires Inv-loop μ-loop
+mark-of-requires c κs = search needs
+
+slice-write-done : tie.Need-slice-write-done Inv-loop μ-loop
+slice-write-done c = search needs
+
+mark-of-requires-2 : tie.Need-mark-of-requires-2 Inv-loop μ-loop
+mark-of-requires-2 c κs = search needs
+
+pass-down-requires : tie.Need-pass-down-requires Inv-loop μ-loop
+pass-down-requires c κs = search needs
+
+holds-right-requires : tie.Need-holds-right-requires Inv-loop μ-loop
+holds-right-requires c κs = search needs
+
+mark-of-requires-3 : tie.Need-mark-of-requires-3 Inv-loop μ-loop
+mark-of-requires-3 c κs = search needs
+
+pass-down-requires-2 : tie.Need-pass-down-requires-2 Inv-loop μ-loop
+pass-down-requires-2 c κs = search needs
+
+depth-after-requires : tie.Need-depth-after-requires Inv-loop μ-loop
+depth-after-requires c κs = search needs
+
+add-i : tie.Need-add-i Inv-loop μ-loop
+add-i c = search needs
+
+loop-less : tie.Need-loop-less Inv-loop μ-loop
+loop-less c = search needs
+
+loop-again : tie.Need-loop-again Inv-loop μ-loop
+loop-again c =
+    let a = c .before .before .before .before .before .before .before .before .before .before .before .before .before .before .before .before .before .before .before .before .before .before .before .before .before .before .args in
+    let l = c .before .before .before .before .before .before .before .before .before .before .before .before .before .before .before .before .before .before .before .loop in
+    let k = record-text (a .table .now) (c .before .before .before .before .before .before .before .before .before .before .before .before .before .before .before .before .before .before .before .before .before .before .before .before .before .before .pre .1) (l .i) (omega arith) in
+    let p = c .before .before .before .before .before .before .before .before .before .before .before .before .before .before .before .before .before .before .before .before .before .before .before .before .before .before .pre in
+    let e = l .inv .0 in
+    let h = c .before .before .before .before .before .before .before .before .before .before .before .before .before .before .before .before .before .before .loop-test .taken in (
+      l .inv .0,
+      marking-more (a .change) (policyWord (policyOf (a .policy .now))) (a .table .now) (a .rights .now) (a .selected .now) (a .done .now) (c .before .before .before .before .before .before .before .before .before .before .before .before .before .before .before .before .before .before .before .before .count-of .result)
+          (l .done) (l .chosen) (l .granting) _ _ (l .depth) (l .i) (c .before .before .before .before .before .before .before .before .before .before .before .before .before .before .before .before .wide .result) _ _ (c .before .before .before .before .before .before .mark-of2 .result) (c .before .before .mark-of3 .result)
+          (c .before .before .before .before .before .before .before .before .before .before .before .before .before .before .is-shown .result) (c .before .before .before .before .before .before .before .before .before .before .before .before .is-set .result) (c .before .before .before .before .before .before .before .before .before .before .before .is-set2 .result) (c .before .before .before .before .before .before .before .before .before .before .is-set3 .result) (c .before .before .before .before .before .before .before .before .before .is-done .result)
+          (omega arith) (omega arith) (omega arith) (k .1) (c .before .before .before .before .before .before .before .before .before .before .before .before .before .before .before .before .wide .ensures) (l .inv .1)
+          (c .before .before .before .before .before .before .before .before .before .before .before .before .before .before .is-shown .ensures) (c .before .before .before .before .before .before .before .before .before .before .before .before .is-set .ensures) (c .before .before .before .before .before .before .before .before .before .before .before .is-set2 .ensures) (c .before .before .before .before .before .before .before .before .before .before .is-set3 .ensures) (c .before .before .before .before .before .before .before .before .before .is-done .ensures)
+          (c .before .before .before .before .before .before .before .before .mark-of .ensures) (c .before .before .before .before .before .before .mark-of2 .ensures) (c .before .before .mark-of3 .ensures ∙ ap bit (c .before .before .before .holds-right .ensures))
+          (c .before .before .before .before .before .pass-down .ensures) (c .before .pass-down2 .ensures) (c .depth-after .ensures),
+    )
+
+same-length : tie.Need-same-length Inv-loop μ-loop
+same-length c = search needs
+
+returns : tie.Need-returns Inv-loop μ-loop
+returns c =
+    let a = c .before .before .before .before .before .before .before .before .args in
+    let l = c .before .loop in
+    marking-gives (a .change) (policyWord (policyOf (a .policy .now))) (a .table .now) (a .rights .now) (a .selected .now) (a .done .now) (c .before .before .count-of .result) (l .done) (l .chosen) (l .granting) (l .depth) (l .i) (l .inv .0) (omega arith) (l .inv .1)
+
+pub mark-done-spec : {M : Type 1} → statement M
+mark-done-spec =
+    tie.close
+    (tie.spec
+    Inv-loop
+    μ-loop
+    count-of-requires
+    loop-holds
+    mul-level
+    add-level
+    shared-slice-read-level
+    wide-requires
+    shared-slice-read-set
+    is-shown-requires
+    shared-slice-read-is-set
+    is-set-requires
+    array-read-is-set
+    is-set-requires-2
+    array-read-is-set-2
+    is-set-requires-3
+    is-done-requires
+    mark-of-requires
+    slice-write-done
+    mark-of-requires-2
+    pass-down-requires
+    holds-right-requires
+    mark-of-requires-3
+    pass-down-requires-2
+    depth-after-requires
+    add-i
+    loop-less
+    loop-again
+    same-length
+    returns)

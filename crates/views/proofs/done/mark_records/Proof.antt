@@ -1,0 +1,88 @@
+use borrow.Author.Needs.{needs}
+use Rattle.views.proofs.MarkLaws.{left, left-step, left-end}
+use Rattle.views.proofs.Fill.{push-take, push-drop, put-next, filled}
+use Rattle.views.specs.Done.{byNumbers}
+use Rattle.views.specs.Marks.{marksOf}
+use Rattle.rights.specs.Automaton.{bit}
+use lib.ListN.{length, take, drop, length-set}
+use native.Mathlib.Nat.{sub-zero}
+use mathlib.Core.List.{_++_, map}
+use Prim.Native.Nat.{_≤_, _-_}
+use native.Mathlib.Omega.{arith}
+use mathlib.Core.Path.{_≡_, refl, sym, ap, _∙_}
+use Rattle.views.proofs.done.mark_records.Statement.{statement}
+use Rattle.views.proofs.done.mark_records.Tie as tie
+
+abbrev Inv-loop : tie.InvT-loop
+Inv-loop shown k marks n selected₀ j₀ i₀ selected j i =
+    (i ≤ n)
+    × (j ≤ i)
+    × (length selected ≡ length selected₀)
+    × (drop i selected ≡ drop i selected₀)
+    × (take i selected ++ map bit (left shown k marks n j i) ≡ map bit (byNumbers (take k shown) (marksOf marks) n 0))
+
+abbrev μ-loop : tie.MeasureT-loop
+μ-loop shown k marks n selected₀ j₀ i₀ selected j i = n - i
+
+loop-holds : tie.Need-loop-holds Inv-loop μ-loop
+loop-holds c = (omega arith, omega arith, refl, refl, rw (sub-zero (c .before .before .before .args .n)) refl)
+
+stands-at-requires : tie.Need-stands-at-requires Inv-loop μ-loop
+stands-at-requires c κs = search needs
+
+mark-at-requires : tie.Need-mark-at-requires Inv-loop μ-loop
+mark-at-requires c κs = search needs
+
+slice-write-selected : tie.Need-slice-write-selected Inv-loop μ-loop
+slice-write-selected c = search needs
+
+next-of-requires : tie.Need-next-of-requires Inv-loop μ-loop
+next-of-requires c κs = search needs
+
+add-i : tie.Need-add-i Inv-loop μ-loop
+add-i c = search needs
+
+loop-less : tie.Need-loop-less Inv-loop μ-loop
+loop-less c = search needs
+
+loop-again : tie.Need-loop-again Inv-loop μ-loop
+loop-again c =
+    let a = c .before .before .before .before .before .before .before .before .args in
+    let l = c .before .before .before .before .loop in
+    let x = put-next (l .selected) (l .j) 0 (c .before .before .stands-at .result) in (
+      omega arith,
+      omega (arith, c .next-of .ensures),
+      simp length-set (l .inv .2),
+      push-drop (l .selected) (l .i) _ (a .selected .now) (l .inv .3),
+      sym
+          (push-take (l .selected) (l .i) _ (omega arith)
+          (left-step (a .shown .now) (a .k) (a .marks .now) (a .n) (l .j) (l .i) _ _ (c .before .before .stands-at .result) (omega arith) (omega arith) (c .before .before .stands-at .ensures) (c .before .mark-at .ensures) (c .next-of .ensures)))
+          ∙ l .inv .4,
+    )
+
+same-length : tie.Need-same-length Inv-loop μ-loop
+same-length c = omega arith
+
+returns : tie.Need-returns Inv-loop μ-loop
+returns c =
+    let a = c .before .before .before .before .before .args in
+    let l = c .before .loop in
+    let e : l .i ≡ a .n = omega arith in
+    filled (l .selected) (a .selected .now) _ (a .n) (simp (e, left-end (a .shown .now) (a .k) (a .marks .now) (a .n) (l .j) (a .n) (omega arith)) at (l .inv .4)) (simp e at (l .inv .3))
+
+pub mark-records-spec : {M : Type 1} → statement M
+mark-records-spec =
+    tie.close
+    (tie.spec
+    Inv-loop
+    μ-loop
+    loop-holds
+    stands-at-requires
+    mark-at-requires
+    slice-write-selected
+    next-of-requires
+    add-i
+    loop-less
+    loop-again
+    same-length
+    returns)

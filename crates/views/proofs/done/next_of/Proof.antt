@@ -1,0 +1,16 @@
+use mathlib.Core.Path.{_≡_, refl, sym, ap, _∙_}
+use borrow.Author.Needs.{needs}
+use Rattle.views.proofs.done.next_of.Statement.{statement}
+use Rattle.views.proofs.done.next_of.Tie as tie
+
+add-result : tie.Need-add-result
+add-result c = search needs
+
+returns : tie.Need-returns
+returns c = rw (c .if1 .taken) refl
+
+returns-2 : tie.Need-returns-2
+returns-2 c = search needs
+
+pub next-of-spec : {M : Type 1} → statement M
+next-of-spec = tie.close (tie.spec add-result returns returns-2)

@@ -1,0 +1,62 @@
+use Prim.Native.Nat.{_≤_, _-_, _*_, _<_}
+use mathlib.Core.Path.{_≡_, refl, _∙_}
+use lib.ListN.{drop}
+use Rattle.views.specs.Change.{deepest, chunks}
+use Rattle.views.proofs.Depth.{deepest-none, deepest-more}
+use native.Mathlib.Omega.{arith}
+use borrow.Author.Needs.{needs}
+use Rattle.views.proofs.insert.deepest_level.Statement.{statement}
+use Rattle.views.proofs.insert.deepest_level.Tie as tie
+
+abbrev Inv-loop : tie.InvT-loop
+Inv-loop tree m deep₀ j₀ deep j = (j ≤ m) × (deep < 256) × (deep ≡ deepest (chunks (m - j) (drop (j * 32) tree)))
+
+abbrev μ-loop : tie.MeasureT-loop
+μ-loop tree m deep₀ j₀ deep j = j
+
+loop-holds : tie.Need-loop-holds Inv-loop μ-loop
+loop-holds c = let a = c .before .args in (omega arith, omega arith, deepest-none (a .m) (a .tree .now))
+
+sub-j : tie.Need-sub-j Inv-loop μ-loop
+sub-j c = search needs
+
+mul-deeper : tie.Need-mul-deeper Inv-loop μ-loop
+mul-deeper c = search needs
+
+shared-slice-read-deeper : tie.Need-shared-slice-read-deeper Inv-loop μ-loop
+shared-slice-read-deeper c = search needs
+
+deeper-requires : tie.Need-deeper-requires Inv-loop μ-loop
+deeper-requires c κs = search needs
+
+loop-less : tie.Need-loop-less Inv-loop μ-loop
+loop-less c = search needs
+
+loop-again : tie.Need-loop-again Inv-loop μ-loop
+loop-again c =
+    let l = c .before .before .before .loop in
+    let a = c .before .before .before .before .before .args in
+    (omega arith, c .deeper .ensures .1, c .deeper .ensures .0 ∙ deepest-more (a .m) (l .j - 1) (l .j) (l .deep) _ (a .tree .now) (omega arith) (omega arith) (l .inv .2) refl)
+
+returns : tie.Need-returns Inv-loop μ-loop
+returns c =
+    let l = c .before .loop in
+    let a = c .before .before .before .args in
+    let z : l .j ≡ 0 = omega arith in
+    let y : a .m - 0 ≡ a .m = omega arith in
+    (rw (z, y) at (l .inv .2), l .inv .1)
+
+pub deepest-level-spec : {M : Type 1} → statement M
+deepest-level-spec =
+    tie.close
+    (tie.spec
+    Inv-loop
+    μ-loop
+    loop-holds
+    sub-j
+    mul-deeper
+    shared-slice-read-deeper
+    deeper-requires
+    loop-less
+    loop-again
+    returns)

@@ -1,0 +1,47 @@
+use native.Mathlib.Omega.{arith}
+use borrow.Author.Needs.{needs}
+use Rattle.views.proofs.TableFacts.{facts}
+use Rattle.views.proofs.Depth.{held-fits, product-fits, room-is}
+use Rattle.views.proofs.insert.has_room.Statement.{statement}
+use Rattle.views.proofs.insert.has_room.Tie as tie
+
+count-of-requires : tie.Need-count-of-requires
+count-of-requires c κs = omega (arith, facts (c .before .before .args .t .now) (c .before .before .pre .0) .head)
+
+capacity-of-requires : tie.Need-capacity-of-requires
+capacity-of-requires c κs = omega (arith, facts (c .before .before .before .args .t .now) (c .before .before .before .pre .0) .head)
+
+count-marks-requires : tie.Need-count-marks-requires
+count-marks-requires c κs = search needs
+
+mul-result : tie.Need-mul-result
+mul-result c =
+    let s = c .before .before .before .before .before in
+    let a = s .args in
+    let k = c .count-marks in
+    record { fits = product-fits (c .before .before .count-of .result) (c .before .capacity-of .result) (k .result) (a .m) (a .t .now) (a .marks .now) (s .pre .0) (c .before .before .count-of .ensures) (c .before .capacity-of .ensures) (k .ensures .0) (k .ensures .1) (s .pre .2) }
+
+sub-result : tie.Need-sub-result
+sub-result c =
+    let s = c .before .before .before .before .before in
+    let a = s .args in
+    let k = c .count-marks in
+    held-fits (c .before .before .count-of .result) (c .before .capacity-of .result) (k .result) (a .m) (a .t .now) (a .marks .now) (s .pre .0) (c .before .before .count-of .ensures) (c .before .capacity-of .ensures) (k .ensures .0) (k .ensures .1) (s .pre .2)
+
+returns : tie.Need-returns
+returns c =
+    let s = c .before .before .before .before .before in
+    let a = s .args in
+    let k = c .count-marks in
+    room-is (c .before .before .count-of .result) (c .before .capacity-of .result) (k .result) (a .m) (a .t .now) (a .marks .now) (s .pre .0) (c .before .before .count-of .ensures) (c .before .capacity-of .ensures) (k .ensures .0) (k .ensures .1) (s .pre .2)
+
+pub has-room-spec : {M : Type 1} → statement M
+has-room-spec =
+    tie.close
+    (tie.spec
+    count-of-requires
+    capacity-of-requires
+    count-marks-requires
+    mul-result
+    sub-result
+    returns)

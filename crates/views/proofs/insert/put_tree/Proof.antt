@@ -1,0 +1,88 @@
+use Prim.Native.Nat.{_≤_, _-_, _+_, _*_}
+use mathlib.Core.Path.{_≡_, refl, _∙_}
+use mathlib.Core.List.{_++_}
+use lib.ListN.{length, drop}
+use Rattle.views.proofs.Copies.{drop-more}
+use Rattle.views.proofs.RecordBytes.{tree-none, tree-more}
+use native.Mathlib.Omega.{arith}
+use borrow.Author.Needs.{needs}
+use Rattle.views.proofs.insert.put_tree.Statement.{statement}
+use Rattle.views.proofs.insert.put_tree.Tie as tie
+use Rattle.views.specs.Change.{chunks, raise}
+
+abbrev Inv-loop : tie.InvT-loop
+Inv-loop t₀ w tree m k j₀ t j =
+    (j ≤ m)
+    × (length t ≡ length t₀)
+    × (chunks (w + j) (drop 4 t) ≡ chunks w (drop 4 t₀) ++ raise k (chunks j tree))
+    × (drop (4 + (w + j) * 32) t ≡ drop (4 + (w + j) * 32) t₀)
+
+abbrev μ-loop : tie.MeasureT-loop
+μ-loop t₀ w tree m k j₀ t j = m - j
+
+loop-holds : tie.Need-loop-holds Inv-loop μ-loop
+loop-holds c =
+    let a = c .before .before .args in
+    (search needs, refl, tree-none (a .w) (a .k) (a .t .now) (a .tree .now), refl)
+
+add-put-raised : tie.Need-add-put-raised Inv-loop μ-loop
+add-put-raised c = search needs
+
+mul-put-raised : tie.Need-mul-put-raised Inv-loop μ-loop
+mul-put-raised c = search needs
+
+add-put-raised-2 : tie.Need-add-put-raised-2 Inv-loop μ-loop
+add-put-raised-2 c = search needs
+
+mul-put-raised-2 : tie.Need-mul-put-raised-2 Inv-loop μ-loop
+mul-put-raised-2 c = search needs
+
+put-raised-requires : tie.Need-put-raised-requires Inv-loop μ-loop
+put-raised-requires c κs =
+    let s = c .before .before .before .before .before in
+    (search needs, search needs, s .pre .2 (c .before .before .loop .j) (omega arith))
+
+add-j : tie.Need-add-j Inv-loop μ-loop
+add-j c = search needs
+
+loop-less : tie.Need-loop-less Inv-loop μ-loop
+loop-less c = search needs
+
+loop-again : tie.Need-loop-again Inv-loop μ-loop
+loop-again c =
+    let a = c .before .before .before .before .before .before .before .before .args in
+    let l = c .before .before .before .before .before .loop in
+    let p = c .before .before .put-raised in (
+      search needs,
+      search needs,
+      tree-more (a .w) (a .k) (l .j) (a .t .now) (l .t) (p .last .0) (a .tree .now) (omega arith) (l .inv .2) (p .ensures .0),
+      drop-more (4 + (a .w + l .j) * 32 + 32) 0 (p .last .0) (a .t .now) (4 + (a .w + (l .j + 1)) * 32) (omega arith)
+          (p .ensures .1 ∙ drop-more (4 + (a .w + l .j) * 32) 32 (l .t) (a .t .now) (4 + (a .w + l .j) * 32 + 32) (omega arith) (l .inv .3)),
+    )
+
+same-length : tie.Need-same-length Inv-loop μ-loop
+same-length c = search needs
+
+returns : tie.Need-returns Inv-loop μ-loop
+returns c =
+    let l = c .before .loop in
+    let e : l .j ≡ c .before .before .before .before .args .m = omega arith in
+    (rw e at (l .inv .2), rw e at (l .inv .3))
+
+pub put-tree-spec : {M : Type 1} → statement M
+put-tree-spec =
+    tie.close
+    (tie.spec
+    Inv-loop
+    μ-loop
+    loop-holds
+    add-put-raised
+    mul-put-raised
+    add-put-raised-2
+    mul-put-raised-2
+    put-raised-requires
+    add-j
+    loop-less
+    loop-again
+    same-length
+    returns)

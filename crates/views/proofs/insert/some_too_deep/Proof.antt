@@ -1,0 +1,77 @@
+use Prim.Native.Nat.{_≤_, _-_, _+_, _*_}
+use mathlib.Core.Path.{_≡_, sym, _∙_}
+use lib.ListN.{drop}
+use Rattle.views.specs.Change.{tooDeep, chunks}
+use Rattle.views.specs.Marks.{marksOf}
+use Rattle.views.proofs.Depth.{deep-stop, deep-step, deep-none, deep-first}
+use native.Mathlib.Omega.{arith}
+use borrow.Author.Needs.{needs}
+use Rattle.views.proofs.insert.some_too_deep.Statement.{statement}
+use Rattle.views.proofs.insert.some_too_deep.Tie as tie
+
+abbrev Inv-loop : tie.InvT-loop
+Inv-loop t marks n deep i₀ i =
+    (i ≤ n) × (tooDeep deep (marksOf marks) (chunks n (drop 4 t)) ≡ tooDeep deep (marksOf (drop i marks)) (chunks (n - i) (drop (4 + i * 32) t)))
+
+abbrev μ-loop : tie.MeasureT-loop
+μ-loop t marks n deep i₀ i = n - i
+
+loop-holds : tie.Need-loop-holds Inv-loop μ-loop
+loop-holds c = let a = c .before .before .args in (omega arith, deep-first (a .deep) (a .n) (a .t .now) (a .marks .now))
+
+shared-slice-read-is-too-deep : tie.Need-shared-slice-read-is-too-deep Inv-loop μ-loop
+shared-slice-read-is-too-deep c = search needs
+
+mul-is-too-deep : tie.Need-mul-is-too-deep Inv-loop μ-loop
+mul-is-too-deep c = search needs
+
+add-is-too-deep : tie.Need-add-is-too-deep Inv-loop μ-loop
+add-is-too-deep c = search needs
+
+shared-slice-read-is-too-deep-2 : tie.Need-shared-slice-read-is-too-deep-2 Inv-loop μ-loop
+shared-slice-read-is-too-deep-2 c = search needs
+
+is-too-deep-requires : tie.Need-is-too-deep-requires Inv-loop μ-loop
+is-too-deep-requires c κs = search needs
+
+returns : tie.Need-returns Inv-loop μ-loop
+returns c =
+    let l = c .before .before .before .before .before .loop in
+    let a = c .before .before .before .before .before .before .before .before .args in
+    deep-stop (a .deep) (a .n) (l .i) (a .t .now) (a .marks .now) (omega arith) (omega arith) (sym (c .before .is-too-deep .ensures) ∙ c .if1 .taken) ∙ sym (l .inv .1)
+
+add-i : tie.Need-add-i Inv-loop μ-loop
+add-i c = search needs
+
+loop-less : tie.Need-loop-less Inv-loop μ-loop
+loop-less c = search needs
+
+loop-again : tie.Need-loop-again Inv-loop μ-loop
+loop-again c =
+    let l = c .before .before .before .before .before .loop in
+    let a = c .before .before .before .before .before .before .before .before .args in
+    (omega arith, l .inv .1 ∙ deep-step (a .deep) (a .n) (l .i) (a .t .now) (a .marks .now) (omega arith) (omega arith) (sym (c .before .is-too-deep .ensures) ∙ c .if1 .left))
+
+returns-2 : tie.Need-returns-2 Inv-loop μ-loop
+returns-2 c =
+    let l = c .before .loop in
+    let a = c .before .before .before .before .args in
+    sym (l .inv .1 ∙ deep-none (a .deep) (a .n) (l .i) (a .t .now) (a .marks .now) (omega arith))
+
+pub some-too-deep-spec : {M : Type 1} → statement M
+some-too-deep-spec =
+    tie.close
+    (tie.spec
+    Inv-loop
+    μ-loop
+    loop-holds
+    shared-slice-read-is-too-deep
+    mul-is-too-deep
+    add-is-too-deep
+    shared-slice-read-is-too-deep-2
+    is-too-deep-requires
+    returns
+    add-i
+    loop-less
+    loop-again
+    returns-2)

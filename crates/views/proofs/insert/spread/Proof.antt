@@ -1,0 +1,79 @@
+use Prim.Native.Nat.{_-_, _+_}
+use mathlib.Core.Path.{_≡_, refl, ap, _∙_}
+use lib.ListN.{length}
+use Rattle.views.proofs.Turns.{depth}
+use Rattle.views.proofs.Whole.{fixed-same, starts, starts-between, ends}
+use native.Mathlib.Omega.{arith}
+use borrow.Author.Needs.{needs}
+use Rattle.views.proofs.insert.spread.Statement.{statement}
+use Rattle.views.proofs.insert.spread.Tie as tie
+use Rattle.views.specs.Pass.{behind, rest, passing, Between}
+
+abbrev Inv-loop : tie.InvT-loop
+Inv-loop t₀ marks tree m up n gap st₀ i₀ w₀ d₀ t st i w d =
+    Between n gap up m i d tree marks t st × (length t ≡ length t₀) × (passing n gap up m tree marks i w d t st ≡ behind up m tree marks (rest n gap 0 t₀))
+
+abbrev μ-loop : tie.MeasureT-loop
+μ-loop t₀ marks tree m up n gap st₀ i₀ w₀ d₀ t st i w d = n - i + (n - i) + d
+
+loop-holds : tie.Need-loop-holds Inv-loop μ-loop
+loop-holds c =
+    let s = c .before .before .before in
+    let a = s .args in (
+      starts-between (a .n) (a .gap) (a .up) (a .m) (a .tree .now) (a .marks .now) (a .t .now) _ (s .pre .1 .0) (s .pre .1 .1) refl,
+      refl,
+      starts (a .n) (a .gap) (a .up) (a .m) (a .tree .now) (a .marks .now) (a .t .now) _,
+    )
+
+add-loop : tie.Need-add-loop Inv-loop μ-loop
+add-loop c =
+    let s = c .before .before .before .before in
+    let a = s .args in
+    let l = c .loop in
+    record { fits = omega (arith, depth (a .n) (a .gap) (a .up) (a .m) (l .i) (l .d) (a .tree .now) (a .marks .now) (l .t) (l .st) (l .inv .0), s .pre .0 .0 .size) }
+
+slice-aggregate-turn : tie.Need-slice-aggregate-turn Inv-loop μ-loop
+slice-aggregate-turn c = search needs
+
+turn-requires : tie.Need-turn-requires Inv-loop μ-loop
+turn-requires c κs =
+    let s = c .before .before .before .before .before .before .before in
+    let a = s .args in
+    let l = c .before .before .before .loop in (
+      (fixed-same (a .n) (a .gap) (a .m) (a .t .now) (l .t) (a .marks .now) (a .tree .now) (l .inv .1) (s .pre .0 .0), s .pre .0 .1),
+      (l .inv .0, (search needs, ap length (l .inv .2) ∙ s .pre .1 .2)),
+    )
+
+loop-less : tie.Need-loop-less Inv-loop μ-loop
+loop-less c = search needs
+
+loop-again : tie.Need-loop-again Inv-loop μ-loop
+loop-again c =
+    let l = c .before .before .before .before .before .before .before .loop in
+    let f = c .before .before .before .turn in
+    (f .ensures .0, search needs, f .ensures .1 .1 ∙ l .inv .2)
+
+same-length : tie.Need-same-length Inv-loop μ-loop
+same-length c = search needs
+
+returns : tie.Need-returns Inv-loop μ-loop
+returns c =
+    let s = c .before .before .before .before .before in
+    let a = s .args in
+    let l = c .before .loop in
+    ends (a .n) (a .gap) (a .up) (a .m) (a .tree .now) (a .marks .now) (l .t) (l .st) (l .i) (l .w) (l .d) _ (l .inv .0 .place) (omega arith) (l .inv .2) (s .pre .1 .2)
+
+pub spread-spec : {M : Type 1} → statement M
+spread-spec =
+    tie.close
+    (tie.spec
+    Inv-loop
+    μ-loop
+    loop-holds
+    add-loop
+    slice-aggregate-turn
+    turn-requires
+    loop-less
+    loop-again
+    same-length
+    returns)

@@ -1,0 +1,70 @@
+use Prim.Native.Nat.{_≤_, _-_}
+use mathlib.Core.Path.{_≡_, refl, ap, _∙_}
+use lib.ListN.{length, drop}
+use Rattle.views.specs.Marks.{marksOf}
+use Rattle.views.proofs.Whole.{fixed-same, starts-front, ends-front}
+use native.Mathlib.Omega.{arith}
+use borrow.Author.Needs.{needs}
+use Rattle.views.proofs.insert.spread_front.Statement.{statement}
+use Rattle.views.proofs.insert.spread_front.Tie as tie
+use Rattle.rights.specs.Table.{level}
+use Rattle.views.specs.Pass.{AtDone, Shallow, inFront, rest, passingFront}
+
+abbrev Inv-loop : tie.InvT-loop
+Inv-loop t₀ marks tree m n gap i₀ w₀ t i w =
+    (i ≤ n) × (AtDone (λ r. Shallow 0 m tree (level r)) (marksOf (drop i marks)) (rest n gap i t)) × (length t ≡ length t₀)
+    × (passingFront n gap m tree marks i w t ≡ inFront m tree marks (rest n gap 0 t₀))
+
+abbrev μ-loop : tie.MeasureT-loop
+μ-loop t₀ marks tree m n gap i₀ w₀ t i w = n - i
+
+loop-holds : tie.Need-loop-holds Inv-loop μ-loop
+loop-holds c =
+    let s = c .before .before .before in
+    let a = s .args in
+    (search needs, s .pre .1 .0, refl, starts-front (a .n) (a .gap) (a .m) (a .tree .now) (a .marks .now) (a .t .now))
+
+step-front-requires : tie.Need-step-front-requires Inv-loop μ-loop
+step-front-requires c κs =
+    let s = c .before .before .before .before .before .before in
+    let a = s .args in
+    let l = c .before .before .loop in (
+      fixed-same (a .n) (a .gap) (a .m) (a .t .now) (l .t) (a .marks .now) (a .tree .now) (l .inv .2) (s .pre .0),
+      (search needs, l .inv .1, ap length (l .inv .3) ∙ s .pre .1 .1),
+    )
+
+add-i : tie.Need-add-i Inv-loop μ-loop
+add-i c = search needs
+
+loop-less : tie.Need-loop-less Inv-loop μ-loop
+loop-less c = search needs
+
+loop-again : tie.Need-loop-again Inv-loop μ-loop
+loop-again c =
+    let l = c .before .before .before .before .before .loop in
+    let f = c .before .before .step-front in
+    (search needs, f .ensures .0, search needs, f .ensures .1 ∙ l .inv .3)
+
+same-length : tie.Need-same-length Inv-loop μ-loop
+same-length c = search needs
+
+returns : tie.Need-returns Inv-loop μ-loop
+returns c =
+    let s = c .before .before .before .before .before in
+    let a = s .args in
+    let l = c .before .loop in
+    ends-front (a .n) (a .gap) (a .m) (a .tree .now) (a .marks .now) (l .t) (l .i) (l .w) _ (omega arith) (l .inv .3) (s .pre .1 .1)
+
+pub spread-front-spec : {M : Type 1} → statement M
+spread-front-spec =
+    tie.close
+    (tie.spec
+    Inv-loop
+    μ-loop
+    loop-holds
+    step-front-requires
+    add-i
+    loop-less
+    loop-again
+    same-length
+    returns)

@@ -1,0 +1,66 @@
+use mathlib.Core.Path.{refl}
+use Rattle.views.proofs.Turns.{front-asks, front-done, front-same}
+use borrow.Author.Needs.{needs}
+use Rattle.views.proofs.insert.step_front.Statement.{statement}
+use Rattle.views.proofs.insert.step_front.Tie as tie
+
+add-l : tie.Need-add-at
+add-l c = search needs
+
+mul-l : tie.Need-mul-at
+mul-l c = search needs
+
+add-l-2 : tie.Need-add-at-2
+add-l-2 c = search needs
+
+slice-read-l : tie.Need-slice-read-l
+slice-read-l c = search needs
+
+tree-in-front-requires : tie.Need-tree-in-front-requires
+tree-in-front-requires c κs =
+    let s = c .before .before .before .before .before in
+    let a = s .args in
+    front-asks (a .n) (a .gap) (a .m) (a .i) (a .w) (a .t .now) (a .marks .now) (a .tree .now) (s .pre .0) (s .pre .1 .0) (s .pre .1 .1) (s .pre .1 .2) _ refl
+
+add-move-record : tie.Need-add-move-record
+add-move-record c = search needs
+
+mul-move-record : tie.Need-mul-move-record
+mul-move-record c = search needs
+
+move-record-requires : tie.Need-move-record-requires
+move-record-requires c κs = search needs
+
+add-result : tie.Need-add-result
+add-result c = search needs
+
+same-length : tie.Need-same-length
+same-length c = search needs
+
+returns : tie.Need-returns
+returns c =
+    let s = c .before .before .before .before .before .before .before .before .before .before .before .before in
+    let a = s .args in
+    let f = c .before .before .before .before .before .before .tree-in-front in
+    let g = c .before .before .move-record in (
+      front-done (a .n) (a .gap) (a .m) (a .i) (a .w) (a .t .now) (a .marks .now) (a .tree .now) (s .pre .0) (s .pre .1 .0) (s .pre .1 .1) (s .pre .1 .2)
+          (f .result) (f .last .0) (g .last .0) (search needs) (f .ensures .0) (f .ensures .1) (f .ensures .2) (g .ensures .0) (g .ensures .1),
+      front-same (a .n) (a .gap) (a .m) (a .i) (a .w) (a .t .now) (a .marks .now) (a .tree .now) (s .pre .0) (s .pre .1 .0) (s .pre .1 .1) (s .pre .1 .2)
+          (f .result) (f .last .0) (g .last .0) (search needs) (f .ensures .0) (f .ensures .1) (f .ensures .2) (g .ensures .0) (g .ensures .1),
+    )
+
+pub step-front-spec : {M : Type 1} → statement M
+step-front-spec =
+    tie.close
+    (tie.spec
+    add-l
+    mul-l
+    add-l-2
+    slice-read-l
+    tree-in-front-requires
+    mul-move-record
+    add-move-record
+    move-record-requires
+    add-result
+    same-length
+    returns)

@@ -1,0 +1,78 @@
+use mathlib.Core.Path.{sym, _∙_}
+use Rattle.views.proofs.Turns.{depth, flush-asks, flush-gives, take-asks, take-gives}
+use native.Mathlib.Omega.{arith}
+use borrow.Author.Needs.{needs}
+use Rattle.views.proofs.insert.turn.Statement.{statement}
+use Rattle.views.proofs.insert.turn.Tie as tie
+
+next-level-requires : tie.Need-next-level-requires
+next-level-requires c κs = search needs
+
+is-due-requires : tie.Need-is-due-requires
+is-due-requires c κs =
+    let s = c .before .before .before .before .before .before .before in
+    let a = s .args in
+    omega (arith, depth (a .n) (a .gap) (a .up) (a .m) (a .i) (a .d) (a .tree .now) (a .marks .now) (a .t .now) (a .st .now) (s .pre .1 .0), s .pre .1 .0 .room)
+
+flush-tree-requires : tie.Need-flush-tree-requires
+flush-tree-requires c κs =
+    let s = c .before .before .before .before .before .before .before .before .before .before .before in
+    let a = s .args in
+    let x = c .before .before .before .before .before in
+    let y = c .before .before .before in
+    flush-asks (a .n) (a .gap) (a .up) (a .m) (a .i) (a .w) (a .d) (x .next-level .result) (a .t .now) (a .marks .now) (a .tree .now) (a .st .now) (s .pre .0 .0) (s .pre .0 .1) (s .pre .1 .0) (s .pre .1 .1 .0) (s .pre .1 .1 .1) (x .next-level .ensures) (sym (y .is-due .ensures) ∙ c .before .before .if1 .taken)
+
+same-length : tie.Need-same-length
+same-length c = search needs
+
+same-length-2 : tie.Need-same-length-2
+same-length-2 c = search needs
+
+returns : tie.Need-returns
+returns c =
+    let s = c .before .before .before .before .before .before .before .before .before .before .before .before .before .before in
+    let a = s .args in
+    let x = c .before .before .before .before .before .before .before .before in
+    let y = c .before .before .before .before .before .before in
+    let f = c .before .before .flush-tree in
+    flush-gives (a .n) (a .gap) (a .up) (a .m) (a .i) (a .w) (a .d) (x .next-level .result) (a .t .now) (a .marks .now) (a .tree .now) (a .st .now) (s .pre .0 .0) (s .pre .0 .1) (s .pre .1 .0) (s .pre .1 .1 .0) (s .pre .1 .1 .1) (x .next-level .ensures) (sym (y .is-due .ensures) ∙ c .before .before .before .before .before .if1 .taken)
+    (f .last .0) (f .result .i) (f .result .w) (f .result .d) (f .ensures)
+
+take-record-requires : tie.Need-take-record-requires
+take-record-requires c κs =
+    let s = c .before .before .before .before .before .before .before .before .before .before .before in
+    let a = s .args in
+    let x = c .before .before .before .before .before in
+    let y = c .before .before .before in
+    take-asks (a .n) (a .gap) (a .up) (a .m) (a .i) (a .w) (a .d) (x .next-level .result) (a .t .now) (a .marks .now) (a .tree .now) (a .st .now) (s .pre .0 .0) (s .pre .0 .1) (s .pre .1 .0) (s .pre .1 .1 .0) (s .pre .1 .1 .1) (x .next-level .ensures) (sym (y .is-due .ensures) ∙ c .before .before .if1 .left)
+
+same-length-3 : tie.Need-same-length-3
+same-length-3 c = search needs
+
+same-length-4 : tie.Need-same-length-4
+same-length-4 c = search needs
+
+returns-2 : tie.Need-returns-2
+returns-2 c =
+    let s = c .before .before .before .before .before .before .before .before .before .before .before .before .before .before .before .before in
+    let a = s .args in
+    let x = c .before .before .before .before .before .before .before .before .before .before in
+    let y = c .before .before .before .before .before .before .before .before in
+    let f = c .before .before .before .before .take-record in
+    take-gives (a .n) (a .gap) (a .up) (a .m) (a .i) (a .w) (a .d) (x .next-level .result) (a .t .now) (a .marks .now) (a .tree .now) (a .st .now) (s .pre .0 .0) (s .pre .0 .1) (s .pre .1 .0) (s .pre .1 .1 .0) (s .pre .1 .1 .1) (x .next-level .ensures) (sym (y .is-due .ensures) ∙ c .before .before .before .before .before .before .before .if1 .left)
+    (f .last .0) (f .result .i) (f .result .w) (f .result .d) (f .last .1 .1 .0) (search needs) (f .ensures)
+
+pub turn-spec : {M : Type 1} → statement M
+turn-spec =
+    tie.close
+    (tie.spec
+    next-level-requires
+    is-due-requires
+    flush-tree-requires
+    same-length
+    same-length-2
+    returns
+    take-record-requires
+    same-length-3
+    same-length-4
+    returns-2)

@@ -1,0 +1,60 @@
+use Prim.Native.Nat.{_≤_, _-_}
+use mathlib.Core.Path.{_≡_, refl, _∙_}
+use mathlib.Core.Logic.{⊎-elim}
+use Rattle.views.proofs.MarkLaws.{marked-more, marked-same}
+use native.Mathlib.Omega.{arith}
+use borrow.Author.Needs.{needs}
+use Rattle.views.proofs.marks.count_marks.Statement.{statement}
+use Rattle.views.proofs.marks.count_marks.Tie as tie
+use Rattle.views.specs.Marks.{marked}
+
+abbrev Inv-loop : tie.InvT-loop
+Inv-loop marks n k₀ i₀ k i = (i ≤ n) × (k ≡ marked i marks) × (k ≤ i)
+
+abbrev μ-loop : tie.MeasureT-loop
+μ-loop marks n k₀ i₀ k i = n - i
+
+loop-holds : tie.Need-loop-holds Inv-loop μ-loop
+loop-holds c = search needs
+
+shared-slice-read-if1 : tie.Need-shared-slice-read-if1 Inv-loop μ-loop
+shared-slice-read-if1 c = search needs
+
+add-k : tie.Need-add-k Inv-loop μ-loop
+add-k c = search needs
+
+add-i : tie.Need-add-i Inv-loop μ-loop
+add-i c = search needs
+
+loop-less : tie.Need-loop-less Inv-loop μ-loop
+loop-less c = search needs
+
+loop-again : tie.Need-loop-again Inv-loop μ-loop
+loop-again c =
+    let a = c .before .before .before .before .args in
+    let l = c .before .before .before .loop in (
+      search needs,
+      ⊎-elim (λ x. x .1 ∙ marked-more (a .marks .now) (l .i) (l .k) (omega arith) (l .inv .1) (x .0 .taken))
+          (λ x. x .1 ∙ marked-same (a .marks .now) (l .i) (l .k) (omega arith) (l .inv .1) (x .0 .left)) (c .if1 .came),
+      ⊎-elim (λ x. omega arith) (λ x. omega arith) (c .if1 .came),
+    )
+
+returns : tie.Need-returns Inv-loop μ-loop
+returns c =
+    let l = c .before .loop in
+    let e : l .i ≡ c .before .before .args .n = omega arith in
+    (rw e at (l .inv .1), omega arith)
+
+pub count-marks-spec : {M : Type 1} → statement M
+count-marks-spec =
+    tie.close
+    (tie.spec
+    Inv-loop
+    μ-loop
+    loop-holds
+    shared-slice-read-if1
+    add-k
+    add-i
+    loop-less
+    loop-again
+    returns)

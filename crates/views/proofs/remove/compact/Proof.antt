@@ -1,0 +1,59 @@
+use Prim.Native.Nat.{_≤_, _-_, _+_, _*_}
+use Rattle.rights.specs.Table.{level}
+use mathlib.Core.Path.{_≡_, refl, sym, _∙_}
+use lib.ListN.{length, drop}
+use Rattle.views.proofs.Removal.{none-yet, done-all}
+use borrow.Author.Needs.{needs}
+use native.Mathlib.Omega.{arith}
+use Rattle.views.proofs.remove.compact.Statement.{statement}
+use Rattle.views.proofs.remove.compact.Tie as tie
+use Rattle.views.specs.Change.{removed, chunks}
+use Rattle.views.specs.Pass.{going, Under}
+
+abbrev Inv-loop : tie.InvT-loop
+Inv-loop t₀ marks n i₀ w₀ cut₀ t i w cut =
+    (i ≤ n) × (w ≤ i) × (length t ≡ length t₀) × (Under level 12 (chunks (n - i) (drop (4 + i * 32) t))) × (going n i w cut t marks ≡ removed marks (chunks n (drop 4 t₀)))
+
+abbrev μ-loop : tie.MeasureT-loop
+μ-loop t₀ marks n i₀ w₀ cut₀ t i w cut = n - i
+
+loop-holds : tie.Need-loop-holds Inv-loop μ-loop
+loop-holds c =
+    let a = c .before .before .args in
+    let z : a .n - 0 ≡ a .n = omega arith in
+    (search needs, search needs, refl, rw z (c .before .before .pre .2), none-yet (a .n) (a .t .now) (a .marks .now) (c .before .before .pre .2))
+
+step-requires : tie.Need-step-requires Inv-loop μ-loop
+step-requires c κs = search needs
+
+add-i : tie.Need-add-i Inv-loop μ-loop
+add-i c = search needs
+
+loop-less : tie.Need-loop-less Inv-loop μ-loop
+loop-less c = search needs
+
+loop-again : tie.Need-loop-again Inv-loop μ-loop
+loop-again c = (search needs, search needs, search needs, c .before .before .step .ensures .1, c .before .before .step .ensures .2 ∙ c .before .before .before .before .before .loop .inv .4)
+
+same-length : tie.Need-same-length Inv-loop μ-loop
+same-length c = search needs
+
+returns : tie.Need-returns Inv-loop μ-loop
+returns c =
+    let a = c .before .before .before .before .args in
+    let l = c .before .loop in
+    (search needs, sym (done-all (a .n) (l .w) (l .cut) (l .t) (a .marks .now) (l .i) (omega arith)) ∙ l .inv .4)
+
+pub compact-spec : {M : Type 1} → statement M
+compact-spec =
+    tie.close
+    (tie.spec
+    Inv-loop
+    μ-loop
+    loop-holds
+    step-requires
+    add-i
+    loop-less
+    loop-again
+    same-length
+    returns)

@@ -1,0 +1,68 @@
+use Prim.Native.Nat.{_≤_, _-_, _+_, _*_}
+use mathlib.Core.Path.{_≡_, refl, sym, _∙_}
+use lib.ListN.{length, take, drop}
+use Rattle.views.proofs.Relabelled.{naming, naming-none, naming-all, naming-more, count-stays, tail-stays}
+use native.Mathlib.Omega.{arith}
+use borrow.Author.Needs.{needs}
+use Rattle.views.proofs.rename.rename_all.Statement.{statement}
+use Rattle.views.proofs.rename.rename_all.Tie as tie
+use Rattle.views.specs.Change.{chunks, renamed}
+
+abbrev Inv-loop : tie.InvT-loop
+Inv-loop t₀ marks s from to n i₀ t i =
+    (i ≤ n) × (length t ≡ length t₀) × (naming n (take (to - from) (drop from s)) marks i t ≡ renamed (take (to - from) (drop from s)) marks (chunks n (drop 4 t₀)))
+    × (take 4 t ≡ take 4 t₀) × (drop (4 + n * 32) t ≡ drop (4 + n * 32) t₀)
+
+abbrev μ-loop : tie.MeasureT-loop
+μ-loop t₀ marks s from to n i₀ t i = n - i
+
+loop-holds : tie.Need-loop-holds Inv-loop μ-loop
+loop-holds c =
+    let a = c .before .before .before .args in
+    (search needs, refl, naming-none (a .n) (take (a .to - a .from) (drop (a .from) (a .s .now))) (a .marks .now) (a .t .now), refl, refl)
+
+rename-one-requires : tie.Need-rename-one-requires Inv-loop μ-loop
+rename-one-requires c κs = search needs
+
+add-i : tie.Need-add-i Inv-loop μ-loop
+add-i c = search needs
+
+loop-less : tie.Need-loop-less Inv-loop μ-loop
+loop-less c = search needs
+
+loop-again : tie.Need-loop-again Inv-loop μ-loop
+loop-again c =
+    let a = c .before .before .before .before .before .before .before .before .before .args in
+    let l = c .before .before .before .before .before .loop in
+    let f = c .before .before .rename-one in (
+      search needs,
+      search needs,
+      naming-more (a .n) (take (a .to - a .from) (drop (a .from) (a .s .now))) (a .marks .now) (l .i) (l .t) (f .last .0) (omega arith) (omega arith) (omega arith) (f .ensures .0) (f .ensures .1) ∙ l .inv .2,
+      count-stays (a .n) (take (a .to - a .from) (drop (a .from) (a .s .now))) (a .marks .now) (l .i) (l .t) (f .last .0) (omega arith) (omega arith) (omega arith) (f .ensures .0) (f .ensures .1) ∙ l .inv .3,
+      tail-stays (a .n) (take (a .to - a .from) (drop (a .from) (a .s .now))) (a .marks .now) (l .i) (l .t) (f .last .0) (omega arith) (omega arith) (omega arith) (f .ensures .0) (f .ensures .1) ∙ l .inv .4,
+    )
+
+same-length : tie.Need-same-length Inv-loop μ-loop
+same-length c = search needs
+
+returns : tie.Need-returns Inv-loop μ-loop
+returns c =
+    let a = c .before .before .before .before .before .args in
+    let l = c .before .loop in
+    let e : l .i ≡ a .n = omega arith in
+    let g = sym (naming-all (a .n) (take (a .to - a .from) (drop (a .from) (a .s .now))) (a .marks .now) (l .i) (l .t) (omega arith)) ∙ l .inv .2 in
+    (rw e at g, l .inv .3, l .inv .4)
+
+pub rename-all-spec : {M : Type 1} → statement M
+rename-all-spec =
+    tie.close
+    (tie.spec
+    Inv-loop
+    μ-loop
+    loop-holds
+    rename-one-requires
+    add-i
+    loop-less
+    loop-again
+    same-length
+    returns)

@@ -1,0 +1,64 @@
+use mathlib.Core.Path.{refl}
+use Prim.Native.Nat.{_+_, _*_, _-_}
+use lib.ListN.{getD, take, drop}
+use Rattle.views.specs.Change.{relabel}
+use mathlib.Core.Path.{_∙_}
+use Rattle.rights.proofs.RecordLaws.{label-length}
+use Rattle.rights.proofs.RecordMade.{pasted-record}
+use Rattle.views.proofs.Relabelled.{label-front, label-back, new-label, old-label}
+use native.Mathlib.Omega.{arith}
+use borrow.Author.Needs.{needs}
+use Rattle.views.proofs.rename.rename_one.Statement.{statement}
+use Rattle.views.proofs.rename.rename_one.Tie as tie
+
+shared-slice-read-if1 : tie.Need-shared-slice-read-if1
+shared-slice-read-if1 c = search needs
+
+mul-at : tie.Need-mul-at
+mul-at c = search needs
+
+add-at : tie.Need-add-at
+add-at c = search needs
+
+slice-read-level : tie.Need-slice-read-level
+slice-read-level c = search needs
+
+sub-put-record : tie.Need-sub-put-record
+sub-put-record c = search needs
+
+put-record-requires : tie.Need-put-record-requires
+put-record-requires c κs = search needs
+
+same-length : tie.Need-same-length
+same-length c = search needs
+
+returns : tie.Need-returns
+returns c =
+    let a = c .before .before .before .before .before .before .before .before .before .before .args in
+    let e = c .before .before .put-record in
+    let l = label-length 0 (a .s .now) (a .from) (a .to - a .from) (omega arith) (omega arith) in
+    let p = e .ensures ∙ pasted-record (a .t .now) (4 + a .i * 32) _ (take (a .to - a .from) (drop (a .from) (a .s .now))) (omega (arith, l)) in (
+      new-label (getD (a .marks .now) (a .i) 0) (take (4 + a .i * 32 + 32) (e .last .0)) (take (4 + a .i * 32) (a .t .now))
+          (relabel (take (a .to - a .from) (drop (a .from) (a .s .now))) (take 32 (drop (4 + a .i * 32) (a .t .now)))) (take 32 (drop (4 + a .i * 32) (a .t .now))) (c .before .before .before .before .before .if1 .taken)
+          (label-front (a .t .now) (e .last .0) (take (a .to - a .from) (drop (a .from) (a .s .now))) (a .i) (omega arith) (omega (arith, l)) p),
+      label-back (a .t .now) (e .last .0) (take (a .to - a .from) (drop (a .from) (a .s .now))) (a .i) (omega arith) (omega (arith, l)) p,
+    )
+
+returns-2 : tie.Need-returns-2
+returns-2 c =
+    let a = c .before .before .before .before .before .args in
+    (old-label (getD (a .marks .now) (a .i) 0) (a .i) (a .t .now) (relabel (take (a .to - a .from) (drop (a .from) (a .s .now))) (take 32 (drop (4 + a .i * 32) (a .t .now)))) (c .if1 .left), refl)
+
+pub rename-one-spec : {M : Type 1} → statement M
+rename-one-spec =
+    tie.close
+    (tie.spec
+    shared-slice-read-if1
+    mul-at
+    add-at
+    slice-read-level
+    sub-put-record
+    put-record-requires
+    same-length
+    returns
+    returns-2)

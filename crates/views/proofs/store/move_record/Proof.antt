@@ -1,0 +1,73 @@
+use Prim.Native.Nat.{_≤_, _-_, _+_}
+use mathlib.Core.Path.{_≡_, refl}
+use mathlib.Core.List.{_++_}
+use lib.ListN.{length, take, drop, length-set}
+use Rattle.views.proofs.Copies.{move-none, move-front, move-back}
+use borrow.Author.Needs.{needs}
+use native.Mathlib.Omega.{arith}
+use Rattle.views.proofs.store.move_record.Statement.{statement}
+use Rattle.views.proofs.store.move_record.Tie as tie
+
+abbrev Inv-loop : tie.InvT-loop
+Inv-loop t₀ from to j₀ t j =
+    (j ≤ 32) × (length t ≡ length t₀) × (take (to + j) t ≡ take to t₀ ++ take j (drop from t₀)) × (drop (from + j) t ≡ drop (from + j) t₀)
+
+abbrev μ-loop : tie.MeasureT-loop
+μ-loop t₀ from to j₀ t j = 32 - j
+
+loop-holds : tie.Need-loop-holds Inv-loop μ-loop
+loop-holds c = (search needs, refl, move-none (c .args .t .now) (c .args .to), refl)
+
+add-t : tie.Need-add-t Inv-loop μ-loop
+add-t c = search needs
+
+slice-read-t : tie.Need-slice-read-t Inv-loop μ-loop
+slice-read-t c = search needs
+
+add-t-2 : tie.Need-add-t-2 Inv-loop μ-loop
+add-t-2 c = search needs
+
+slice-write-t : tie.Need-slice-write-t Inv-loop μ-loop
+slice-write-t c = search needs
+
+add-j : tie.Need-add-j Inv-loop μ-loop
+add-j c = search needs
+
+loop-less : tie.Need-loop-less Inv-loop μ-loop
+loop-less c = search needs
+
+loop-again : tie.Need-loop-again Inv-loop μ-loop
+loop-again c =
+    let l = c .before .before .loop in
+    let a = c .before .before .before .args in (
+      omega arith,
+      simp length-set (omega arith),
+      move-front (l .t) (a .t .now) (a .from) (a .to) (l .j) (omega arith) (omega arith) (omega arith) (l .inv .2) (l .inv .3),
+      move-back (l .t) (a .t .now) (a .from) (a .to) (l .j) (omega arith) (omega arith) (omega arith) (l .inv .3),
+    )
+
+same-length : tie.Need-same-length Inv-loop μ-loop
+same-length c = search needs
+
+returns : tie.Need-returns Inv-loop μ-loop
+returns c =
+    let l = c .before .loop in
+    let e : l .j ≡ 32 = omega arith in
+    (rw e at (l .inv .2), rw e at (l .inv .3))
+
+pub move-record-spec : {M : Type 1} → statement M
+move-record-spec =
+    tie.close
+    (tie.spec
+    Inv-loop
+    μ-loop
+    loop-holds
+    add-t
+    slice-read-t
+    add-t-2
+    slice-write-t
+    add-j
+    loop-less
+    loop-again
+    same-length
+    returns)

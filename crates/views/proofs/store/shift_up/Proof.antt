@@ -1,0 +1,67 @@
+use Prim.Native.Nat.{_≤_, _-_}
+use mathlib.Core.Path.{_≡_, refl}
+use lib.ListN.{length, length-set}
+use Rattle.views.proofs.Copies.{shift-none, shift-more}
+use borrow.Author.Needs.{needs}
+use native.Mathlib.Omega.{arith}
+use Rattle.views.proofs.store.shift_up.Statement.{statement}
+use Rattle.views.proofs.store.shift_up.Tie as tie
+use Rattle.views.specs.Pass.{shifted}
+
+abbrev Inv-loop : tie.InvT-loop
+Inv-loop t₀ from end by j₀ t j = (from ≤ j) × (j ≤ end) × (length t ≡ length t₀) × (t ≡ shifted t₀ j end by)
+
+abbrev μ-loop : tie.MeasureT-loop
+μ-loop t₀ from end by j₀ t j = j
+
+loop-holds : tie.Need-loop-holds Inv-loop μ-loop
+loop-holds c = (search needs, search needs, refl, shift-none (c .args .t .now) (c .args .end) (c .args .by))
+
+sub-j : tie.Need-sub-j Inv-loop μ-loop
+sub-j c = search needs
+
+slice-read-t : tie.Need-slice-read-t Inv-loop μ-loop
+slice-read-t c = search needs
+
+add-t : tie.Need-add-t Inv-loop μ-loop
+add-t c = search needs
+
+slice-write-t : tie.Need-slice-write-t Inv-loop μ-loop
+slice-write-t c = search needs
+
+loop-less : tie.Need-loop-less Inv-loop μ-loop
+loop-less c = search needs
+
+loop-again : tie.Need-loop-again Inv-loop μ-loop
+loop-again c =
+    let l = c .before .before .loop in
+    let a = c .before .before .before .args in (
+      omega arith,
+      omega arith,
+      simp length-set (omega arith),
+      shift-more (l .t) (a .t .now) (l .j) (l .j - 1) (a .end) (a .by) (omega arith) (omega arith) (omega arith) (l .inv .3),
+    )
+
+same-length : tie.Need-same-length Inv-loop μ-loop
+same-length c = search needs
+
+returns : tie.Need-returns Inv-loop μ-loop
+returns c =
+    let e : c .before .loop .j ≡ c .before .before .args .from = omega arith in
+    rw e at (c .before .loop .inv .3)
+
+pub shift-up-spec : {M : Type 1} → statement M
+shift-up-spec =
+    tie.close
+    (tie.spec
+    Inv-loop
+    μ-loop
+    loop-holds
+    sub-j
+    slice-read-t
+    add-t
+    slice-write-t
+    loop-less
+    loop-again
+    same-length
+    returns)

@@ -1,0 +1,128 @@
+-- The changes (document 01, "Changes"), on lists of anything with a level, in document order: the nodes with their records, their public parts, or tags that name them.
+-- "A selected node is done if ..": the changes take a mark for each node, done or not. Which nodes are done is decided elsewhere, before anything changes.
+use Prim.Native.Nat.{ℕ, zero, suc, _+_, _-_, _*_, _/_, _%_}
+use mathlib.Core.Bool.{Bool, true, false, cond, not, _&&_, _||_}
+use mathlib.Core.List.{List, [], _∷_, _++_}
+use lib.Dec.{eqb, leb, ltb}
+use lib.ListN.{length, take, drop, replicate}
+use Rattle.rights.specs.Table.{count, capacity, level, records}
+use Rattle.rights.specs.Record.{recordOf}
+use Rattle.views.specs.Marks.{marksOf, marked}
+use Rattle.views.specs.declared.insert.Place.{Place}
+use Rattle.views.specs.declared.insert.Place.the-variants.{Append, After, Before}
+
+-- The mark of the first node and those of the later ones; no node beyond the marks is done.
+abbrev pub isDone : List Bool → Bool
+isDone [] = false
+isDone (b ∷ bs) = b
+
+abbrev pub later : List Bool → List Bool
+later [] = []
+later (b ∷ bs) = bs
+
+module _ {E : Type 0} (lev : E → ℕ) where
+  -- Behind a node at level l stand its descendants: the nodes up to the first that is not deeper. They go.
+  unfoldable pub dropBelow : ℕ → List E → List E
+  dropBelow l [] = []
+  dropBelow l (x ∷ t) = cond (ltb l (lev x)) (dropBelow l t) (x ∷ t)
+
+  -- The same, where y comes behind them.
+  unfoldable pub putBehind : ℕ → List E → List E → List E
+  putBehind l y [] = y
+  putBehind l y (x ∷ t) = cond (ltb l (lev x)) (x ∷ putBehind l y t) (y ++ (x ∷ t))
+
+  -- "remove: .. Hidden descendants go too": the nodes that are done go, with all below them.
+  unfoldable pub remove : List Bool → List E → List E
+  remove ms [] = []
+  remove ms (x ∷ t) = cond (isDone ms) (dropBelow (lev x) (remove (later ms) t)) (x ∷ remove (later ms) t)
+
+  -- Behind each node that is done, and behind its descendants, comes y of the node.
+  unfoldable pub insertBehind : (E → List E) → List Bool → List E → List E
+  insertBehind y ms [] = []
+  insertBehind y ms (x ∷ t) = x ∷ cond (isDone ms) (putBehind (lev x) (y x) (insertBehind y (later ms) t)) (insertBehind y (later ms) t)
+
+  -- In front of each node that is done comes y of the node.
+  unfoldable pub insertInFront : (E → List E) → List Bool → List E → List E
+  insertInFront y ms [] = []
+  insertInFront y ms (x ∷ t) = cond (isDone ms) (y x) [] ++ (x ∷ insertInFront y (later ms) t)
+
+  -- "The tree lands directly beside it, or as last child in the stored tree." `tree l` is the inserted tree with its root at level l.
+  abbrev pub append : (ℕ → List E) → List Bool → List E → List E
+  append tree = insertBehind (λ x. tree (suc (lev x)))
+
+  abbrev pub insertAfter : (ℕ → List E) → List Bool → List E → List E
+  insertAfter tree = insertBehind (λ x. tree (lev x))
+
+  abbrev pub insertBefore : (ℕ → List E) → List Bool → List E → List E
+  insertBefore tree = insertInFront (λ x. tree (lev x))
+
+  -- rename, and update, which concerns children: the nodes that are done become f of them; every other stays as it is.
+  unfoldable pub rename : (E → E) → List Bool → List E → List E
+  rename f ms [] = []
+  rename f ms (x ∷ t) = cond (isDone ms) (f x) x ∷ rename f (later ms) t
+
+-- The first m records of bytes that hold records alone, as those of a tree.
+unfoldable pub chunks : ℕ → List ℕ → List (List ℕ)
+chunks zero xs = []
+chunks (suc k) xs = take 32 xs ∷ chunks k (drop 32 xs)
+
+-- A record k levels deeper, and a tree of records: it lands at its place's level plus its own.
+abbrev pub raised : ℕ → List ℕ → List ℕ
+raised k r = (k + level r) ∷ drop 1 r
+
+unfoldable pub raise : ℕ → List (List ℕ) → List (List ℕ)
+raise k [] = []
+raise k (r ∷ rs) = raised k r ∷ raise k rs
+
+-- how many levels below its place the tree's root lands
+abbrev pub lower : Place → ℕ
+lower Append = 1
+lower After = 0
+lower Before = 0
+
+-- the records after an insertion of a tree of m records
+abbrev pub placed : Place → ℕ → List ℕ → List ℕ → List (List ℕ) → List (List ℕ)
+placed Append m tree ms rs = append level (λ l. raise l (chunks m tree)) (marksOf ms) rs
+placed After m tree ms rs = insertAfter level (λ l. raise l (chunks m tree)) (marksOf ms) rs
+placed Before m tree ms rs = insertBefore level (λ l. raise l (chunks m tree)) (marksOf ms) rs
+
+-- the records after a removal
+abbrev pub removed : List ℕ → List (List ℕ) → List (List ℕ)
+removed ms rs = remove level (marksOf ms) rs
+
+-- the records after a renaming to the label s
+abbrev pub relabel : List ℕ → List ℕ → List ℕ
+relabel s r = recordOf (level r) s
+
+abbrev pub renamed : List ℕ → List ℕ → List (List ℕ) → List (List ℕ)
+renamed s ms rs = rename level (relabel s) (marksOf ms) rs
+
+-- a number as four bytes, the lowest first
+abbrev pub le4 : ℕ → List ℕ
+le4 n = n % 256 ∷ n / 256 % 256 ∷ n / 65536 % 256 ∷ n / 16777216 % 256 ∷ []
+
+-- the records, one after the other
+unfoldable pub join : List (List ℕ) → List ℕ
+join [] = []
+join (r ∷ rs) = r ++ join rs
+
+-- What the lent bytes of a table become: the count of the records, the records, and zeros to the very end, "so a removed label leaves no trace".
+unfoldable pub changed : List ℕ → List (List ℕ) → List ℕ
+changed t rs = le4 (length rs) ++ (join rs ++ replicate (length t - (4 + length rs * 32)) 0)
+
+-- the level of the deepest record
+unfoldable pub deepest : List (List ℕ) → ℕ
+deepest [] = 0
+deepest (r ∷ rs) = cond (ltb (deepest rs) (level r)) (level r) (deepest rs)
+
+-- Refusal 10 for insertions: "a level above 11 .. at a place that would be done". `deep` is how much deeper than the place the deepest inserted node is.
+unfoldable pub tooDeep : ℕ → List Bool → List (List ℕ) → Bool
+tooDeep deep ms [] = false
+tooDeep deep ms (r ∷ rs) = (isDone ms && ltb 11 (level r + deep)) || tooDeep deep (later ms) rs
+
+-- Refusal 11: "fewer free records than the whole line needs (.. insertions D × tree size)". There is room where it does not apply.
+abbrev pub free : List ℕ → ℕ
+free t = capacity (length t) - count t
+
+abbrev pub hasRoom : List ℕ → List ℕ → ℕ → Bool
+hasRoom t ms m = leb (marked (count t) ms * m) (free t)

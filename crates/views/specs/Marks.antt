@@ -1,0 +1,25 @@
+-- Marks: a byte for each node, set unless 0.
+use Prim.Native.Nat.{ℕ, zero, suc}
+use mathlib.Core.Bool.{Bool, true, false, not}
+use mathlib.Core.List.{List, [], _∷_}
+use lib.Dec.{eqb}
+use lib.ListN.{take}
+
+abbrev pub marksOf : List ℕ → List Bool
+marksOf [] = []
+marksOf (b ∷ bs) = not (eqb b 0) ∷ marksOf bs
+
+-- how many marks are set
+abbrev pub markCount : List Bool → ℕ
+markCount [] = 0
+markCount (true ∷ bs) = suc (markCount bs)
+markCount (false ∷ bs) = markCount bs
+
+-- how many of the first n nodes are marked
+abbrev pub marked : ℕ → List ℕ → ℕ
+marked n ms = markCount (marksOf (take n ms))
+
+-- f at i, .., i + n - 1
+unfoldable pub eachFrom : {A : Type 0} → (ℕ → A) → ℕ → ℕ → List A
+eachFrom f i zero = []
+eachFrom f i (suc n) = f i ∷ eachFrom f (suc i) n

@@ -1,0 +1,92 @@
+-- Lists of nodes in document order, each with its level: what the laws of the changes speak of.
+use Prim.Native.Nat.{ℕ, zero, suc, _+_, _≤_}
+use mathlib.Core.Path.{_≡_}
+use mathlib.Core.Bool.{Bool, true, false, cond, _&&_, _||_, not}
+use mathlib.Core.List.{List, [], _∷_, _++_}
+use mathlib.Core.Logic.{_⊎_}
+use mathlib.Core.Option.{Option, none, some}
+use lib.Dec.{ltb}
+use lib.ListN.{length, drop}
+use Rattle.rights.specs.Bytes.{all}
+use Rattle.rights.specs.Labels.{labelByte, sameLabel, restricted}
+use Rattle.rights.specs.Table.{level, recordOk}
+use Rattle.views.specs.Change.{isDone, later}
+use Rattle.views.specs.Pass.{Above, Front}
+
+-- P holds of each
+abbrev pub All : {E : Type 0} → (E → Type 0) → List E → Type 0
+All P [] = Unit {0}
+All P (x ∷ t) = P x × All P t
+
+module _ {E : Type 0} (lev : E → ℕ) where
+  -- Each node is at most one level deeper than the one before it, the first at most at level n.
+  abbrev pub Nested : ℕ → List E → Type 0
+  Nested n [] = Unit {0}
+  Nested n (x ∷ t) = (lev x ≤ n) × Nested (suc (lev x)) t
+
+  -- Node i of t is a descendant of a node at level l in front of t: it and all nodes before it are deeper than l.
+  unfoldable pub isBelow : ℕ → List E → ℕ → Bool
+  isBelow l [] i = false
+  isBelow l (y ∷ t) zero = ltb l (lev y)
+  isBelow l (y ∷ t) (suc i) = ltb l (lev y) && isBelow l t i
+
+  -- Node j is an ancestor of node i.
+  unfoldable pub isAncestor : List E → ℕ → ℕ → Bool
+  isAncestor [] j i = false
+  isAncestor (x ∷ t) zero zero = false
+  isAncestor (x ∷ t) zero (suc i) = isBelow (lev x) t i
+  isAncestor (x ∷ t) (suc j) zero = false
+  isAncestor (x ∷ t) (suc j) (suc i) = isAncestor t j i
+
+-- the mark of node i
+unfoldable pub markAt : List Bool → ℕ → Bool
+markAt [] i = false
+markAt (b ∷ bs) zero = b
+markAt (b ∷ bs) (suc i) = markAt bs i
+
+-- Node i goes with a removal: it is done, or a node before it is whose descendant it is.
+unfoldable pub goes : {E : Type 0} → (E → ℕ) → List Bool → List E → ℕ → Bool
+goes lev ms [] i = false
+goes lev ms (x ∷ t) zero = isDone ms
+goes lev ms (x ∷ t) (suc i) = (isDone ms && isBelow lev (lev x) t i) || goes lev (later ms) t i
+
+-- Node i is done, or an ancestor of it is.
+pub record Goes {E : Type 0} (lev : E → ℕ) (ms : List Bool) (t : List E) (i : ℕ) : Type 0 where
+  pub node : ℕ
+  pub done : markAt ms node ≡ true
+  pub over : (isAncestor lev t node i ≡ true) ⊎ (node ≡ i)
+
+-- In the list w the tree y stands behind the node x and all below x; nothing that follows is below x.
+pub record Behind {E : Type 0} (lev : E → ℕ) (x : E) (y w : List E) : Type 0 where
+  pub before : List E
+  pub below : List E
+  pub after : List E
+  pub is : w ≡ before ++ (x ∷ (below ++ (y ++ after)))
+  pub deeper : Above lev (suc (lev x)) below
+  pub next : Front lev (lev x) after
+
+-- the nodes whose number passes the test, in order
+unfoldable pub only : {E : Type 0} → (ℕ → Bool) → List E → List E
+only p [] = []
+only p (x ∷ t) = cond (p 0) (x ∷ only (λ i. p (suc i)) t) (only (λ i. p (suc i)) t)
+
+-- the tags of the nodes that carry one, in order
+abbrev pub put : {X : Type 0} → Option X → List X → List X
+put none r = r
+put (some x) r = x ∷ r
+
+unfoldable pub tags : {E X : Type 0} → (E → Option X) → List E → List X
+tags h [] = []
+tags h (x ∷ t) = put (h x) (tags h t)
+
+-- A tree that may be inserted: its levels run from 0, and each of its records is well formed, its level apart.
+pub record TreeOk (tree : List (List ℕ)) : Type 0 where
+  pub nested : Nested level 0 tree
+  pub labels : All (λ r. (length r ≡ 32) × (recordOk 0 11 (0 ∷ drop 1 r) ≡ true)) tree
+
+-- A label that may be stored: 1 to 24 bytes of the class, not RESTRICTED.
+pub record LabelOk (s : List ℕ) : Type 0 where
+  pub some : 1 ≤ length s
+  pub short : length s ≤ 24
+  pub bytes : all labelByte s ≡ true
+  pub free : sameLabel s restricted ≡ false

@@ -1,0 +1,102 @@
+-- The view (document 01, "View", which narrows axioms 15 to 17 of 000): which nodes of the stored tree a user is shown, and what each carries.
+use Prim.Native.Nat.{ℕ, zero, suc, _+_, min}
+use mathlib.Core.Bool.{Bool, true, false, cond, _&&_, _||_}
+use mathlib.Core.List.{List, [], _∷_, map}
+use lib.Dec.{leb, ltb}
+use Rattle.rights.specs.Labels.{restricted}
+use Rattle.rights.specs.Table.{records, level, label}
+use Rattle.rights.specs.Policy.{position, read}
+use Rattle.rights.specs.Rights.{holds}
+use Rattle.rights.specs.Nodes.{Node, node, Nodes}
+
+-- A node of the stored tree: the number of its record, the record's bytes, and the user's rights on it.
+pub record Stored : Type 0 where
+  pub number : ℕ
+  pub bytes : List ℕ
+  pub rights : ℕ
+
+-- the nodes of a table with the rights on each, in document order
+unfoldable pub storedFrom : ℕ → List (List ℕ) → List ℕ → List Stored
+storedFrom i [] ss = []
+storedFrom i (r ∷ rs) [] = []
+storedFrom i (r ∷ rs) (s ∷ ss) = record { number = i; bytes = r; rights = s } ∷ storedFrom (suc i) rs ss
+
+abbrev pub stored : List ℕ → List ℕ → List Stored
+stored table rights = storedFrom 0 (records table) rights
+
+abbrev pub storedLevel : Stored → ℕ
+storedLevel x = level (x .bytes)
+
+-- "the user has read or position on it". Nothing else decides what is granted.
+abbrev pub grants : ℕ → Bool
+grants s = holds read s || holds position s
+
+abbrev pub granted : Stored → Bool
+granted x = grants (x .rights)
+
+-- The parent of a node at level l is the nearest node before it at a smaller level. Of the nodes before, the nearest first, each with its level
+-- and a value: the value at the parent, and `top` where there is none, as for the root.
+unfoldable pub atParent : {A : Type 0} → A → List (ℕ × A) → ℕ → A
+atParent top [] l = top
+atParent top ((k, a) ∷ before) l = cond (ltb k l) a (atParent top before l)
+
+-- the nodes before node i, the nearest first
+unfoldable pub nearestFirst : {A : Type 0} → (ℕ → A) → ℕ → List A
+nearestFirst f zero = []
+nearestFirst f (suc i) = f i ∷ nearestFirst f i
+
+-- the depth of the shown chain after a node at level l, shown or not
+abbrev pub depthAfter : ℕ → ℕ → Bool → ℕ
+depthAfter d l b = cond b (l + 1) (min d l)
+
+module _ {E : Type 0} (lev : E → ℕ) (gr : E → Bool) where
+  -- "A node is shown if the user has read or position on it and its parent is shown (the root's counts as shown)."
+  abbrev pub isShown : List (ℕ × Bool) → E → Bool
+  isShown before x = gr x && atParent true before (lev x)
+
+  -- of each node whether it is shown
+  unfoldable pub shownAfter : List (ℕ × Bool) → List E → List Bool
+  shownAfter before [] = []
+  shownAfter before (x ∷ xs) = isShown before x ∷ shownAfter ((lev x, isShown before x) ∷ before) xs
+
+  abbrev pub shownBy : List E → List Bool
+  shownBy xs = shownAfter [] xs
+
+  -- The same with one number, the depth of the shown chain: a node is shown if its level is at most that and it is granted. Equal to shownBy
+  -- on every nested list (proofs/ShownDepth.antt).
+  abbrev pub isShownAt : ℕ → E → Bool
+  isShownAt d x = gr x && leb (lev x) d
+
+  unfoldable pub shownFrom : ℕ → List E → List Bool
+  shownFrom d [] = []
+  shownFrom d (x ∷ xs) = isShownAt d x ∷ shownFrom (depthAfter d (lev x) (isShownAt d x)) xs
+
+-- whether each node of the stored tree is shown
+abbrev pub shown : List Stored → List Bool
+shown xs = shownBy storedLevel granted xs
+
+-- the elements that are marked
+unfoldable pub keep : {A : Type 0} → List Bool → List A → List A
+keep [] xs = []
+keep (b ∷ bs) [] = []
+keep (b ∷ bs) (x ∷ xs) = cond b (x ∷ keep bs xs) (keep bs xs)
+
+-- "With read it carries its label, otherwise RESTRICTED"
+abbrev pub carried : Stored → List ℕ
+carried x = cond (holds read (x .rights)) (label (x .bytes)) restricted
+
+-- the number that stands for a shown node: its record's, and 16384 more where the label stays hidden
+abbrev pub numberOf : Stored → ℕ
+numberOf x = cond (holds read (x .rights)) (x .number) (x .number + 16384)
+
+-- The view: of each shown node, in document order, its level and the label it carries. Nothing else is shown.
+abbrev pub view : List Stored → Nodes
+view xs = map (λ x. node (storedLevel x) (carried x)) (keep (shown xs) xs)
+
+-- the same by numbers: `viewOf table (shownNumbers (stored table rights))` is the view (proofs/ViewLaws.antt)
+abbrev pub shownNumbers : List Stored → List ℕ
+shownNumbers xs = map numberOf (keep (shown xs) xs)
+
+-- the same by the depth of the shown chain
+abbrev pub numbersFrom : ℕ → List Stored → List ℕ
+numbersFrom d xs = map numberOf (keep (shownFrom storedLevel granted d xs) xs)

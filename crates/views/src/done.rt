@@ -1,0 +1,220 @@
+// Which records a change does (document 01, "Changes"), decided before anything changes.
+use crate::marks::is_set;
+use crate::marks::mark_of;
+use crate::shown::depth_after;
+use crate::shown::is_shown;
+use rights::bytes::wide;
+use rights::limits::COUNT_BYTES;
+use rights::limits::DELETE;
+use rights::limits::INSERT;
+use rights::limits::LABEL_AT;
+use rights::limits::READ;
+use rights::limits::RECORD_BYTES;
+use rights::limits::RECORDS_MAX;
+use rights::limits::UPDATE;
+use rights::policy::is_policy_word;
+use rights::rights::holds_right;
+use rights::table::count_of;
+ghost use mathlib.Core.Path.{_≡_};
+ghost use mathlib.Core.Bool.{Bool, true, false, cond, not, _&&_};
+ghost use mathlib.Core.List.{List, [], _∷_, _++_, map};
+ghost use Prim.Native.Nat.{ℕ, _+_, _*_, _%_, _≤_, _<_};
+ghost use lib.Dec.{eqb, ltb};
+ghost use lib.ListN.{length, take, drop, getD};
+ghost use Rattle.rights.specs.Automaton.{bit};
+ghost use Rattle.views.specs.Marks.{marksOf};
+ghost use Rattle.rights.specs.Policy.{read, update, policyWord};
+ghost use Rattle.rights.specs.PolicyBytes.{policyOf, Text};
+ghost use Rattle.rights.specs.PolicyCheck.{policyOk};
+ghost use Rattle.rights.specs.Rights.{holds};
+ghost use Rattle.rights.specs.Table.{recordAt, label, count, tableOk};
+ghost use Rattle.views.specs.Done.{byNumbers, does, doneMarks};
+
+// Slots a level, 0 to 15: more than there are levels.
+const LAST_SLOT: usize = 15;
+
+// The six changes.
+pub enum Change {
+    Rename,
+    Update,
+    Append,
+    Before,
+    After,
+    Remove,
+}
+
+// A number of 16 bits as one of machine size.
+fn wide_number(x: u16) -> usize
+    ensures { λ r. ⌜ r ≡ x ⌝ }
+{
+    x as usize
+}
+
+// Whether shown node j, of k, is record i.
+fn stands_at(shown: &[u16], k: usize, j: usize, i: usize) -> bool
+    requires { ⌜ k ≤ length (now shown) ⌝ }
+    ensures { λ r. ⌜ r ≡ (ltb j k && eqb (getD (now (shown .entry)) j 0 % 16384) i) ⌝ }
+{
+    if k <= j {
+        return false;
+    }
+    wide_number(shown[j]) % RECORDS_MAX == i
+}
+
+// The mark of shown node j if it stands here, and otherwise none.
+fn mark_at(marks: &[u8], j: usize, stands: bool) -> u8
+    ensures { λ r. ⌜ r ≡ bit (stands && not (eqb (getD (now (marks .entry)) j 0) 0)) ⌝ }
+{
+    if marks.len() <= j {
+        return 0;
+    }
+    if stands {
+        return mark_of(is_set(marks[j]));
+    }
+    0
+}
+
+// One further if it stands here.
+fn next_of(j: usize, stands: bool, n: usize) -> usize
+    requires { ⌜ j < n ⌝ }
+    ensures { λ r. ⌜ r ≡ cond stands (j + 1) j ⌝ }
+{
+    if stands {
+        return j + 1;
+    }
+    j
+}
+
+// Writes the marks of the k shown nodes to the places of their records, of n; no other record is marked.
+pub fn mark_records(shown: &[u16], k: usize, marks: &[u8], n: usize, selected: &mut [u8])
+    requires { ⌜ (k ≤ length (now shown)) × (n ≤ length (now selected)) ⌝ }
+    ensures { λ _. ⌜ now (selected .exit) ≡ map bit (byNumbers (take k (now (shown .entry))) (marksOf (now (marks .entry))) n 0) ++ drop n (now (selected .entry)) ⌝ }
+{
+    let mut j = 0;
+    let mut i = 0;
+    while i < n {
+        let stands = stands_at(shown, k, j, i);
+        selected[i] = mark_at(marks, j, stands);
+        j = next_of(j, stands, n);
+        i += 1;
+    }
+}
+
+// Writes v at every deeper level than this one: what the children of a node at this level find.
+fn pass_down(slots: &mut [u8; 16], level: usize, v: u8)
+    requires { ⌜ length (now slots) ≡ 16 ⌝ }
+    ensures { λ _. ⌜ (length (now (slots .exit)) ≡ 16) × ((l : ℕ) → l < 16 → getD (now (slots .exit)) l 0 ≡ cond (ltb level l) v (getD (now (slots .entry)) l 0)) ⌝ }
+{
+    let mut l = level;
+    while l < LAST_SLOT {
+        l += 1;
+        slots[l] = v;
+    }
+}
+
+// Whether the label of record i is a policy word.
+fn is_word(policy: &[u8], table: &[u8], i: usize) -> bool
+    requires { ⌜ (policyOk (now policy) ≡ true) × Text (now table) (4 + i * 32) ⌝ }
+    ensures { λ r. ⌜ r ≡ policyWord (policyOf (now (policy .entry))) (label (recordAt (now (table .entry)) i)) ⌝ }
+{
+    let at = COUNT_BYTES + i * RECORD_BYTES;
+    let n = wide(table[at + 1]);
+    is_policy_word(policy, table, at + LABEL_AT, n)
+}
+
+// Whether both hold.
+fn both(a: bool, b: bool) -> bool
+    ensures { λ r. ⌜ r ≡ (a && b) ⌝ }
+{
+    if a {
+        return b;
+    }
+    false
+}
+
+// Whether a node at this level is not the root, and may be done otherwise.
+fn is_inner(may: bool, level: u8) -> bool
+    ensures { λ r. ⌜ r ≡ (may && not (eqb level 0)) ⌝ }
+{
+    if may {
+        return level != 0;
+    }
+    false
+}
+
+// Whether record i, with these rights, is concerned and may be renamed.
+fn is_renamable(concerned: bool, policy: &[u8], table: &[u8], i: usize, set: u8) -> bool
+    requires { ⌜ (policyOk (now policy) ≡ true) × Text (now table) (4 + i * 32) ⌝ }
+    ensures { λ r. ⌜ r ≡ (concerned && (holds read set && (holds update set && not (policyWord (policyOf (now (policy .entry))) (label (recordAt (now (table .entry)) i)))))) ⌝ }
+{
+    if concerned {
+        if holds_right(set, READ) {
+            if holds_right(set, UPDATE) {
+                return !is_word(policy, table, i);
+            }
+        }
+    }
+    false
+}
+
+// Whether the change does record i: the user's rights on it, its level, whether it is shown and selected; whether its parent is selected
+// (chosen) and the user has insert on its parent (granting).
+fn is_done(
+    change: Change,
+    policy: &[u8],
+    table: &[u8],
+    i: usize,
+    set: u8,
+    level: u8,
+    shown: bool,
+    selected: bool,
+    chosen: bool,
+    granting: bool,
+) -> bool
+    requires { ⌜ (policyOk (now policy) ≡ true) × Text (now table) (4 + i * 32) ⌝ }
+    ensures { λ r. ⌜ r ≡ does change (record { level = level; rights = set; shown = shown; selected = selected; word = policyWord (policyOf (now (policy .entry))) (label (recordAt (now (table .entry)) i)); parentSelected = chosen; parentInsert = granting }) ⌝ }
+{
+    match change {
+        Change::Rename => is_renamable(selected, policy, table, i, set),
+        Change::Update => is_renamable(both(shown, chosen), policy, table, i, set),
+        Change::Append => both(selected, holds_right(set, INSERT)),
+        Change::Before => both(selected, is_inner(granting, level)),
+        Change::After => both(selected, is_inner(granting, level)),
+        Change::Remove => both(selected, is_inner(holds_right(set, DELETE), level)),
+    }
+}
+
+// Writes for each record whether the change does it. `selected` has a mark for each record. A slot a level says of the node above, which is the
+// parent of the next node at that level, whether it is selected, and whether the user has insert on it.
+pub fn mark_done(
+    change: Change,
+    policy: &[u8],
+    table: &[u8],
+    rights: &[u8],
+    selected: &[u8],
+    done: &mut [u8],
+)
+    requires { ⌜ (policyOk (now policy) ≡ true) × (tableOk (now table) ≡ true) × (count (now table) ≤ length (now rights)) × (count (now table) ≤ length (now selected)) × (count (now table) ≤ length (now done)) ⌝ }
+    ensures { λ _. ⌜ now (done .exit) ≡ map bit (doneMarks change (policyWord (policyOf (now (policy .entry)))) (now (table .entry)) (now (rights .entry)) (marksOf (now (selected .entry)))) ++ drop (count (now (table .entry))) (now (done .entry)) ⌝ }
+{
+    let n = count_of(table);
+    let mut chosen = [0u8; 16];
+    let mut granting = [0u8; 16];
+    let mut depth = 0;
+    let mut i = 0;
+    while i < n {
+        let level = table[COUNT_BYTES + i * RECORD_BYTES];
+        let l = wide(level);
+        let set = rights[i];
+        let on = is_shown(depth, level, set);
+        let sel = is_set(selected[i]);
+        let up = is_set(chosen[l]);
+        let may = is_set(granting[l]);
+        let does = is_done(change, policy, table, i, set, level, on, sel, up, may);
+        done[i] = mark_of(does);
+        pass_down(&mut chosen, l, mark_of(sel));
+        pass_down(&mut granting, l, mark_of(holds_right(set, INSERT)));
+        depth = depth_after(depth, level, on);
+        i += 1;
+    }
+}

@@ -1,0 +1,70 @@
+// Moves within the lent bytes of a table, its count and its cleared tail. What the changes have in common.
+use rights::limits::RECORD_BYTES;
+ghost use mathlib.Core.Path.{_≡_};
+ghost use mathlib.Core.List.{_++_};
+ghost use Prim.Native.Nat.{_+_, _-_, _^_, _≤_, _<_};
+ghost use lib.ListN.{length, take, drop, replicate};
+ghost use lib.Seq.{paste};
+ghost use Rattle.views.specs.Change.{le4};
+ghost use Rattle.views.specs.Marks.{marked};
+ghost use Rattle.views.specs.Pass.{shifted};
+
+// Stores the count.
+pub fn put_count(t: &mut [u8], n: usize)
+    requires { ⌜ (4 ≤ length (now t)) × (n < 2 ^ 32) ⌝ }
+    ensures { λ _. ⌜ now (t .exit) ≡ le4 n ++ drop 4 (now (t .entry)) ⌝ }
+{
+    t[0] = (n % 256) as u8;
+    t[1] = (n / 256 % 256) as u8;
+    t[2] = (n / 65536 % 256) as u8;
+    t[3] = (n / 16777216 % 256) as u8;
+}
+
+// Moves the record at byte `from` down to byte `to`.
+pub fn move_record(t: &mut [u8], from: usize, to: usize)
+    requires { ⌜ (to ≤ from) × (from + 32 ≤ length (now t)) ⌝ }
+    ensures { λ _. ⌜ (take (to + 32) (now (t .exit)) ≡ take to (now (t .entry)) ++ take 32 (drop from (now (t .entry))))
+        × (drop (from + 32) (now (t .exit)) ≡ drop (from + 32) (now (t .entry))) ⌝ }
+{
+    let mut j = 0;
+    while j < RECORD_BYTES {
+        t[to + j] = t[from + j];
+        j += 1;
+    }
+}
+
+// Zeros from byte `from` to the end.
+pub fn clear_from(t: &mut [u8], from: usize)
+    requires { ⌜ from ≤ length (now t) ⌝ }
+    ensures { λ _. ⌜ now (t .exit) ≡ take from (now (t .entry)) ++ replicate (length (now (t .entry)) - from) 0 ⌝ }
+{
+    let mut i = from;
+    while i < t.len() {
+        t[i] = 0;
+        i += 1;
+    }
+}
+
+// Copies n bytes of s from `from` on into d at `to`.
+pub fn copy(d: &mut [u8], to: usize, s: &[u8], from: usize, n: usize)
+    requires { ⌜ (to + n ≤ length (now d)) × (from + n ≤ length (now s)) ⌝ }
+    ensures { λ _. ⌜ now (d .exit) ≡ paste (now (d .entry)) to (drop from (now (s .entry))) n ⌝ }
+{
+    let mut j = 0;
+    while j < n {
+        d[to + j] = s[from + j];
+        j += 1;
+    }
+}
+
+// Moves the bytes from `from` to `end` up by `by`.
+pub fn shift_up(t: &mut [u8], from: usize, end: usize, by: usize)
+    requires { ⌜ (from ≤ end) × (end + by ≤ length (now t)) ⌝ }
+    ensures { λ _. ⌜ now (t .exit) ≡ shifted (now (t .entry)) from end by ⌝ }
+{
+    let mut j = end;
+    while from < j {
+        j -= 1;
+        t[j + by] = t[j];
+    }
+}
