@@ -12,3 +12,10 @@ pub mod AnswerTreeLaws
 pub mod AnswerNumbers
 pub mod StateLaws
 pub mod StepLaws
+pub mod StoredPaths
+pub mod StoredSteps
+pub mod EditTests
+pub mod EditBytes
+pub mod EditKept
+pub mod RecordRead
+pub mod PolicyEdits

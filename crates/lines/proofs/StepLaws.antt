@@ -4,9 +4,9 @@ use mathlib.Core.Bool.{Bool, true, false, cond}
 use mathlib.Core.Path.{_≡_, refl, sym, ap, _∙_}
 use mathlib.Core.List.{List, [], _∷_, _++_, map}
 use native.Mathlib.Omega.{arith}
-use borrow.Author.Tests.{eq-eqb, ne-eqb, eqb-false}
+use borrow.Author.Tests.{eq-eqb, ne-eqb, eqb-false, leb-true}
 use lib.Dec.{leb, eqb}
-use lib.ListN.{length, take, drop, getD, length-map, length-append}
+use lib.ListN.{length, take, drop, getD, length-map, length-append, length-drop}
 use Rattle.rights.specs.Path.{Path}
 use Rattle.rights.specs.PathReader.{Got, got, bad, placeOf, pathOf}
 use Rattle.rights.specs.declared.path.Read.the-variants.{At, Bad}
@@ -17,11 +17,16 @@ use Rattle.rights.specs.Rights.{rightsBy, chains, rightsOn}
 use Rattle.rights.proofs.Facts.{table-few}
 use Rattle.rights.proofs.Lists.{rest-of}
 use lib.Seq.{take-at}
-use Rattle.rights.specs.Nodes.{Fits, viewOf}
+use Rattle.rights.specs.Nodes.{Nodes, Fits, viewOf}
+use Rattle.rights.specs.Policy.{passesOwn}
+use Rattle.rights.specs.Selection.{selection, marksAfter}
+use Rattle.rights.proofs.PassLaws.{marks-length, view-length}
+use Rattle.rights.proofs.Sounds.{policy-sound}
+use Rattle.lines.specs.AnswerChoice.{Choice, findText}
 use Rattle.views.specs.Shown.{Stored, storedFrom, stored, shownNumbers}
 use Rattle.views.proofs.ViewLaws.{view-fits, view-by-numbers}
 use Rattle.lines.specs.Answer.{viewText, queryText, hitsOf}
-use Rattle.lines.specs.AnswerArea.{Answered}
+use Rattle.lines.specs.AnswerArea.{Answered, written}
 use Rattle.lines.specs.State.{userByte, userOf, policyBytes, policyIn, storeOk}
 use Rattle.lines.specs.Step.{Outcome, Made, refusal, finish, fitted, noUser, notPath, rightsIn, storedIn, viewIn, marksIn, stepView, stepQuery, stepFind}
 use Rattle.lines.specs.declared.line.Answer.{Answer}
@@ -36,11 +41,21 @@ refused = record { answer = refl; state = refl; table = refl; area = refl }
 pub made-at : {o p : Outcome} {area s t area' : List ℕ} {r : Answer} → o ≡ p → Made p area r s t area' → Made o area r s t area'
 made-at e m = rw e m
 
--- an answer that was put if it fits, and a line that changes nothing
-pub made-finish : (text before after s t : List ℕ) (need : ℕ) (r : Answer) → Answered text before after need → r ≡ fitted need (length before)
-    → Made (finish (length before) text s t s t) before r s t after
-made-finish text before after s t need r a e = go (leb (length text) (length before)) refl
+length-written : (text area : List ℕ) → length (written text area) ≡ length area
+length-written text area = go (leb (length text) (length area)) refl
   where
+    go : (b : Bool) → leb (length text) (length area) ≡ b → length (cond b (text ++ drop (length text) area) area) ≡ length area
+    go true q = omega (arith, length-append text (drop (length text) area), length-drop (length text) area, leb-true (length text) (length area) q)
+    go false q = refl
+
+-- an answer that was put if it fits, and a line that changes nothing
+pub made-finish : (text before after s t : List ℕ) (need : ℕ) (r : Answer) → Answered text before after need → r ≡ fitted need (length after)
+    → Made (finish (length before) text s t s t) before r s t after
+made-finish text before after s t need r a e' = go (leb (length text) (length before)) refl
+  where
+    e : r ≡ fitted need (length before)
+    e = e' ∙ ap (fitted need) (ap length (a .area) ∙ length-written text before)
+
     go : (b : Bool) → leb (length text) (length before) ≡ b → Made (finish (length before) text s t s t) before r s t after
     go true q =
         let z : leb need (length before) ≡ true = ap (λ n. leb n (length before)) (a .size) ∙ q in
@@ -132,3 +147,77 @@ module _ (s t : List ℕ) (room : ℕ) where
   pub view-seen : noUser s ≡ false → stepView s t room ≡ finish room (viewText (viewIn s t)) s t s t
   unfolding stepView
   view-seen e = rw e
+
+-- the policy's part, as the selection asks for its user
+pub subject-asks : (s t : List ℕ) → storeOk s t ≡ true → noUser s ≡ false → (user : ℕ) → user ≡ userByte s → Subject (take (length s - 8) (drop 8 s)) (user - 1)
+subject-asks s t ok u user e =
+    let h = store-held s t ok in
+    rw (rest-of s 8, e) (record { declared = user-declared s t ok u; name = policy-sound _ (h .policy) .names (userOf s) (user-declared s t ok u) })
+
+marks-long : (s t path : List ℕ) → length (marksIn s t path) ≡ length (viewIn s t)
+marks-long s t path = marks-length _ 0 (length (viewIn s t))
+
+view-long : (s t : List ℕ) → storeOk s t ≡ true → length (viewIn s t) ≡ length (shownNumbers (storedIn s t))
+view-long s t ok = sym (ap length (view-by-numbers t (rightsIn s t) (store-held s t ok .table))) ∙ view-length t (shownNumbers (storedIn s t))
+
+pub marks-size : (s t path : List ℕ) → storeOk s t ≡ true → length (marksIn s t path) ≡ length (shownNumbers (storedIn s t))
+marks-size s t path ok = marks-long s t path ∙ view-long s t ok
+
+-- what is selected from the user's view
+module _ (s t path : List ℕ) (ok : storeOk s t ≡ true) (user : ℕ) (e : user ≡ userByte s) (nodes : Nodes) (v : nodes ≡ viewIn s t) where
+  pub picked-are : notPath (pathOf path) ≡ false → (before after : List ℕ) (k : ℕ) → k ≡ length (shownNumbers (storedIn s t))
+      → after ≡ marksAfter (pathOf path) (selection path (passesOwn (policyOf (take (length s - 8) (drop 8 s))) (user - 1)) nodes) before
+      → after ≡ marksIn s t path ++ drop k before
+  picked-are h before after k z q =
+      let m : selection path (passesOwn (policyOf (take (length s - 8) (drop 8 s))) (user - 1)) nodes ≡ marksIn s t path =
+      ap (selection path (passesOwn (policyOf (take (length s - 8) (drop 8 s))) (user - 1))) v
+      ∙ ap (λ p. selection path (passesOwn (policyOf p) (user - 1)) (viewIn s t)) (rest-of s 8)
+      ∙ ap (λ n. selection path (passesOwn (policyIn s) (n - 1)) (viewIn s t)) e in
+      q ∙ ap (λ l. marksAfter (pathOf path) l before) m ∙ go (pathOf path) h
+      ∙ ap (λ n. marksIn s t path ++ drop n before) (marks-size s t path ok ∙ sym z)
+    where
+      go : (g : Got Path) → notPath g ≡ false → marksAfter g (marksIn s t path) before ≡ marksIn s t path ++ drop (length (marksIn s t path)) before
+      go (got p i) w = refl
+      go bad w = absurd (let z : _≡_ {A = ℕ} 0 1 = cc in omega arith)
+
+-- a part that holds the marks
+pub marks-part : (s t path marks' more : List ℕ) (k : ℕ) → storeOk s t ≡ true → k ≡ length (shownNumbers (storedIn s t)) → marks' ≡ marksIn s t path ++ more
+    → take (k - 0) (drop 0 marks') ≡ marksIn s t path
+marks-part s t path marks' more k ok e q =
+    let z : k - 0 ≡ length (marksIn s t path) = omega (arith, marks-size s t path ok) in
+    rw (z, q) (take-at (marksIn s t path) more (length (marksIn s t path)) refl)
+
+-- queries and finds, by the tests that they meet
+pub not-path : (g : Got Path) → placeOf g ≡ Bad → notPath g ≡ true
+not-path (got p i) e = absurd (let z : _≡_ {A = ℕ} 0 1 = cc in omega arith)
+not-path bad e = refl
+
+pub is-path : (g : Got Path) (i : ℕ) → placeOf g ≡ At i → notPath g ≡ false
+is-path (got p k) i e = refl
+is-path bad i e = absurd (let z : _≡_ {A = ℕ} 0 1 = cc in omega arith)
+
+module _ (s t : List ℕ) (room : ℕ) (path : List ℕ) where
+  pub query-no-path : notPath (pathOf path) ≡ true → stepQuery s t room path ≡ refusal 4 s t
+  unfolding stepQuery
+  query-no-path e = rw e
+
+  pub query-no-user : notPath (pathOf path) ≡ false → noUser s ≡ true → stepQuery s t room path ≡ refusal 8 s t
+  unfolding stepQuery
+  query-no-user e u = rw (e, u)
+
+  pub query-seen : notPath (pathOf path) ≡ false → noUser s ≡ false → stepQuery s t room path ≡ finish room (queryText (hitsOf (marksIn s t path) (viewIn s t))) s t s t
+  unfolding stepQuery
+  query-seen e u = rw (e, u)
+
+  module _ (choice : Choice) where
+    pub find-no-path : notPath (pathOf path) ≡ true → stepFind choice s t room path ≡ refusal 4 s t
+    unfolding stepFind
+    find-no-path e = rw e
+
+    pub find-no-user : notPath (pathOf path) ≡ false → noUser s ≡ true → stepFind choice s t room path ≡ refusal 8 s t
+    unfolding stepFind
+    find-no-user e u = rw (e, u)
+
+    pub find-seen : notPath (pathOf path) ≡ false → noUser s ≡ false → stepFind choice s t room path ≡ finish room (findText (choice (marksIn s t path) (viewIn s t))) s t s t
+    unfolding stepFind
+    find-seen e u = rw (e, u)

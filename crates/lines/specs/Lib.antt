@@ -12,3 +12,4 @@ pub mod AnswerArea
 pub mod AnswerParts
 pub mod State
 pub mod Step
+pub mod PolicyEdit

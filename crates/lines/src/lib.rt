@@ -4,6 +4,7 @@ pub mod form;
 pub mod limits;
 pub mod line;
 pub mod part;
+pub mod policy_edit;
 pub mod queries;
 pub mod state;
 pub mod text;

@@ -33,10 +33,3 @@ pub mod ViewNested
 pub mod StarredPaths
 pub mod NodeLaws
 pub mod RecordMade
-pub mod StoredPaths
-pub mod EditTests
-pub mod EditBytes
-pub mod EditKept
-pub mod RecordRead
-pub mod StoredSteps
-pub mod PolicyEdits

@@ -13,4 +13,3 @@ pub mod Record
 pub mod Nodes
 pub mod XPath
 pub mod Selection
-pub mod PolicyEdit

@@ -6,7 +6,6 @@ mod passes;
 pub mod path;
 pub mod policy;
 pub mod policy_check;
-pub mod policy_edit;
 pub mod record;
 pub mod rights;
 pub mod selection;

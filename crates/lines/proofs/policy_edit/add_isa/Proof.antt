@@ -1,0 +1,78 @@
+-- `rights::policy_edit::add_isa` meets its contract: two stores at the line's place, then the count is raised.
+use native.Mathlib.Omega.{arith}
+use lib.ListN.{length-set}
+use Rattle.lines.proofs.EditBytes.{isa-written}
+use Rattle.rights.proofs.Sounds.{policy-sound}
+use borrow.Author.Needs.{needs}
+use Rattle.lines.proofs.policy_edit.add_isa.Statement.{statement}
+use Rattle.lines.proofs.policy_edit.add_isa.Tie as tie
+
+slice-read-count : tie.Need-slice-read-count
+slice-read-count c = omega (arith, policy-sound (c .before .before .args .policy .now) (c .before .before .pre .0) .size)
+
+wide-requires : tie.Need-wide-requires
+wide-requires c κs = search needs
+
+mul-a : tie.Need-mul-a
+mul-a c = search needs
+
+add-a : tie.Need-add-a
+add-a c = search needs
+
+cast-policy : tie.Need-cast-policy
+cast-policy c =
+    let g = policy-sound (c .before .before .before .args .policy .now) (c .before .before .before .pre .0) in
+    omega (arith, g .subjects)
+
+slice-write-policy : tie.Need-slice-write-policy
+slice-write-policy c =
+    let g = policy-sound (c .before .before .before .args .policy .now) (c .before .before .before .pre .0) in
+    omega (arith, g .size, c .wide .ensures)
+
+cast-policy-2 : tie.Need-cast-policy-2
+cast-policy-2 c =
+    let g = policy-sound (c .before .before .before .args .policy .now) (c .before .before .before .pre .0) in
+    omega (arith, g .subjects)
+
+add-policy : tie.Need-add-policy
+add-policy c = search needs
+
+slice-write-policy-2 : tie.Need-slice-write-policy-2
+slice-write-policy-2 c =
+    let g = policy-sound (c .before .before .before .args .policy .now) (c .before .before .before .pre .0) in
+    simp length-set (omega (arith, g .size, c .wide .ensures))
+
+add-policy-2 : tie.Need-add-policy-2
+add-policy-2 c = search needs
+
+slice-write-policy-3 : tie.Need-slice-write-policy-3
+slice-write-policy-3 c =
+    let g = policy-sound (c .before .before .before .args .policy .now) (c .before .before .before .pre .0) in
+    simp length-set (omega (arith, g .size))
+
+same-length : tie.Need-same-length
+same-length c = search needs
+
+returns : tie.Need-returns
+returns c =
+    let g = policy-sound (c .before .before .before .args .policy .now) (c .before .before .before .pre .0) in
+    let a = c .before .before .before .args in
+    isa-written (a .policy .now) (a .n) (a .r) (c .wide .result) (c .wide .ensures) (omega (arith, g .size, c .wide .ensures))
+
+pub add-isa-spec : {M : Type 1} → statement M
+add-isa-spec =
+    tie.close
+    (tie.spec
+    slice-read-count
+    wide-requires
+    mul-a
+    add-a
+    cast-policy
+    slice-write-policy
+    cast-policy-2
+    add-policy
+    slice-write-policy-2
+    add-policy-2
+    slice-write-policy-3
+    same-length
+    returns)

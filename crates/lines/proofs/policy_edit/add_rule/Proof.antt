@@ -1,0 +1,77 @@
+-- `rights::policy_edit::add_rule` meets its contract: the steps are put, then the head before them, then the count is raised.
+use native.Mathlib.Omega.{arith}
+use lib.ListN.{length-set}
+use Rattle.lines.specs.PolicyEdit.{stepsIn}
+use Rattle.lines.proofs.EditBytes.{rule-written}
+use Rattle.rights.proofs.Sounds.{policy-sound}
+use Rattle.lines.proofs.StoredPaths.{written}
+use borrow.Author.Needs.{needs}
+use Rattle.lines.proofs.policy_edit.add_rule.Statement.{statement}
+use Rattle.lines.proofs.policy_edit.add_rule.Tie as tie
+
+slice-read-count : tie.Need-slice-read-count
+slice-read-count c = omega (arith, policy-sound (c .before .before .before .args .policy .now) (c .before .before .before .pre .0) .size)
+
+wide-requires : tie.Need-wide-requires
+wide-requires c κs = search needs
+
+mul-a : tie.Need-mul-a
+mul-a c = search needs
+
+add-a : tie.Need-add-a
+add-a c = search needs
+
+add-put-steps : tie.Need-add-put-steps
+add-put-steps c = search needs
+
+put-steps-requires : tie.Need-put-steps-requires
+put-steps-requires c κs =
+    let g = policy-sound (c .before .before .before .before .before .args .policy .now) (c .before .before .before .before .before .pre .0) in
+    (c .before .before .before .before .before .pre .3, omega (arith, g .size, c .before .wide .ensures, c .before .before .before .before .before .pre .1))
+
+cast-put-head : tie.Need-cast-put-head
+cast-put-head c = omega (arith, policy-sound (c .before .before .before .before .before .before .before .before .before .args .policy .now) (c .before .before .before .before .before .before .before .before .before .pre .0) .subjects, c .before .before .before .before .before .before .before .before .before .pre .2)
+
+cast-put-head-2 : tie.Need-cast-put-head-2
+cast-put-head-2 c = omega (arith, c .before .before .before .put-steps .ensures .0, written (c .before .before .before .before .before .before .before .before .before .args .path .now) (c .before .before .before .before .before .before .before .before .before .pre .3) .few)
+
+put-head-requires : tie.Need-put-head-requires
+put-head-requires c κs =
+    let g = policy-sound (c .before .before .before .before .before .before .before .before .before .args .policy .now) (c .before .before .before .before .before .before .before .before .before .pre .0) in
+    omega (arith, g .size, c .before .before .before .before .before .wide .ensures, c .before .before .before .before .before .before .before .before .before .pre .1)
+
+add-policy : tie.Need-add-policy
+add-policy c = search needs
+
+slice-write-policy : tie.Need-slice-write-policy
+slice-write-policy c = omega (arith, policy-sound (c .before .before .before .before .before .before .before .before .before .before .before .before .args .policy .now) (c .before .before .before .before .before .before .before .before .before .before .before .before .pre .0) .size)
+
+same-length : tie.Need-same-length
+same-length c = simp length-set (omega arith)
+
+returns : tie.Need-returns
+returns c =
+    let a = c .before .before .before .before .before .before .before .before .before .before .before .before .args in
+    let g = policy-sound (c .before .before .before .before .before .before .before .before .before .before .before .before .args .policy .now) (c .before .before .before .before .before .before .before .before .before .before .before .before .pre .0) in
+    let w = c .before .before .before .before .before .before .before .before .wide in
+    let t = c .before .before .before .before .before .before .put-steps in
+    let h = c .before .before .put-head in
+    rule-written (a .policy .now) (t .last .0) (h .last .0) (a .accept) (a .bit) (a .who) (w .result) (t .result) (stepsIn (a .path .now)) (w .ensures) (t .ensures .0) (omega (arith, g .size, w .ensures, c .before .before .before .before .before .before .before .before .before .before .before .before .pre .1)) (t .ensures .1) (h .ensures)
+
+pub add-rule-spec : {M : Type 1} → statement M
+add-rule-spec =
+    tie.close
+    (tie.spec
+    slice-read-count
+    wide-requires
+    mul-a
+    add-a
+    add-put-steps
+    put-steps-requires
+    cast-put-head
+    cast-put-head-2
+    put-head-requires
+    add-policy
+    slice-write-policy
+    same-length
+    returns)

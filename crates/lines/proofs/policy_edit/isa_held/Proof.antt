@@ -1,0 +1,73 @@
+-- `rights::policy_edit::isa_held` meets its contract: the line is looked for among those from line k on.
+use mathlib.Core.Path.{_≡_, sym, _∙_}
+use Prim.Native.Nat.{_-_, _≤_}
+use native.Mathlib.Omega.{arith}
+use Rattle.rights.specs.Policy.{some}
+use Rattle.rights.specs.PolicyBytes.{isaCount, isaFrom, policyOf}
+use Rattle.lines.specs.PolicyEdit.{isLine, isaHeld}
+use Rattle.lines.proofs.EditTests.{line-first, line-here, line-later, line-none}
+use Rattle.rights.proofs.Sounds.{policy-sound}
+use Rattle.lines.proofs.policy_edit.isa_held.Statement.{statement}
+use Rattle.lines.proofs.policy_edit.isa_held.Tie as tie
+
+abbrev Inv-loop : tie.InvT-loop
+Inv-loop policy n r count k₀ k = (k ≤ isaCount policy) × (isaHeld (policyOf policy) n r ≡ some (isLine n r) (isaFrom policy (isaCount policy - k) k))
+
+abbrev μ-loop : tie.MeasureT-loop
+μ-loop policy n r count k₀ k = isaCount policy - k
+
+shared-slice-read-wide : tie.Need-shared-slice-read-wide Inv-loop μ-loop
+shared-slice-read-wide c = omega (arith, policy-sound (c .before .before .args .policy .now) (c .before .before .pre) .size)
+
+wide-requires : tie.Need-wide-requires Inv-loop μ-loop
+wide-requires c κs = tt
+
+loop-holds : tie.Need-loop-holds Inv-loop μ-loop
+loop-holds c =
+    let a = c .before .before .before .args in
+    (omega arith, line-first (a .policy .now) (a .n) (a .r))
+
+is-line-requires : tie.Need-is-line-requires Inv-loop μ-loop
+is-line-requires c κs =
+    let p = c .before .before .before .before .before .args .policy .now in
+    let g = policy-sound p (c .before .before .before .before .before .pre) in
+    (omega (arith, c .before .before .wide .ensures, g .lines), g .size)
+
+returns : tie.Need-returns Inv-loop μ-loop
+returns c =
+    let a = c .before .before .before .before .before .before .before .args in
+    let l = c .before .before .before .loop in
+    sym (l .inv .1 ∙ line-here (a .policy .now) (a .n) (a .r) (isaCount (a .policy .now)) (l .k) (omega (arith, c .before .before .before .before .wide .ensures)) (sym (c .before .is-line .ensures) ∙ c .if1 .taken))
+
+add-k : tie.Need-add-k Inv-loop μ-loop
+add-k c = omega arith
+
+loop-less : tie.Need-loop-less Inv-loop μ-loop
+loop-less c = omega (arith, c .before .before .before .before .wide .ensures)
+
+loop-again : tie.Need-loop-again Inv-loop μ-loop
+loop-again c =
+    let a = c .before .before .before .before .before .before .before .args in
+    let l = c .before .before .before .loop in
+    (omega (arith, c .before .before .before .before .wide .ensures), l .inv .1 ∙ line-later (a .policy .now) (a .n) (a .r) (isaCount (a .policy .now)) (l .k) (omega (arith, c .before .before .before .before .wide .ensures)) (sym (c .before .is-line .ensures) ∙ c .if1 .left))
+
+returns-2 : tie.Need-returns-2 Inv-loop μ-loop
+returns-2 c =
+    let a = c .before .before .before .before .before .args in
+    sym (c .before .loop .inv .1 ∙ line-none (a .policy .now) (a .n) (a .r) (isaCount (a .policy .now)) (c .before .loop .k) (omega (arith, c .before .before .wide .ensures)))
+
+pub isa-held-spec : {M : Type 1} → statement M
+isa-held-spec =
+    tie.close
+    (tie.spec
+    Inv-loop
+    μ-loop
+    shared-slice-read-wide
+    wide-requires
+    loop-holds
+    is-line-requires
+    returns
+    add-k
+    loop-less
+    loop-again
+    returns-2)

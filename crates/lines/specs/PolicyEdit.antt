@@ -1,0 +1,115 @@
+-- What the lines of stages A and B ask of a policy and write into it (document 01, "Lines" and "Rights"; refusals 5, 6, 7 and 9). The bytes stand as
+-- PolicyBytes says.
+use Prim.Native.Nat.{ℕ, suc, _+_, _≤_}
+use mathlib.Core.Bool.{Bool, true, false, cond, _&&_, _||_}
+use mathlib.Core.Path.{_≡_}
+use mathlib.Core.List.{List, [], _∷_, _++_}
+use lib.Dec.{eqb}
+use lib.ListN.{length, getD, set}
+use Rattle.rights.specs.Labels.{sameLabel, restricted}
+use Rattle.rights.specs.Path.{Test, Axis, child, descendant, Path, last, next, Brackets, none, position, holds}
+use Rattle.rights.specs.PathReader.{Got, got, bad, readTest, axisAt, pathOf}
+use Rattle.rights.specs.PathText.{writeTest, writeAxis}
+use Rattle.rights.specs.Policy.{Policy, some, uses}
+use Rattle.rights.specs.PolicyBytes.{subjectCount, isaCount, ruleCount, subjectAt, isaAt, ruleAt}
+use Rattle.rights.specs.Record.{recordOf, pasted}
+use Rattle.lines.specs.declared.policy_edit.Found.{Found}
+use Rattle.lines.specs.declared.policy_edit.Found.the-variants.{Subject, Unknown}
+
+-- Refusal 5: "a name unknown, declared twice, an isa line repeated"
+
+-- the number of the subject named x, among the names that start with number u
+unfoldable pub subjectFrom : List ℕ → ℕ → List (List ℕ) → Found
+subjectFrom x u [] = Unknown
+subjectFrom x u (y ∷ ys) = cond (sameLabel x y) (Subject u) (subjectFrom x (suc u) ys)
+
+unfoldable pub subjectNamed : Policy → List ℕ → Found
+subjectNamed P x = subjectFrom x 0 (P .names)
+
+-- an isa line that says that n is an r
+abbrev pub isLine : ℕ → ℕ → ℕ × ℕ → Bool
+isLine n r w = eqb (w .0) n && eqb (w .1) r
+
+unfoldable pub isaHeld : Policy → ℕ → ℕ → Bool
+isaHeld P n r = some (isLine n r) (P .isa)
+
+-- Refusal 6: "a bracket in a rule's path". In a path that is well formed, `[` stands where a bracket begins and nowhere else.
+abbrev pub isOpen : ℕ → Bool
+isOpen b = eqb b 91
+
+unfoldable pub hasBracket : List ℕ → Bool
+hasBracket s = some isOpen s
+
+abbrev pub anyBracket : Brackets → Bool
+anyBracket none = false
+anyBracket (position n bs) = true
+anyBracket (holds p bs) = true
+
+unfoldable pub bracketed : Path → Bool
+bracketed (last t bs) = anyBracket bs
+bracketed (next t bs a p) = anyBracket bs || bracketed p
+
+-- a path that a rule may have: well formed and without brackets
+pub record Plain (s : List ℕ) : Type 0 where
+  pub path : Path
+  pub read : pathOf s ≡ got path (length s)
+  pub flat : bracketed path ≡ false
+
+-- The steps of a path without brackets, in its order, the first of them reached by the axis a
+unfoldable pub stepList : Axis → Path → List (Axis × Test)
+stepList a (last t bs) = (a, t) ∷ []
+stepList a (next t bs b p) = (a, t) ∷ stepList b p
+
+-- the steps that a text writes; none, if it is no path
+abbrev pub stepsGot : Axis → Got Path → List (Axis × Test)
+stepsGot a (got p i) = stepList a p
+stepsGot a bad = []
+
+unfoldable pub stepsIn : List ℕ → List (Axis × Test)
+stepsIn s = stepsGot (axisAt s 0) (pathOf s)
+
+-- the text of steps
+unfoldable pub writeStored : List (Axis × Test) → List ℕ
+writeStored [] = []
+writeStored (w ∷ ws) = writeAxis (w .0) ++ (writeTest (w .1) ++ writeStored ws)
+
+-- Refusal 9: RESTRICTED as a label of a rule's path
+unfoldable pub pathRestricted : List ℕ → Bool
+pathRestricted s = some (uses false restricted) (stepsIn s)
+
+-- A step is stored as a record: 0 for `/` or 1 for `//`, and `*`, `$` or the label as its text.
+abbrev pub axisByte : Axis → ℕ
+axisByte child = 0
+axisByte descendant = 1
+
+abbrev pub stepRecord : Axis × Test → List ℕ
+stepRecord w = recordOf (axisByte (w .0)) (writeTest (w .1))
+
+unfoldable pub stepRecords : List (Axis × Test) → List ℕ
+stepRecords [] = []
+stepRecords (w ∷ ws) = stepRecord w ++ stepRecords ws
+
+-- One line more: its bytes at their place, and the count at byte c raised by one. No other byte changes.
+unfoldable pub withLine : List ℕ → ℕ → ℕ → List ℕ → List ℕ
+withLine p c at x = set (pasted p at x) c (getD p c 0 + 1)
+
+-- `(subject N)`: x is the name
+abbrev pub withSubject : List ℕ → List ℕ → List ℕ
+withSubject p x = withLine p 0 (subjectAt (subjectCount p)) (recordOf 0 x)
+
+-- `(isa N R)`: n and r are the subjects' numbers
+abbrev pub withIsa : List ℕ → ℕ → ℕ → List ℕ
+withIsa p n r = withLine p 1 (isaAt (isaCount p)) (n ∷ r ∷ [])
+
+-- `(rule accept|deny RIGHT PATH N)`: 1 or 0, the right's bit, the subject's number, the path's steps
+abbrev pub ruleHead : ℕ → ℕ → ℕ → ℕ → List ℕ
+ruleHead accept bit who n = accept ∷ bit ∷ who ∷ n ∷ 0 ∷ 0 ∷ 0 ∷ 0 ∷ []
+
+abbrev pub withRule : List ℕ → ℕ → ℕ → ℕ → List (Axis × Test) → List ℕ
+withRule p accept bit who ws = withLine p 2 (ruleAt (ruleCount p)) (ruleHead accept bit who (length ws) ++ stepRecords ws)
+
+-- What a reader of steps promises: r is the place after the test at a place, where one stands
+pub record TestEnd (s : List ℕ) (at r : ℕ) : Type 0 where
+  pub is : (t : Test) (i : ℕ) → readTest s at ≡ got t i → r ≡ i
+  pub from : at ≤ r
+  pub to : r ≤ length s

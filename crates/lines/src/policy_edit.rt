@@ -1,0 +1,200 @@
+// What the lines of stages A and B ask of a policy and write into it (document 01, "Lines" and "Rights"; refusals 5, 6, 7 and 9).
+use rights::bytes::wide;
+use rights::labels::is_restricted;
+use rights::limits::ISA_AT;
+use rights::limits::ISA_BYTES;
+use rights::limits::RECORD_BYTES;
+use rights::limits::RULE_BYTES;
+use rights::limits::RULES_AT;
+use rights::limits::STEPS_AT;
+use rights::limits::SUBJECTS_AT;
+use rights::path::Read;
+use rights::path::after_slash;
+use rights::path::read_test;
+use rights::policy::is_name;
+use rights::record::put_record;
+ghost use mathlib.Core.Path.{_≡_};
+ghost use mathlib.Core.Bool.{true};
+ghost use mathlib.Core.List.{[], _∷_};
+ghost use Prim.Native.Nat.{ℕ, _+_, _*_, _≤_, _<_};
+ghost use lib.ListN.{length, take, drop};
+ghost use Rattle.rights.specs.PathReader.{axisAt};
+ghost use Rattle.rights.specs.PolicyBytes.{policyOf, subjectCount, isaCount, ruleCount, isaN, isaR};
+ghost use Rattle.rights.specs.PolicyCheck.{policyOk};
+ghost use Rattle.lines.specs.PolicyEdit.{subjectNamed, isLine, isaHeld, hasBracket, Plain, stepsIn, pathRestricted, axisByte, stepRecords, ruleHead, withSubject, withIsa, withRule, TestEnd};
+ghost use Rattle.rights.specs.Record.{pasted};
+
+// A subject's number, or none of that name.
+pub enum Found {
+    Subject(usize),
+    Unknown,
+}
+
+// The subject whose name is the label of n bytes at byte `at` of s.
+pub fn find_name(policy: &[u8], s: &[u8], at: usize, n: usize) -> Found
+    requires { ⌜ (policyOk (now policy) ≡ true) × (at + n ≤ length (now s)) ⌝ }
+    ensures { λ r. ⌜ r ≡ subjectNamed (policyOf (now (policy .entry))) (take n (drop at (now (s .entry)))) ⌝ }
+{
+    let count = wide(policy[0]);
+    let mut u = 0;
+    while u < count {
+        if is_name(policy, u, s, at, n) {
+            return Found::Subject(u);
+        }
+        u += 1;
+    }
+    Found::Unknown
+}
+
+// Whether isa line k says that subject n is an r.
+fn is_line(policy: &[u8], k: usize, n: usize, r: usize) -> bool
+    requires { ⌜ (k < 128) × (68872 ≤ length (now policy)) ⌝ }
+    ensures { λ v. ⌜ v ≡ isLine n r (isaN (now (policy .entry)) k, isaR (now (policy .entry)) k) ⌝ }
+{
+    let a = ISA_AT + k * ISA_BYTES;
+    if wide(policy[a]) != n {
+        return false;
+    }
+    wide(policy[a + 1]) == r
+}
+
+// Whether the isa line of subjects n and r is held already.
+pub fn isa_held(policy: &[u8], n: usize, r: usize) -> bool
+    requires { ⌜ policyOk (now policy) ≡ true ⌝ }
+    ensures { λ v. ⌜ v ≡ isaHeld (policyOf (now (policy .entry))) n r ⌝ }
+{
+    let count = wide(policy[1]);
+    let mut k = 0;
+    while k < count {
+        if is_line(policy, k, n, r) {
+            return true;
+        }
+        k += 1;
+    }
+    false
+}
+
+// Whether a path's text has a bracket.
+pub fn has_bracket(s: &[u8]) -> bool
+    ensures { λ r. ⌜ r ≡ hasBracket (now (s .entry)) ⌝ }
+{
+    let mut i = 0;
+    while i < s.len() {
+        if s[i] == b'[' {
+            return true;
+        }
+        i += 1;
+    }
+    false
+}
+
+// The place after the test at `at`.
+fn test_end(s: &[u8], at: usize) -> usize
+    requires { ⌜ at ≤ length (now s) ⌝ }
+    ensures { λ r. ⌜ TestEnd (now (s .entry)) at r ⌝ }
+{
+    let Read::At(e) = read_test(s, at) else {
+        return at;
+    };
+    e
+}
+
+// The first byte of the record of the step whose slashes stand at `at`.
+fn axis_byte(s: &[u8], at: usize) -> u8
+    requires { ⌜ at < length (now s) ⌝ }
+    ensures { λ r. ⌜ r ≡ axisByte (axisAt (now (s .entry)) at) ⌝ }
+{
+    let i = at + 1;
+    if s.len() <= i {
+        return 0;
+    }
+    if s[i] == b'/' {
+        return 1;
+    }
+    0
+}
+
+// Whether a step of a rule's path names RESTRICTED.
+pub fn path_restricted(s: &[u8]) -> bool
+    requires { ⌜ Plain (now s) ⌝ }
+    ensures { λ r. ⌜ r ≡ pathRestricted (now (s .entry)) ⌝ }
+{
+    let mut i = 0;
+    while i < s.len() {
+        let k = after_slash(s, i);
+        let e = test_end(s, k);
+        if is_restricted(s, k, e - k) {
+            return true;
+        }
+        i = e;
+    }
+    false
+}
+
+// Adds a subject whose name is the label of n bytes at byte `at` of s.
+pub fn add_subject(policy: &mut [u8], s: &[u8], at: usize, n: usize)
+    requires { ⌜ (policyOk (now policy) ≡ true) × (subjectCount (now policy) < 64) × (n ≤ 24) × (at + n ≤ length (now s)) ⌝ }
+    ensures { λ _. ⌜ now (policy .exit) ≡ withSubject (now (policy .entry)) (take n (drop at (now (s .entry)))) ⌝ }
+{
+    let count = policy[0];
+    let a = SUBJECTS_AT + wide(count) * RECORD_BYTES;
+    put_record(policy, a, 0, s, at, n);
+    policy[0] = count + 1;
+}
+
+// Adds the isa line of subjects n and r.
+pub fn add_isa(policy: &mut [u8], n: usize, r: usize)
+    requires { ⌜ (policyOk (now policy) ≡ true) × (isaCount (now policy) < 128) × (n < subjectCount (now policy)) × (r < subjectCount (now policy)) ⌝ }
+    ensures { λ _. ⌜ now (policy .exit) ≡ withIsa (now (policy .entry)) n r ⌝ }
+{
+    let count = policy[1];
+    let a = ISA_AT + wide(count) * ISA_BYTES;
+    policy[a] = n as u8;
+    policy[a + 1] = r as u8;
+    policy[1] = count + 1;
+}
+
+// Puts the steps that a path writes at byte `at`, and says how many they are.
+fn put_steps(policy: &mut [u8], at: usize, path: &[u8]) -> usize
+    requires { ⌜ Plain (now path) × (at + 512 ≤ length (now policy)) ⌝ }
+    ensures { λ r. ⌜ (r ≡ length (stepsIn (now (path .entry)))) × (now (policy .exit) ≡ pasted (now (policy .entry)) at (stepRecords (stepsIn (now (path .entry))))) ⌝ }
+{
+    let mut n = 0;
+    let mut i = 0;
+    while i < path.len() {
+        let axis = axis_byte(path, i);
+        let k = after_slash(path, i);
+        let e = test_end(path, k);
+        put_record(policy, at + n * RECORD_BYTES, axis, path, k, e - k);
+        n += 1;
+        i = e;
+    }
+    n
+}
+
+// Puts what stands before a rule's steps at byte a.
+fn put_head(policy: &mut [u8], a: usize, accept: u8, bit: u8, who: u8, n: u8)
+    requires { ⌜ a + 8 ≤ length (now policy) ⌝ }
+    ensures { λ _. ⌜ now (policy .exit) ≡ pasted (now (policy .entry)) a (ruleHead accept bit who n) ⌝ }
+{
+    policy[a] = accept;
+    policy[a + 1] = bit;
+    policy[a + 2] = who;
+    policy[a + 3] = n;
+    policy[a + 4] = 0;
+    policy[a + 5] = 0;
+    policy[a + 6] = 0;
+    policy[a + 7] = 0;
+}
+
+// Adds a rule: accept is 1 to accept and 0 to deny, bit the right's, who the subject's number, path the text of its path.
+pub fn add_rule(policy: &mut [u8], accept: u8, bit: u8, who: usize, path: &[u8])
+    requires { ⌜ (policyOk (now policy) ≡ true) × (ruleCount (now policy) < 128) × (who < subjectCount (now policy)) × Plain (now path) ⌝ }
+    ensures { λ _. ⌜ now (policy .exit) ≡ withRule (now (policy .entry)) accept bit who (stepsIn (now (path .entry))) ⌝ }
+{
+    let count = policy[2];
+    let a = RULES_AT + wide(count) * RULE_BYTES;
+    let n = put_steps(policy, a + STEPS_AT, path);
+    put_head(policy, a, accept, bit, who as u8, n as u8);
+    policy[2] = count + 1;
+}
