@@ -36,7 +36,13 @@ fn show_user(state: &[u8], table: &[u8], rights: &mut [u8], shown: &mut [u16]) -
 }
 
 // `(view)`, with room for rights and for numbers.
-fn view_with(state: &[u8], table: &[u8], rights: &mut [u8], shown: &mut [u16], area: &mut [u8]) -> Answer
+fn view_with(
+    state: &[u8],
+    table: &[u8],
+    rights: &mut [u8],
+    shown: &mut [u16],
+    area: &mut [u8],
+) -> Answer
     requires { ⌜ (storeOk (now state) (now table) ≡ true) × (noUser (now state) ≡ false) × (length (now rights) ≡ 16384) × (length (now shown) ≡ 16384) ⌝ }
     ensures { λ r. ⌜ Made (stepView (now (state .entry)) (now (table .entry)) (length (now (area .entry)))) (now (area .entry)) r (now (state .entry)) (now (table .entry)) (now (area .exit)) ⌝ }
 {

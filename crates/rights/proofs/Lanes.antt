@@ -3,7 +3,7 @@ use Prim.Native.Nat.{ℕ, suc, zero, _+_, _*_, _-_, _/_, _%_, _^_, _≤_, _<_}
 use mathlib.Core.Bool.{Bool, true, false, _&&_, not, and-false}
 use mathlib.Core.Path.{_≡_, refl, sym, ap, ap₂, _∙_}
 use mathlib.Core.List.{List, [], _∷_}
-use native.Mathlib.Nat.{mod-eq-of-lt, zero-div, pow-suc, le-of-suc-le-suc, sub-self}
+use native.Mathlib.Nat.{mod-eq-of-lt, div-one, zero-div, pow-suc, le-of-suc-le-suc, sub-self}
 use native.Mathlib.Omega.{arith}
 use lib.Bits.{bitAnd, bitOr, and-zero-l, or-zero-l}
 use lib.Dec.{lit<, eqb}
@@ -11,8 +11,9 @@ use lib.Pow.{pow-mono, shr-shr}
 use lib.ListN.{length, take, drop, getD}
 use Rattle.rights.specs.Table.{level, label, recAt}
 use Rattle.rights.specs.Rights.{Step, stepFor, finds}
-use Rattle.rights.specs.Automaton.{bit, value, meet, join, deeps, passedBy, moved, someState, states, stepsFor}
-use Rattle.rights.specs.Path.{passes, far}
+use Rattle.rights.specs.Automaton.{bit, value, meet, join, deeps, passedBy, moved, someState, states, stepsFor, WildTail}
+use Rattle.rights.specs.Path as path
+use Rattle.rights.specs.Path.{Test, Axis, passes, far}
 use Rattle.rights.specs.PolicyBytes.{stepOf, axisOf, testOf}
 use Rattle.rights.proofs.Masks.{bit-lt, value-lt, value-meet, value-join}
 use Rattle.rights.proofs.Texts.{first-at}
@@ -140,3 +141,53 @@ moved-none ss st x h e =
 
 pub passing-none : (mine : List ℕ → Bool) (s : List ℕ) (b n : ℕ) (st : List Bool) (x : List ℕ) → 0 ≡ value (meet (drop n st) (passedBy (stepsFor mine s b (n - n) n) x))
 passing-none mine s b n st x = sym (passing-end st n (stepsFor mine s b (n - n) n) x (length-steps mine s b (n - n) n ∙ sub-self n))
+
+-- the states from l on
+pub value-drop : (l : ℕ) (st : List Bool) → value (drop l st) ≡ value st / 2 ^ l
+unfolding value
+value-drop zero st = sym (div-one (value st))
+value-drop (suc l) [] = sym (zero-div (2 ^ suc l))
+value-drop (suc l) (b ∷ st) =
+    let e : 1 + l ≡ suc l = omega arith in
+    let h : (value st * 2 + bit b) / 2 ^ 1 ≡ value st = omega (arith, bit-lt b) in
+    value-drop l st
+    ∙ ap (λ (k : ℕ). k / 2 ^ l) (sym h)
+    ∙ shr-shr (value st * 2 + bit b) 1 l
+    ∙ ap (λ (k : ℕ). (value st * 2 + bit b) / 2 ^ k) e
+
+-- the tail of a path
+pub tail-none : (p : List ℕ) (b n : ℕ) → WildTail p b n n 0
+tail-none p b n = record { within = omega arith; pass = λ mine x. go mine x }
+  where
+    go : (mine : List ℕ → Bool) (x : List ℕ) → 0 ≡ value (passedBy (stepsFor mine p b (n - n) n) x)
+    go mine x = unfold value passedBy stepsFor in rw (sub-self n)
+
+any-passes : (mine : List ℕ → Bool) (y : Test) (x : List ℕ) → y ≡ path.any → passes mine y x ≡ true
+unfolding passes
+any-passes mine y x e = rw e
+
+cons-any : (mine : List ℕ → Bool) (w : Axis × Test) (ss : List Step) (x : List ℕ) → passes mine (w .1) x ≡ true
+    → value (passedBy ss x) * 2 + 1 ≡ value (passedBy (stepFor mine w ∷ ss) x)
+unfolding value passedBy
+cons-any mine w ss x q = rw q
+
+pub tail-more : (p : List ℕ) (b n l bits : ℕ) → n ≤ 16 → 0 < l → WildTail p b n l bits → testOf (label (recAt p (b + (l - 1) * 32))) ≡ path.any
+    → WildTail p b n (l - 1) (bits * 2 ^ 1 % 2 ^ 32 + 1)
+tail-more p b n l bits few h w e = record { within = omega (arith, w .within); pass = go }
+  where
+    go : (mine : List ℕ → Bool) (x : List ℕ) → bits * 2 ^ 1 % 2 ^ 32 + 1 ≡ value (passedBy (stepsFor mine p b (n - (l - 1)) (l - 1)) x)
+    go mine x =
+        let ss = stepsFor mine p b (n - l) l in
+        let k : length (passedBy ss x) ≤ 31 = omega (arith, length-passedBy ss x, length-steps mine p b (n - l) l) in
+        let z : suc (l - 1) ≡ l = omega arith in
+        let w' = stepOf (recAt p (b + (l - 1) * 32)) in
+        ap (λ (y : ℕ). y + 1) (ap (λ (y : ℕ). y * 2 ^ 1 % 2 ^ 32) (w .pass mine x) ∙ doubled (passedBy ss x) k)
+        ∙ cons-any mine w' ss x (any-passes mine (w' .1) x e)
+        ∙ ap (λ (y : List Step). value (passedBy y x)) (sym (steps-step mine p b n (l - 1) (omega (arith, w .within)) ∙ ap (λ (i : ℕ). stepFor mine (stepOf (recAt p (b + (l - 1) * 32))) ∷ stepsFor mine p b (n - i) i) z))
+
+-- the tail's states pass
+pub tail-passing : (mine : List ℕ → Bool) (p : List ℕ) (b n l bits m : ℕ) → WildTail p b n l bits → (st : List Bool) (x : List ℕ) → m ≡ value st
+    → bitAnd (m / 2 ^ l) bits ≡ value (meet (drop l st) (passedBy (stepsFor mine p b (n - l) l) x))
+tail-passing mine p b n l bits m w st x e =
+    ap₂ (λ (u v : ℕ). bitAnd u v) (ap (λ (k : ℕ). k / 2 ^ l) e ∙ sym (value-drop l st)) (w .pass mine x)
+    ∙ value-meet (drop l st) (passedBy (stepsFor mine p b (n - l) l) x)

@@ -1,6 +1,6 @@
 -- How the rights are worked out: one automaton a rule, its states as a list of Bools and as a mask of bits. proofs/Chains.antt shows that it finds what
 -- `finds` says, proofs/Roles.antt that the pass over the subjects finds the roles that `is` says.
-use Prim.Native.Nat.{ℕ, zero, suc, _+_, _*_, _≤_, _<_}
+use Prim.Native.Nat.{ℕ, zero, suc, _+_, _*_, _-_, _≤_, _<_}
 use mathlib.Core.Bool.{Bool, true, false, cond, not, _&&_, _||_}
 use mathlib.Core.Path.{_≡_}
 use mathlib.Core.List.{List, [], _∷_, _++_}
@@ -125,6 +125,11 @@ sweep p (suc k) out = sweep p k (widened p k out)
 pub record Steps (p : List ℕ) (at n : ℕ) : Type 0 where
   pub few : n ≤ 16
   pub texts : (j : ℕ) → j < n → Text p (at + j * 32)
+
+-- the steps from step `from` on, of n at byte b, are all `*`: each label passes them all, by these bits
+pub record WildTail (p : List ℕ) (b n from bits : ℕ) : Type 0 where
+  pub within : from ≤ n
+  pub pass : (mine : List ℕ → Bool) (x : List ℕ) → bits ≡ value (passedBy (stepsFor mine p b (n - from) from) x)
 
 pub record Sound (p : List ℕ) : Type 0 where
   pub size : 68872 ≤ length p

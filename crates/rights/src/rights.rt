@@ -18,13 +18,13 @@ ghost use mathlib.Core.Bool.{Bool, true, false, cond, not, _&&_};
 ghost use Prim.Native.Nat.{ℕ, suc, _+_, _-_, _*_, _/_, _%_, _^_, _≤_, _<_};
 ghost use lib.ListN.{length, take, drop, getD};
 ghost use lib.Dec.{eqb};
-ghost use Rattle.rights.specs.Path.{far, passes};
+ghost use Rattle.rights.specs.Path.{any, far, passes};
 ghost use Rattle.rights.specs.Policy.{passesOwn};
 ghost use Rattle.rights.specs.Table.{recAt, recordsFrom, recordsOk, records, count, tableOk, level, label};
 ghost use Rattle.rights.specs.PolicyCheck.{policyOk};
 ghost use Rattle.rights.specs.PolicyBytes.{policyOf, subjectCount, isaCount, ruleCount, accepts, rightBit, whose, axisOf, testOf, Text, Subject};
 ghost use Rattle.rights.specs.Rights.{tried, withRule, rightsOn};
-ghost use Rattle.rights.specs.Automaton.{bit, value, meet, deeps, passedBy, moved, stepsFor, rulePath, chainOf, isAt, lined, widened, Each, Steps, Sound};
+ghost use Rattle.rights.specs.Automaton.{bit, value, meet, deeps, passedBy, moved, stepsFor, rulePath, chainOf, isAt, lined, widened, Each, Steps, Sound, WildTail};
 
 // Whether bit j of m is set.
 fn bit_at(m: u32, j: usize) -> bool
@@ -74,13 +74,57 @@ fn deep_bit(policy: &[u8], step: usize) -> u32
     if policy[step] == 0 { 0 } else { 1 }
 }
 
-// The steps of the mask m that the label passes.
-fn passing(policy: &[u8], b: usize, n: usize, u: usize, t: &[u8], at: usize, m: u32) -> u32
-    requires { ⌜ Steps (now policy) b n × Subject (now policy) u × Text (now t) at ⌝ }
+// The last steps of a path that are all `*`: the first of them, and a bit for each. Every label passes them, so they need no test.
+struct Tail {
+    from: usize,
+    bits: u32,
+}
+
+// Whether the step at byte `step` is `*`.
+fn is_any(policy: &[u8], step: usize) -> bool
+    requires { ⌜ Text (now policy) step ⌝ }
+    ensures { λ r. ⌜ (r ≡ true → testOf (label (recAt (now (policy .entry)) step)) ≡ any) ⌝ }
+{
+    if policy[step + LABEL_AT] == b'*' {
+        return true;
+    }
+    false
+}
+
+// The tail of `*` steps of the n steps at byte b.
+fn wild_tail(policy: &[u8], b: usize, n: usize) -> Tail
+    requires { ⌜ Steps (now policy) b n ⌝ }
+    ensures { λ r. ⌜ WildTail (now (policy .entry)) b n (r .from) (r .bits) ⌝ }
+{
+    let mut from = n;
+    let mut bits: u32 = 0;
+    while 0 < from {
+        if !is_any(policy, b + (from - 1) * RECORD_BYTES) {
+            return Tail { from, bits };
+        }
+        bits = (bits << 1) + 1;
+        from -= 1;
+    }
+    Tail { from, bits }
+}
+
+// The steps of the mask m that the label passes: those of the tail, and the others by their tests.
+fn passing(
+    policy: &[u8],
+    b: usize,
+    n: usize,
+    from: usize,
+    bits: u32,
+    u: usize,
+    t: &[u8],
+    at: usize,
+    m: u32,
+) -> u32
+    requires { ⌜ Steps (now policy) b n × Subject (now policy) u × Text (now t) at × WildTail (now policy) b n from bits ⌝ }
     ensures { λ r. ⌜ ((st : List Bool) → m ≡ value st → r ≡ value (meet st (passedBy (stepsFor (passesOwn (policyOf (now (policy .entry))) u) (now (policy .entry)) b n 0) (label (recAt (now (t .entry)) at))))) ⌝ }
 {
-    let mut p: u32 = 0;
-    let mut j = n;
+    let mut p = (m >> from) & bits;
+    let mut j = from;
     while 0 < j {
         j -= 1;
         let x = step_bit(policy, b + j * RECORD_BYTES, u, t, at, m, j);
@@ -110,18 +154,20 @@ fn node_mask(
     b: usize,
     n: usize,
     deep: u32,
+    from: usize,
+    bits: u32,
     u: usize,
     t: &[u8],
     at: usize,
     m: u32,
 ) -> u32
-    requires { ⌜ Steps (now policy) b n × Subject (now policy) u × Text (now t) at × (deep ≡ value (deeps (stepsFor (passesOwn (policyOf (now policy)) u) (now policy) b n 0))) ⌝ }
+    requires { ⌜ Steps (now policy) b n × Subject (now policy) u × Text (now t) at × WildTail (now policy) b n from bits × (deep ≡ value (deeps (stepsFor (passesOwn (policyOf (now policy)) u) (now policy) b n 0))) ⌝ }
     ensures { λ r. ⌜ ((st : List Bool) → m ≡ value st → r ≡ value (moved (stepsFor (passesOwn (policyOf (now (policy .entry))) u) (now (policy .entry)) b n 0) st (label (recAt (now (t .entry)) at)))) ⌝ }
 {
     if m == 0 {
         return 0;
     }
-    let p = passing(policy, b, n, u, t, at, m);
+    let p = passing(policy, b, n, from, bits, u, t, at, m);
     (m & deep) | (p << 1)
 }
 
@@ -162,13 +208,16 @@ fn try_path(
     ensures { λ _. ⌜ Each n (now (out .entry)) (now (out .exit)) (λ (i x : ℕ). tried (stepsFor (passesOwn (policyOf (now (policy .entry))) u) (now (policy .entry)) b count 0) (chainOf (now (t .entry)) i) bit (not (eqb accept 0)) x) ⌝ }
 {
     let deep = deep_mask(policy, b, count);
+    let tail = wild_tail(policy, b, count);
+    let from = tail.from;
+    let bits = tail.bits;
     let mut st = [0u32; 13];
     st[0] = 1;
     let mut i = 0;
     while i < n {
         let at = COUNT_BYTES + i * RECORD_BYTES;
         let l = wide(t[at]);
-        let m = node_mask(policy, b, count, deep, u, t, at, st[l]);
+        let m = node_mask(policy, b, count, deep, from, bits, u, t, at, st[l]);
         st[l + 1] = m;
         out[i] = with_found(out[i], bit, accept, m, count);
         i += 1;

@@ -1,11 +1,11 @@
 // append, before, after (document 01, "Changes"): a tree of records at every place that is done; in place, in one pass. Refusals 10 and 11 are decided
 // by functions of their own, before anything is written.
+use crate::marks::count_marks;
 use crate::store::clear_from;
 use crate::store::copy;
 use crate::store::move_record;
 use crate::store::put_count;
 use crate::store::shift_up;
-use crate::marks::count_marks;
 use rights::bytes::wide;
 use rights::limits::COUNT_BYTES;
 use rights::limits::LEVEL_MAX;

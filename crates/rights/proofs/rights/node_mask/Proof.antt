@@ -13,7 +13,7 @@ passing-requires : tie.Need-passing-requires
 passing-requires c κs = search needs
 
 returns-2 : tie.Need-returns-2
-returns-2 c = λ st em. moved-mask _ st _ _ _ _ (few-steps _ _ _ _ _ (c .before .before .before .before .pre .0 .few)) em (c .before .before .before .before .pre .3) (c .passing .ensures st em)
+returns-2 c = λ st em. moved-mask _ st _ _ _ _ (few-steps _ _ _ _ _ (c .before .before .before .before .pre .0 .few)) em (c .before .before .before .before .pre .4) (c .passing .ensures st em)
 
 pub node-mask-spec : {M : Type 1} → statement M
 node-mask-spec = tie.close (tie.spec returns passing-requires returns-2)

@@ -1,6 +1,6 @@
 use Rattle.rights.specs.Policy.{passesOwn}
 use Rattle.rights.specs.PolicyBytes.{policyOf}
-use Rattle.rights.proofs.Lanes.{shl-add, passing-none}
+use Rattle.rights.proofs.Lanes.{shl-add, tail-passing}
 use native.Mathlib.Nat.{sub-zero, sub-self}
 use native.Mathlib.Nat.{sub-zero}
 use mathlib.Core.Path.{_≡_, refl, sym, _∙_, ap, ap₂}
@@ -19,15 +19,21 @@ use Rattle.rights.proofs.rights.passing.Statement.{statement}
 use Rattle.rights.proofs.rights.passing.Tie as tie
 
 abbrev Inv-loop : tie.InvT-loop
-Inv-loop s b n u t at m p₀ j₀ p j = (j ≤ n) × ((st : List Bool) → m ≡ value st → p ≡ value (meet (drop j st) (passedBy (stepsFor (passesOwn (policyOf s) u) s b (n - j) j) (label (recAt t at)))))
+Inv-loop s b n from bits u t at m p₀ j₀ p j = (j ≤ n) × ((st : List Bool) → m ≡ value st → p ≡ value (meet (drop j st) (passedBy (stepsFor (passesOwn (policyOf s) u) s b (n - j) j) (label (recAt t at)))))
 
 abbrev μ-loop : tie.MeasureT-loop
-μ-loop s b n u t at m p₀ j₀ p j = j
+μ-loop s b n from bits u t at m p₀ j₀ p j = j
+
+cast-p : tie.Need-cast-p Inv-loop μ-loop
+cast-p c = omega (arith, c .before .before .pre .0 .few, c .before .before .pre .3 .within)
+
+shr-p : tie.Need-shr-p Inv-loop μ-loop
+shr-p c = omega (arith, c .before .before .pre .0 .few, c .before .before .pre .3 .within)
 
 loop-holds : tie.Need-loop-holds Inv-loop μ-loop
 loop-holds c =
     let a = c .before .before .args in
-    (omega arith, λ st e. passing-none (passesOwn (policyOf (a .policy .now)) (a .u)) (a .policy .now) (a .b) (a .n) st (label (recAt (a .t .now) (a .at))))
+    (c .before .before .pre .3 .within, λ st e. tail-passing (passesOwn (policyOf (a .policy .now)) (a .u)) (a .policy .now) (a .b) (a .n) (a .from) (a .bits) (a .m) (c .before .before .pre .3) st (label (recAt (a .t .now) (a .at))) e)
 
 sub-j : tie.Need-sub-j Inv-loop μ-loop
 sub-j c = omega arith
@@ -65,6 +71,8 @@ passing-spec =
     (tie.spec
     Inv-loop
     μ-loop
+    cast-p
+    shr-p
     loop-holds
     sub-j
     mul-step-bit
