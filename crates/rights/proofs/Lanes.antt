@@ -1,17 +1,17 @@
 -- One step of a loop that makes a mask from the last step down to the first. Assumes nothing.
 use Prim.Native.Nat.{ℕ, suc, zero, _+_, _*_, _-_, _/_, _%_, _^_, _≤_, _<_}
-use mathlib.Core.Bool.{Bool, true, false, _&&_, not, and-false}
+use mathlib.Core.Bool.{Bool, true, false, _&&_, _||_, not, and-false}
 use mathlib.Core.Path.{_≡_, refl, sym, ap, ap₂, _∙_}
 use mathlib.Core.List.{List, [], _∷_}
 use native.Mathlib.Nat.{mod-eq-of-lt, div-one, zero-div, pow-suc, le-of-suc-le-suc, sub-self}
 use native.Mathlib.Omega.{arith}
-use lib.Bits.{bitAnd, bitOr, and-zero-l, or-zero-l}
+use lib.Bits.{bitAnd, bitOr, and-zero-l, and-zero-r, or-zero-l, and-le-l, and-block}
 use lib.Dec.{lit<, eqb}
 use lib.Pow.{pow-mono, shr-shr}
 use lib.ListN.{length, take, drop, getD}
 use Rattle.rights.specs.Table.{level, label, recAt}
 use Rattle.rights.specs.Rights.{Step, stepFor, finds}
-use Rattle.rights.specs.Automaton.{bit, value, meet, join, deeps, passedBy, moved, someState, states, stepsFor, WildTail}
+use Rattle.rights.specs.Automaton.{bit, value, meet, join, deeps, passedBy, moved, someState, states, stepsFor, WildTail, minus}
 use Rattle.rights.specs.Path as path
 use Rattle.rights.specs.Path.{Test, Axis, passes, far}
 use Rattle.rights.specs.PolicyBytes.{stepOf, axisOf, testOf}
@@ -191,3 +191,68 @@ pub tail-passing : (mine : List ℕ → Bool) (p : List ℕ) (b n l bits m : ℕ
 tail-passing mine p b n l bits m w st x e =
     ap₂ (λ (u v : ℕ). bitAnd u v) (ap (λ (k : ℕ). k / 2 ^ l) e ∙ sym (value-drop l st)) (w .pass mine x)
     ∙ value-meet (drop l st) (passedBy (stepsFor mine p b (n - l) l) x)
+
+-- the states of a set that are not in another
+minus-value : (xs ys : List Bool) → value xs - bitAnd (value xs) (value ys) ≡ value (minus xs ys)
+unfolding value minus
+minus-value [] ys = omega (arith, and-zero-l (value ys))
+minus-value (x ∷ xs) [] = omega (arith, and-zero-r (value xs * 2 + bit x))
+minus-value (x ∷ xs) (y ∷ ys) =
+    ap (λ (k : ℕ). value xs * 2 + bit x - k) (and-block 1 (value xs) (value ys) (bit x) (bit y) (bit-lt x) (bit-lt y))
+    ∙ go x y (minus-value xs ys)
+  where
+    go : (x y : Bool) → value xs - bitAnd (value xs) (value ys) ≡ value (minus xs ys) → value xs * 2 + bit x - (bitAnd (value xs) (value ys) * 2 + bitAnd (bit x) (bit y)) ≡ value (minus xs ys) * 2 + bit (x && not y)
+    go true true ih = omega (arith, ih, and-le-l (value xs) (value ys))
+    go true false ih = omega (arith, ih, and-le-l (value xs) (value ys))
+    go false y ih = omega (arith, ih, and-le-l (value xs) (value ys))
+
+-- a step whose next state is kept anyway needs no test
+abbrev pub needed : List Step → List Bool → List Bool
+needed ss st = minus st (drop 1 (meet st (deeps ss)))
+
+same-join : (k p n q : Bool) → n ≡ (p && not k) → k || (n && q) ≡ k || (p && q)
+same-join true p n q e = refl
+same-join false true n q e = rw e
+same-join false false n q e = rw e
+
+-- c is what comes from the left; ks are the states that are kept
+join-needed : (ps ks qs : List Bool) (c : Bool) (k0 : Bool)
+    → join (k0 ∷ ks) (c ∷ meet (minus ps ks) qs) ≡ join (k0 ∷ ks) (c ∷ meet ps qs)
+unfolding join meet minus
+join-needed [] ks qs c k0 = refl
+join-needed (p ∷ ps) [] qs c k0 = refl
+join-needed (p ∷ ps) (k ∷ ks) [] c k0 = refl
+join-needed (p ∷ ps) (k ∷ ks) (q ∷ qs) c k0 =
+    let ih = join-needed ps ks qs (p && q) k in
+    ap (λ l. (k0 || c) ∷ l) (heads k p q ps ks qs ∙ ih)
+  where
+    heads : (k p q : Bool) (ps ks qs : List Bool) → join (k ∷ ks) (((p && not k) && q) ∷ meet (minus ps ks) qs) ≡ join (k ∷ ks) ((p && q) ∷ meet (minus ps ks) qs)
+    heads k p q ps ks qs = unfold join in ap (λ (b : Bool). b ∷ join ks (meet (minus ps ks) qs)) (same-join k p (p && not k) q refl)
+
+need-join : (ss : List Step) (st qs : List Bool) → join (meet st (deeps ss)) (false ∷ meet (needed ss st) qs) ≡ join (meet st (deeps ss)) (false ∷ meet st qs)
+need-join ss st qs = go (meet st (deeps ss)) refl
+  where
+    go : (ks : List Bool) → meet st (deeps ss) ≡ ks → join (meet st (deeps ss)) (false ∷ meet (needed ss st) qs) ≡ join (meet st (deeps ss)) (false ∷ meet st qs)
+    go [] e = rw e (none st)
+      where
+        none : (st : List Bool) → join [] (false ∷ meet (minus st []) qs) ≡ join [] (false ∷ meet st qs)
+        none [] = unfold minus in refl
+        none (x ∷ st) = unfold minus in refl
+    go (k ∷ ks) e = rw e (join-needed st ks qs false k)
+
+pub needed-mask : (ss : List Step) (st : List Bool) (m d : ℕ) → m ≡ value st → d ≡ value (deeps ss) → m - bitAnd m (bitAnd m d / 2 ^ 1) ≡ value (needed ss st)
+needed-mask ss st m d em ed =
+    let e : bitAnd m d / 2 ^ 1 ≡ value (drop 1 (meet st (deeps ss))) =
+    ap (λ (k : ℕ). k / 2 ^ 1) (ap₂ (λ (u v : ℕ). bitAnd u v) em ed ∙ value-meet st (deeps ss)) ∙ sym (value-drop 1 (meet st (deeps ss))) in
+    ap₂ (λ (u v : ℕ). u - bitAnd u v) em e ∙ minus-value st (drop 1 (meet st (deeps ss)))
+
+pub needed-moved : (ss : List Step) (st : List Bool) (x : List ℕ) (m d p : ℕ) → length ss ≤ 16 → m ≡ value st → d ≡ value (deeps ss)
+    → p ≡ value (meet (needed ss st) (passedBy ss x)) → bitOr (bitAnd m d) (p * 2 ^ 1 % 2 ^ 32) ≡ value (moved ss st x)
+unfolding value
+needed-moved ss st x m d p h em ed ep =
+    let a = meet (needed ss st) (passedBy ss x) in
+    let k : length a ≤ 31 = omega (arith, length-meet-r (needed ss st) (passedBy ss x), length-passedBy ss x) in
+    let z : value a * 2 ≡ value (false ∷ a) = omega arith in
+    ap₂ (λ (u v : ℕ). bitOr u v) (ap₂ (λ (u v : ℕ). bitAnd u v) em ed ∙ value-meet st (deeps ss)) (ap (λ (u : ℕ). u * 2 ^ 1 % 2 ^ 32) ep ∙ doubled a k ∙ z)
+    ∙ value-join (meet st (deeps ss)) (false ∷ a)
+    ∙ ap value (need-join ss st (passedBy ss x))

@@ -33,6 +33,11 @@ join [] ys = ys
 join (x ∷ xs) [] = x ∷ xs
 join (x ∷ xs) (y ∷ ys) = (x || y) ∷ join xs ys
 
+unfoldable pub minus : List Bool → List Bool → List Bool
+minus [] ys = []
+minus (x ∷ xs) [] = x ∷ xs
+minus (x ∷ xs) (y ∷ ys) = (x && not y) ∷ minus xs ys
+
 -- the deep steps, and the steps that a label passes
 unfoldable pub deeps : List Step → List Bool
 deeps [] = []

@@ -148,7 +148,7 @@ fn deep_mask(policy: &[u8], b: usize, n: usize) -> u32
     p
 }
 
-// The states after a node, where m are those of its parent.
+// The states after a node, where m are those of its parent. A step whose next state is kept anyway needs no test.
 fn node_mask(
     policy: &[u8],
     b: usize,
@@ -167,8 +167,10 @@ fn node_mask(
     if m == 0 {
         return 0;
     }
-    let p = passing(policy, b, n, from, bits, u, t, at, m);
-    (m & deep) | (p << 1)
+    let kept = m & deep;
+    let need = m - (m & (kept >> 1));
+    let p = passing(policy, b, n, from, bits, u, t, at, need);
+    kept | (p << 1)
 }
 
 // The set after a rule that applies: its right's bit is set or cleared by mask.
