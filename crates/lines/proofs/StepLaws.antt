@@ -221,3 +221,11 @@ module _ (s t : List ℕ) (room : ℕ) (path : List ℕ) where
     pub find-seen : notPath (pathOf path) ≡ false → noUser s ≡ false → stepFind choice s t room path ≡ finish room (findText (choice (marksIn s t path) (viewIn s t))) s t s t
     unfolding stepFind
     find-seen e u = rw (e, u)
+
+pub marks-long-enough : (s t path marks' more : List ℕ) (k : ℕ) → storeOk s t ≡ true → k ≡ length (shownNumbers (storedIn s t)) → marks' ≡ marksIn s t path ++ more → k ≤ length marks'
+marks-long-enough s t path marks' more k ok e q = omega (arith, ap length q, length-append (marksIn s t path) more, marks-size s t path ok)
+
+pub marks-cover : (s t path shown' more marks' rest : List ℕ) (k : ℕ) (ok : storeOk s t ≡ true) (e : k ≡ length (shownNumbers (storedIn s t))) → shown' ≡ shownNumbers (storedIn s t) ++ more
+    → marks' ≡ marksIn s t path ++ rest → length (take (k - 0) (drop 0 shown')) ≤ length (take (k - 0) (drop 0 marks'))
+marks-cover s t path shown' more marks' rest k ok e q m =
+    omega (arith, ap length (shown-part s t ok shown' more k e q), ap length (marks-part s t path marks' rest k ok e m), marks-size s t path ok)

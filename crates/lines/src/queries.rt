@@ -1,19 +1,26 @@
-// The lines that only look (document 01, stage E). Each is answered from the user's view alone.
+// The lines that only look (document 01, stage E): view, query, find. Each is answered from the user's view alone.
+use crate::answer::answer_find;
+use crate::answer::answer_query;
 use crate::answer::answer_view;
 use crate::limits::POLICY_AT;
 use crate::line::Answer;
 use rights::bytes::wide;
 use rights::limits::RECORDS_MAX;
+use rights::path::Read;
+use rights::path::check_path;
 use rights::rights::rights_on;
+use rights::selection::select;
 use views::shown::show;
 ghost use mathlib.Core.Path.{_≡_};
 ghost use mathlib.Core.Bool.{true, false};
 ghost use mathlib.Core.List.{_++_};
 ghost use Prim.Native.Nat.{_<_, _≤_};
 ghost use lib.ListN.{length, drop};
+ghost use Rattle.rights.specs.PathReader.{pathOf};
 ghost use Rattle.views.specs.Shown.{shownNumbers};
+ghost use Rattle.lines.specs.AnswerChoice.{chosen};
 ghost use Rattle.lines.specs.State.{userByte, storeOk};
-ghost use Rattle.lines.specs.Step.{Made, fitted, noUser, storedIn, stepView};
+ghost use Rattle.lines.specs.Step.{Made, fitted, noUser, notPath, storedIn, marksIn, stepView, stepQuery, stepFind, Chosen};
 
 // An answer of `need` bytes: accepted if it fits into the area's `room`, else refusal 12.
 fn finished(need: usize, room: usize) -> Answer
@@ -62,4 +69,108 @@ pub fn view(state: &[u8], table: &[u8], area: &mut [u8]) -> Answer
     let mut rights = [0u8; RECORDS_MAX];
     let mut shown = [0u16; RECORDS_MAX];
     view_with(state, table, &mut rights, &mut shown, area)
+}
+
+// Writes the numbers of the nodes that the user is shown and the marks of those that a path selects, and returns how many are shown.
+fn select_user(
+    state: &[u8],
+    table: &[u8],
+    path: &[u8],
+    rights: &mut [u8],
+    shown: &mut [u16],
+    marks: &mut [u8],
+) -> usize
+    requires { ⌜ (storeOk (now state) (now table) ≡ true) × (noUser (now state) ≡ false) × (notPath (pathOf (now path)) ≡ false) × (length (now rights) ≡ 16384) × (length (now shown) ≡ 16384) × (length (now marks) ≡ 16384) ⌝ }
+    ensures { λ r. ⌜ Chosen (now (state .entry)) (now (table .entry)) (now (path .entry)) (now (shown .entry)) (now (marks .entry)) r (now (shown .exit)) (now (marks .exit)) ⌝ }
+{
+    let k = show_user(state, table, rights, shown);
+    let user = wide(state[1]) - 1;
+    select(&state[POLICY_AT..], user, table, &shown[0..k], path, marks);
+    k
+}
+
+// `(query P)`, with room for rights, numbers and marks.
+fn query_with(
+    state: &[u8],
+    table: &[u8],
+    path: &[u8],
+    rights: &mut [u8],
+    shown: &mut [u16],
+    marks: &mut [u8],
+    area: &mut [u8],
+) -> Answer
+    requires { ⌜ (storeOk (now state) (now table) ≡ true) × (noUser (now state) ≡ false) × (notPath (pathOf (now path)) ≡ false) × (length (now rights) ≡ 16384) × (length (now shown) ≡ 16384) × (length (now marks) ≡ 16384) ⌝ }
+    ensures { λ r. ⌜ Made (stepQuery (now (state .entry)) (now (table .entry)) (length (now (area .entry))) (now (path .entry))) (now (area .entry)) r (now (state .entry)) (now (table .entry)) (now (area .exit)) ⌝ }
+{
+    let k = select_user(state, table, path, rights, shown, marks);
+    let need = answer_query(table, &shown[0..k], &marks[0..k], area);
+    finished(need, area.len())
+}
+
+// `(query P)`.
+pub fn query(state: &[u8], table: &[u8], path: &[u8], area: &mut [u8]) -> Answer
+    requires { ⌜ storeOk (now state) (now table) ≡ true ⌝ }
+    ensures { λ r. ⌜ Made (stepQuery (now (state .entry)) (now (table .entry)) (length (now (area .entry))) (now (path .entry))) (now (area .entry)) r (now (state .entry)) (now (table .entry)) (now (area .exit)) ⌝ }
+{
+    let Read::At(_) = check_path(path) else {
+        return Answer::Refused(4);
+    };
+    if state[1] == 0 {
+        return Answer::Refused(8);
+    }
+    let mut rights = [0u8; RECORDS_MAX];
+    let mut shown = [0u16; RECORDS_MAX];
+    let mut marks = [0u8; RECORDS_MAX];
+    query_with(
+        state,
+        table,
+        path,
+        &mut rights,
+        &mut shown,
+        &mut marks,
+        area,
+    )
+}
+
+// `(find P)`, with room for rights, numbers and marks.
+fn find_with(
+    state: &[u8],
+    table: &[u8],
+    path: &[u8],
+    rights: &mut [u8],
+    shown: &mut [u16],
+    marks: &mut [u8],
+    area: &mut [u8],
+) -> Answer
+    requires { ⌜ (storeOk (now state) (now table) ≡ true) × (noUser (now state) ≡ false) × (notPath (pathOf (now path)) ≡ false) × (length (now rights) ≡ 16384) × (length (now shown) ≡ 16384) × (length (now marks) ≡ 16384) ⌝ }
+    ensures { λ r. ⌜ Made (stepFind chosen (now (state .entry)) (now (table .entry)) (length (now (area .entry))) (now (path .entry))) (now (area .entry)) r (now (state .entry)) (now (table .entry)) (now (area .exit)) ⌝ }
+{
+    let k = select_user(state, table, path, rights, shown, marks);
+    let need = answer_find(table, &shown[0..k], &marks[0..k], area);
+    finished(need, area.len())
+}
+
+// `(find P)`.
+pub fn find(state: &[u8], table: &[u8], path: &[u8], area: &mut [u8]) -> Answer
+    requires { ⌜ storeOk (now state) (now table) ≡ true ⌝ }
+    ensures { λ r. ⌜ Made (stepFind chosen (now (state .entry)) (now (table .entry)) (length (now (area .entry))) (now (path .entry))) (now (area .entry)) r (now (state .entry)) (now (table .entry)) (now (area .exit)) ⌝ }
+{
+    let Read::At(_) = check_path(path) else {
+        return Answer::Refused(4);
+    };
+    if state[1] == 0 {
+        return Answer::Refused(8);
+    }
+    let mut rights = [0u8; RECORDS_MAX];
+    let mut shown = [0u16; RECORDS_MAX];
+    let mut marks = [0u8; RECORDS_MAX];
+    find_with(
+        state,
+        table,
+        path,
+        &mut rights,
+        &mut shown,
+        &mut marks,
+        area,
+    )
 }

@@ -1,0 +1,62 @@
+use Rattle.rights.specs.PathReader.{pathOf}
+use mathlib.Core.Path.{_≡_, refl, sym, _∙_}
+use native.Mathlib.Omega.{arith}
+use borrow.Author.Tests.{eq-eqb, ne-eqb}
+use Rattle.lines.proofs.StateLaws.{store-held}
+use Rattle.lines.proofs.StepLaws.{made-at, refused, not-path, is-path, find-no-path, find-no-user}
+use borrow.Author.Needs.{needs}
+use Rattle.lines.proofs.queries.find.Statement.{statement}
+use Rattle.lines.proofs.queries.find.Tie as tie
+
+check-path-requires : tie.Need-check-path-requires
+check-path-requires c κs = search needs
+
+enum-told : tie.Need-enum-told
+enum-told c = search needs
+
+enum-told-2 : tie.Need-enum-told-2
+enum-told-2 c = search needs
+
+returns : tie.Need-returns
+returns c = let a = c .before .before .before .before .before .before .before .args in made-at (find-no-path _ _ _ _ _ (not-path (pathOf (a .path .now)) (sym (c .before .before .check-path .ensures) ∙ c .enum-told2 .given .1))) refused
+
+shared-slice-read-if1 : tie.Need-shared-slice-read-if1
+shared-slice-read-if1 c = omega (arith, store-held _ _ (c .before .before .before .before .before .before .before .before .pre) .size)
+
+returns-2 : tie.Need-returns-2
+returns-2 c = let a = c .before .before .before .before .before .before .before .before .before .args in made-at (find-no-user _ _ _ _ _ (is-path (pathOf (a .path .now)) _ (sym (c .before .before .before .before .check-path .ensures) ∙ c .before .before .enum-told .given .1)) (eq-eqb _ _ (c .if1 .taken))) refused
+
+slice-aggregate-find-with : tie.Need-slice-aggregate-find-with
+slice-aggregate-find-with c = search needs
+
+slice-aggregate-find-with-2 : tie.Need-slice-aggregate-find-with-2
+slice-aggregate-find-with-2 c = search needs
+
+slice-aggregate-find-with-3 : tie.Need-slice-aggregate-find-with-3
+slice-aggregate-find-with-3 c = search needs
+
+find-with-requires : tie.Need-find-with-requires
+find-with-requires c κs = let a = c .before .before .before .before .before .before .before .before .before .before .before .before .before .args in (c .before .before .before .before .before .before .before .before .before .before .before .before .before .pre, ne-eqb _ _ (c .before .before .before .before .if1 .left), is-path (pathOf (a .path .now)) _ (sym (c .before .before .before .before .before .before .before .before .check-path .ensures) ∙ c .before .before .before .before .before .before .enum-told .given .1), refl, refl, refl)
+
+same-length : tie.Need-same-length
+same-length c = search needs
+
+returns-3 : tie.Need-returns-3
+returns-3 c = search needs
+
+pub find-spec : {M : Type 1} → statement M
+find-spec =
+    tie.close
+    (tie.spec
+    check-path-requires
+    enum-told
+    enum-told-2
+    returns
+    shared-slice-read-if1
+    returns-2
+    slice-aggregate-find-with
+    slice-aggregate-find-with-2
+    slice-aggregate-find-with-3
+    find-with-requires
+    same-length
+    returns-3)
