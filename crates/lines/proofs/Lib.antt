@@ -17,5 +17,4 @@ pub mod StoredSteps
 pub mod EditTests
 pub mod EditBytes
 pub mod EditKept
-pub mod RecordRead
 pub mod PolicyEdits

@@ -22,7 +22,7 @@ use Rattle.rights.specs.Record.{recordOf}
 use Rattle.lines.proofs.EditBytes.{Alike, part-in, part-split, zeros-part, zeros-alike, line-length, line-count, line-byte, line-put, line-put-byte, line-after, line-before}
 use Rattle.lines.proofs.EditKept.{parts, subjects-have, isas-have, rules-have, isa-is, rule-is, policy-is, name-kept, n-kept, r-kept, subjects-kept, isas-kept, rules-kept, subjects-more, isas-more, rules-more, names-same, isas-same, rules-same, names-snoc, isas-snoc, rules-snoc, policy-holds}
 use Rattle.rights.proofs.RecordLaws.{length-record}
-use Rattle.lines.proofs.RecordRead.{label-read, record-passes}
+use Rattle.rights.proofs.RecordMade.{label-made, made-ok}
 use Rattle.lines.proofs.StoredPaths.{GoodStored, written, records-length, same-sym}
 use Rattle.lines.proofs.StoredSteps.{or-none, every-all, stored-steps, steps-pass}
 use Rattle.rights.proofs.Words.{subject-is}
@@ -68,7 +68,7 @@ module _ (p x : List ℕ) (ok : policyOk p ≡ true) (few : subjectCount p < 64)
       ∙ line-put p (recordOf 0 x) 0 (subjectAt (subjectCount p)) s-low s-room
 
   s-name : nameAt (withSubject p x) (subjectCount p) ≡ x
-  s-name = ap label s-record ∙ label-read 0 x
+  s-name = ap label s-record ∙ label-made 0 x
 
   s-new : some (sameLabel x) (policyOf p .names) ≡ false → every (λ j. not (sameLabel (nameAt (withSubject p x) j) (nameAt (withSubject p x) (subjectCount p)))) (subjectCount p) ≡ true
   unfolding policyOf
@@ -88,7 +88,7 @@ module _ (p x : List ℕ) (ok : policyOk p ≡ true) (few : subjectCount p < 64)
       (line-length p (recordOf 0 x) 0 (subjectAt (subjectCount p)) s-low s-room ∙ t .long)
       (zeros-alike p (withSubject p x) 3 5 (s-before 3 5 (omega arith) (omega arith)) (t .spare))
       (subjects-more p (withSubject p x) few (s-before 8 (subjectCount p * 32) (omega arith) (omega arith)) (s-after (subjectAt (subjectCount p + 1)) ((64 - (subjectCount p + 1)) * 32) (omega arith)) s-count
-      (subject-is (withSubject p x) (subjectCount p) (ap (recordOk 0 0) s-record ∙ record-passes 0 0 0 x (omega arith) (omega arith) (omega arith) l short g r) (s-new n)) (t .subjects))
+      (subject-is (withSubject p x) (subjectCount p) (ap (recordOk 0 0) s-record ∙ made-ok 0 0 0 x (omega arith) (omega arith) (omega arith) l short g r) (s-new n)) (t .subjects))
       (isas-kept p (withSubject p x) (s-after 2056 256 (omega arith)) s-isas (omega (arith, s-count)) (t .isas))
       (rules-kept p (withSubject p x) (s-after 2312 66560 (omega arith)) s-rules (omega (arith, s-count)) (t .rules))
 

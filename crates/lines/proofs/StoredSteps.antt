@@ -21,7 +21,7 @@ use Rattle.rights.specs.Table.{recAt, recordOk}
 use Rattle.lines.proofs.EditBytes.{part-in, part-split}
 use Rattle.rights.proofs.PathComplete.{label-not}
 use Rattle.rights.proofs.PathTexts.{and-left}
-use Rattle.lines.proofs.RecordRead.{level-read, label-read, record-passes}
+use Rattle.rights.proofs.RecordMade.{level-made, label-made, made-ok}
 use Rattle.lines.proofs.StoredPaths.{GoodStored, step-length, names-restricted}
 use Rattle.rights.proofs.Texts.{byte-at, first-at}
 
@@ -42,8 +42,8 @@ test-back own g = refl
 step-back : (w : Axis × Test) → GoodTest (w .1) → stepOf (stepRecord w) ≡ w
 step-back (a, t) g =
     ap₂ (λ (u : Axis) (v : Test). (u, v))
-    (ap axisOf (level-read (axisByte a) (writeTest t)) ∙ axis-back a)
-    (ap testOf (label-read (axisByte a) (writeTest t)) ∙ test-back t g)
+    (ap axisOf (level-made (axisByte a) (writeTest t)) ∙ axis-back a)
+    (ap testOf (label-made (axisByte a) (writeTest t)) ∙ test-back t g)
 
 -- steps that stand at byte b
 module _ (q : List ℕ) where
@@ -103,7 +103,7 @@ sign-stored q at b g h s e =
 step-passes : (q : List ℕ) (at : ℕ) (w : Axis × Test) → recAt q at ≡ stepRecord w → GoodTest (w .1) → uses false restricted w ≡ false → stepOk q at ≡ true
 unfolding stepOk writeTest GoodTest
 step-passes q at (a, label l) e g u =
-    rw (ap (recordOk 0 1) e ∙ record-passes 0 1 (axisByte a) l (omega arith) (axis-low a) (omega (arith, axis-low a)) (g .0) (g .1) (g .2) (sym (names-restricted (a, label l)) ∙ u)) (or-true (signOk q at))
+    rw (ap (recordOk 0 1) e ∙ made-ok 0 1 (axisByte a) l (omega arith) (axis-low a) (omega (arith, axis-low a)) (g .0) (g .1) (g .2) (sym (names-restricted (a, label l)) ∙ u)) (or-true (signOk q at))
 step-passes q at (a, any) e g u = rw (sign-stored q at (axisByte a) 42 (axis-low a) refl e)
 step-passes q at (a, own) e g u = rw (sign-stored q at (axisByte a) 36 (axis-low a) refl e)
 
