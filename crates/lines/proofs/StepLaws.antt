@@ -4,9 +4,9 @@ use mathlib.Core.Bool.{Bool, true, false, cond}
 use mathlib.Core.Path.{_≡_, refl, sym, ap, _∙_}
 use mathlib.Core.List.{List, [], _∷_, _++_, map}
 use native.Mathlib.Omega.{arith}
-use borrow.Author.Tests.{eq-eqb, ne-eqb, eqb-false, leb-true}
+use borrow.Author.Tests.{eq-eqb, ne-eqb, eqb-false, leb-true, le-leb, lt-leb}
 use lib.Dec.{leb, eqb}
-use lib.ListN.{length, take, drop, getD, length-map, length-append, length-drop}
+use lib.ListN.{length, take, drop, getD, length-map, length-append, length-drop, set}
 use Rattle.rights.specs.Path.{Path}
 use Rattle.rights.specs.PathReader.{Got, got, bad, placeOf, pathOf}
 use Rattle.rights.specs.declared.path.Read.the-variants.{At, Bad}
@@ -16,7 +16,7 @@ use Rattle.rights.specs.PolicyCheck.{policyOk}
 use Rattle.rights.specs.Rights.{rightsBy, chains, rightsOn}
 use Rattle.rights.proofs.Facts.{table-few}
 use Rattle.rights.proofs.Lists.{rest-of}
-use lib.Seq.{take-at}
+use lib.Seq.{take-at, take-length}
 use Rattle.rights.specs.Nodes.{Nodes, Fits, viewOf}
 use Rattle.rights.specs.Policy.{passesOwn}
 use Rattle.rights.specs.Selection.{selection, marksAfter}
@@ -25,12 +25,16 @@ use Rattle.rights.proofs.Sounds.{policy-sound}
 use Rattle.lines.specs.AnswerChoice.{Choice, findText}
 use Rattle.views.specs.Shown.{Stored, storedFrom, stored, shownNumbers}
 use Rattle.views.proofs.ViewLaws.{view-fits, view-by-numbers}
-use Rattle.lines.specs.Answer.{viewText, queryText, hitsOf}
+use Rattle.lines.specs.Answer.{okText, viewText, queryText, hitsOf}
 use Rattle.lines.specs.AnswerArea.{Answered, written}
-use Rattle.lines.specs.State.{userByte, userOf, policyBytes, policyIn, storeOk}
-use Rattle.lines.specs.Step.{Outcome, Made, refusal, finish, fitted, noUser, notPath, rightsIn, storedIn, viewIn, marksIn, stepView, stepQuery, stepFind}
+use Rattle.lines.specs.PolicyEdit.{subjectNamed}
+use Rattle.lines.specs.declared.policy_edit.Found.the-variants as FoundIs
+use Rattle.lines.specs.declared.policy_edit.Found.the-variants.{Unknown}
+use Rattle.lines.specs.State.{withSession, userByte, userOf, policyBytes, policyIn, storeOk}
+use Rattle.lines.specs.Step.{Outcome, Made, refusal, finish, fitted, noUser, notPath, rightsIn, storedIn, viewIn, marksIn, stepView, stepQuery, stepFind, stepUser}
 use Rattle.lines.specs.declared.line.Answer.{Answer}
 use Rattle.lines.specs.declared.line.Answer.the-variants.{Accepted, Refused}
+use Rattle.lines.proofs.EditTests.{found-subject}
 use Rattle.lines.proofs.StateLaws.{Held, store-held}
 
 -- what is refused leaves all as it was
@@ -229,3 +233,41 @@ pub marks-cover : (s t path shown' more marks' rest : List ℕ) (k : ℕ) (ok : 
     → marks' ≡ marksIn s t path ++ rest → length (take (k - 0) (drop 0 shown')) ≤ length (take (k - 0) (drop 0 marks'))
 marks-cover s t path shown' more marks' rest k ok e q m =
     omega (arith, ap length (shown-part s t ok shown' more k e q), ap length (marks-part s t path marks' rest k ok e m), marks-size s t path ok)
+
+-- a line whose answer is put if it fits, and whose state is written only then
+pub made-fits : (text before after s t s' : List ℕ) (need : ℕ) → Answered text before after need → need ≤ length after
+    → Made (finish (length before) text s' t s t) before (Accepted need) s' t after
+made-fits text before after s t s' need a h =
+    let z : leb (length text) (length before) ≡ true = le-leb (length text) (length before) (omega (arith, a .size, ap length (a .area), length-written text before)) in
+    rw z (record { answer = ap Accepted (a .size); state = refl; table = refl; area = rw z at (a .area) })
+
+pub made-short : (text before after s t s' : List ℕ) (need : ℕ) → Answered text before after need → length after < need
+    → Made (finish (length before) text s' t s t) before (Refused 12) s t after
+made-short text before after s t s' need a h =
+    let z : leb (length text) (length before) ≡ false = lt-leb (length text) (length before) (omega (arith, a .size, ap length (a .area), length-written text before)) in
+    rw z (record { answer = refl; state = refl; table = refl; area = rw z at (a .area) })
+
+-- logging in, by the tests that it meets
+module _ (s t : List ℕ) (room : ℕ) (name : List ℕ) where
+  pub user-unknown : subjectNamed (policyIn s) name ≡ Unknown → stepUser s t room name ≡ refusal 5 s t
+  unfolding stepUser
+  user-unknown e = rw e
+
+  pub user-known : (u : ℕ) → subjectNamed (policyIn s) name ≡ FoundIs.Subject u → stepUser s t room name ≡ finish room okText (withSession 4 (u + 1) s) t s t
+  unfolding stepUser
+  user-known u e = rw e
+
+-- the name as find_name is asked for it
+pub name-whole : (s name : List ℕ) → subjectNamed (policyOf (take (length s - 8) (drop 8 s))) (take (length name) (drop 0 name)) ≡ subjectNamed (policyIn s) name
+name-whole s name = ap (λ p. subjectNamed (policyOf p) (take (length name) (drop 0 name))) (rest-of s 8) ∙ ap (subjectNamed (policyIn s)) (take-length name)
+
+pub session-set : (s : List ℕ) (g u : ℕ) → 2 ≤ length s → set (set s 0 g) 1 u ≡ withSession g u s
+session-set [] g u h = absurd (omega arith)
+session-set (x ∷ []) g u h = absurd (omega arith)
+session-set (x ∷ (y ∷ s)) g u h = refl
+
+-- a subject that was found has a small number
+pub found-small : (s t name : List ℕ) (u : ℕ) → storeOk s t ≡ true → subjectNamed (policyIn s) name ≡ FoundIs.Subject u → u < 64
+found-small s t name u ok e =
+    let h = store-held s t ok in
+    omega (arith, found-subject (policyBytes s) name u (h .policy) e .declared, policy-sound (policyBytes s) (h .policy) .subjects)

@@ -1,5 +1,5 @@
 -- One line: what it answers, and what it leaves (document 01, "Lines", "What is written", "Who can be turned down").
-use Prim.Native.Nat.{ℕ}
+use Prim.Native.Nat.{ℕ, _+_}
 use mathlib.Core.Path.{_≡_}
 use mathlib.Core.Bool.{Bool, true, false, cond}
 use mathlib.Core.List.{List, [], _∷_, _++_}
@@ -15,7 +15,10 @@ use Rattle.rights.specs.Table.{records}
 use Rattle.views.specs.Shown.{Stored, stored, view, shownNumbers}
 use Rattle.lines.specs.Answer.{okText, hitsOf, queryText, viewText}
 use Rattle.lines.specs.AnswerChoice.{Choice, chosen, findText}
-use Rattle.lines.specs.State.{userByte, userOf, policyIn}
+use Rattle.lines.specs.State.{stageE, withSession, userByte, userOf, policyIn}
+use Rattle.lines.specs.PolicyEdit.{subjectNamed}
+use Rattle.lines.specs.declared.policy_edit.Found.{Found}
+use Rattle.lines.specs.declared.policy_edit.Found.the-variants.{Subject, Unknown}
 use Rattle.lines.specs.declared.line.Answer.{Answer}
 use Rattle.lines.specs.declared.line.Answer.the-variants.{Accepted, Refused}
 
@@ -112,3 +115,11 @@ stepFind choice s t room path =
     refuse (notPath (pathOf path)) 4 s t
     (refuse (noUser s) 8 s t
     (finish room (findText (choice (marksIn s t path) (viewIn s t))) s t s t))
+
+-- `(user N)`: "5 a name unknown"; else the session's user is that subject, and the stage is E
+abbrev pub loggedIn : Found → List ℕ → List ℕ → ℕ → Outcome
+loggedIn (Subject u) s t room = finish room okText (withSession stageE (u + 1) s) t s t
+loggedIn Unknown s t room = refusal 5 s t
+
+unfoldable pub stepUser : List ℕ → List ℕ → ℕ → List ℕ → Outcome
+stepUser s t room name = loggedIn (subjectNamed (policyIn s) name) s t room

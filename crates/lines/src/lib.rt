@@ -6,6 +6,7 @@ pub mod line;
 pub mod part;
 pub mod policy_edit;
 pub mod queries;
+pub mod session;
 pub mod state;
 pub mod text;
 pub mod tree;
