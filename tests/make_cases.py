@@ -2,7 +2,7 @@
 """Writes crates/cases/stdin and crates/cases/stdout: the cases of document 01 that fall to labels, tables, paths, policies, rights and selections.
 
 Each case stands here with its answer and the sentence of document 01 (or the reading of it in docs/DECISIONS.md) that the answer comes from. The answers
-are written by hand; nothing here computes them.
+are written by hand; nothing here computes them. With --check it writes nothing, and fails where the two files are not what the list says.
 """
 
 import os
@@ -388,6 +388,12 @@ text = "".join(line + "\n" for line in lines)
 if 65536 <= len(text):
     sys.exit("FAILED: more lines than the program of cases reads")
 for name, body in (("stdin", text), ("stdout", "".join(answer + "\n" for answer in answers))):
-    with open(os.path.join(ROOT, "crates", "cases", name), "w", encoding="ascii") as out:
-        out.write(body)
+    path = os.path.join(ROOT, "crates", "cases", name)
+    if "--check" in sys.argv:
+        with open(path, encoding="ascii") as kept:
+            if kept.read() != body:
+                sys.exit(f"FAILED: crates/cases/{name} is not what this list says; run tests/make_cases.py")
+    else:
+        with open(path, "w", encoding="ascii") as out:
+            out.write(body)
 print(f"{len(answers)} cases")
