@@ -2,11 +2,11 @@
 use Prim.Native.Nat.{ℕ, zero, suc, _+_, _-_, _≤_, _<_}
 use mathlib.Core.Bool.{Bool, true, false, cond}
 use mathlib.Core.Path.{_≡_, refl, sym, ap, _∙_}
-use mathlib.Core.List.{List, [], _∷_, _++_, map}
+use mathlib.Core.List.{List, [], _∷_, _++_, map, append-nil}
 use native.Mathlib.Omega.{arith}
 use borrow.Author.Tests.{eq-eqb, ne-eqb, eqb-false, leb-true, le-leb, lt-leb}
 use lib.Dec.{leb, eqb}
-use lib.ListN.{length, take, drop, getD, length-map, length-append, length-drop, set}
+use lib.ListN.{length, take, drop, getD, length-map, length-append, length-drop, set, drop-of-length-le}
 use Rattle.rights.specs.Path.{Path}
 use Rattle.rights.specs.PathReader.{Got, got, bad, placeOf, pathOf}
 use Rattle.rights.specs.declared.path.Read.the-variants.{At, Bad}
@@ -16,6 +16,7 @@ use Rattle.rights.specs.PolicyCheck.{policyOk}
 use Rattle.rights.specs.Rights.{rightsBy, chains, rightsOn}
 use Rattle.rights.proofs.Facts.{table-few}
 use Rattle.rights.proofs.Lists.{rest-of}
+use borrow.Rule.Slice.PartMut.{putMid, postOf}
 use lib.Seq.{take-at, take-length}
 use Rattle.rights.specs.Nodes.{Nodes, Fits, viewOf}
 use Rattle.rights.specs.Policy.{passesOwn}
@@ -30,12 +31,14 @@ use Rattle.lines.specs.AnswerArea.{Answered, written}
 use Rattle.lines.specs.PolicyEdit.{subjectNamed}
 use Rattle.lines.specs.declared.policy_edit.Found.the-variants as FoundIs
 use Rattle.lines.specs.declared.policy_edit.Found.the-variants.{Unknown}
-use Rattle.lines.specs.State.{withSession, userByte, userOf, policyBytes, policyIn, storeOk}
-use Rattle.lines.specs.Step.{Outcome, Made, refusal, finish, fitted, noUser, notPath, rightsIn, storedIn, viewIn, marksIn, stepView, stepQuery, stepFind, stepUser}
+use Rattle.lines.specs.State.{withSession, withPolicy, userByte, userOf, policyBytes, policyIn, storeOk}
+use Rattle.lines.specs.Step.{Outcome, Made, refusal, finish, fitted, noUser, notPath, rightsIn, storedIn, viewIn, marksIn, stepView, stepQuery, stepFind, stepUser, stepSubject}
 use Rattle.lines.specs.declared.line.Answer.{Answer}
 use Rattle.lines.specs.declared.line.Answer.the-variants.{Accepted, Refused}
 use Rattle.lines.proofs.EditTests.{found-subject}
-use Rattle.lines.proofs.StateLaws.{Held, store-held}
+use Rattle.rights.specs.Labels.{sameLabel, restricted}
+use Rattle.lines.specs.PolicyEdit.{withSubject}
+use Rattle.lines.proofs.StateLaws.{Held, store-held, subjects-at}
 
 -- what is refused leaves all as it was
 pub refused : {n : ℕ} {s t area : List ℕ} → Made (refusal n s t) area (Refused n) s t area
@@ -271,3 +274,31 @@ pub found-small : (s t name : List ℕ) (u : ℕ) → storeOk s t ≡ true → s
 found-small s t name u ok e =
     let h = store-held s t ok in
     omega (arith, found-subject (policyBytes s) name u (h .policy) e .declared, policy-sound (policyBytes s) (h .policy) .subjects)
+
+-- `(subject N)`, by the tests that it meets
+module _ (s t : List ℕ) (room : ℕ) (name : List ℕ) where
+  pub subject-known : (u : ℕ) → subjectNamed (policyIn s) name ≡ FoundIs.Subject u → stepSubject s t room name ≡ refusal 5 s t
+  unfolding stepSubject
+  subject-known u e = rw e
+
+  module _ (e : subjectNamed (policyIn s) name ≡ Unknown) where
+    pub subject-full : 64 ≤ getD s 8 0 → stepSubject s t room name ≡ refusal 7 s t
+    unfolding stepSubject
+    subject-full h = rw (e, le-leb 64 (subjectCount (policyBytes s)) (omega (arith, subjects-at s t)))
+
+    pub subject-restricted : getD s 8 0 < 64 → sameLabel name restricted ≡ true → stepSubject s t room name ≡ refusal 9 s t
+    unfolding stepSubject
+    subject-restricted h q = rw (e, lt-leb 64 (subjectCount (policyBytes s)) (omega (arith, subjects-at s t)), q)
+
+    pub subject-new : getD s 8 0 < 64 → sameLabel name restricted ≡ false → stepSubject s t room name ≡ finish room okText (withPolicy (withSubject (policyBytes s) name) s) t s t
+    unfolding stepSubject
+    subject-new h q = rw (e, lt-leb 64 (subjectCount (policyBytes s)) (omega (arith, subjects-at s t)), q)
+
+-- the policy as a part that was lent, and put back with a subject more
+pub subject-put : (s name p' : List ℕ) → p' ≡ withSubject (take (length s - 8) (drop 8 s)) (take (length name) (drop 0 name))
+    → putMid 8 (length s - 8) s p' ≡ withPolicy (withSubject (policyBytes s) name) s
+subject-put s name p' e =
+    let h : length (drop 8 s) ≤ length s - 8 = omega (arith, length-drop 8 s) in
+    let z : postOf 8 (length s - 8) s ≡ [] = drop-of-length-le (drop 8 s) h in
+    ap (λ l. take 8 s ++ (p' ++ l)) z
+    ∙ ap (λ l. take 8 s ++ l) (append-nil p' ∙ e ∙ ap (λ p. withSubject p (take (length name) (drop 0 name))) (rest-of s 8) ∙ ap (withSubject (policyBytes s)) (take-length name))

@@ -15,8 +15,10 @@ use Rattle.rights.specs.Table.{records}
 use Rattle.views.specs.Shown.{Stored, stored, view, shownNumbers}
 use Rattle.lines.specs.Answer.{okText, hitsOf, queryText, viewText}
 use Rattle.lines.specs.AnswerChoice.{Choice, chosen, findText}
-use Rattle.lines.specs.State.{stageE, withSession, userByte, userOf, policyIn}
-use Rattle.lines.specs.PolicyEdit.{subjectNamed}
+use Rattle.rights.specs.Labels.{sameLabel, restricted}
+use Rattle.rights.specs.PolicyBytes.{subjectCount}
+use Rattle.lines.specs.State.{stageE, withSession, withPolicy, userByte, userOf, policyBytes, policyIn}
+use Rattle.lines.specs.PolicyEdit.{subjectNamed, withSubject}
 use Rattle.lines.specs.declared.policy_edit.Found.{Found}
 use Rattle.lines.specs.declared.policy_edit.Found.the-variants.{Subject, Unknown}
 use Rattle.lines.specs.declared.line.Answer.{Answer}
@@ -123,3 +125,15 @@ loggedIn Unknown s t room = refusal 5 s t
 
 unfoldable pub stepUser : List ℕ → List ℕ → ℕ → List ℕ → Outcome
 stepUser s t room name = loggedIn (subjectNamed (policyIn s) name) s t room
+
+-- `(subject N)`: "5 .. declared twice", "7 more than the policy's maximum", "9 RESTRICTED as a label of .. subject"
+abbrev pub isFound : Found → Bool
+isFound (Subject u) = true
+isFound Unknown = false
+
+unfoldable pub stepSubject : List ℕ → List ℕ → ℕ → List ℕ → Outcome
+stepSubject s t room name =
+    refuse (isFound (subjectNamed (policyIn s) name)) 5 s t
+    (refuse (leb 64 (subjectCount (policyBytes s))) 7 s t
+    (refuse (sameLabel name restricted) 9 s t
+    (finish room okText (withPolicy (withSubject (policyBytes s) name) s) t s t)))

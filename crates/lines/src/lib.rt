@@ -5,6 +5,7 @@ pub mod limits;
 pub mod line;
 pub mod part;
 pub mod policy_edit;
+pub mod policy_lines;
 pub mod queries;
 pub mod session;
 pub mod state;

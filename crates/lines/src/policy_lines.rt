@@ -1,0 +1,38 @@
+// The lines that write the policy (document 01, stages A and B).
+use crate::answer::answer_ok;
+use crate::limits::POLICY_AT;
+use crate::line::Answer;
+use crate::policy_edit::Found;
+use crate::policy_edit::add_subject;
+use crate::policy_edit::find_name;
+use rights::bytes::wide;
+use rights::labels::is_restricted;
+use rights::limits::SUBJECTS_MAX;
+ghost use mathlib.Core.Path.{_≡_};
+ghost use mathlib.Core.Bool.{true};
+ghost use Prim.Native.Nat.{_≤_};
+ghost use lib.ListN.{length};
+ghost use Rattle.lines.specs.State.{storeOk};
+ghost use Rattle.lines.specs.Step.{Made, stepSubject};
+
+// `(subject N)`.
+pub fn declare(state: &mut [u8], table: &[u8], name: &[u8], area: &mut [u8]) -> Answer
+    requires { ⌜ (storeOk (now state) (now table) ≡ true) × (length (now name) ≤ 24) ⌝ }
+    ensures { λ r. ⌜ Made (stepSubject (now (state .entry)) (now (table .entry)) (length (now (area .entry))) (now (name .entry))) (now (area .entry)) r (now (state .exit)) (now (table .entry)) (now (area .exit)) ⌝ }
+{
+    let Found::Unknown = find_name(&state[POLICY_AT..], name, 0, name.len()) else {
+        return Answer::Refused(5);
+    };
+    if SUBJECTS_MAX <= wide(state[POLICY_AT]) {
+        return Answer::Refused(7);
+    }
+    if is_restricted(name, 0, name.len()) {
+        return Answer::Refused(9);
+    }
+    let need = answer_ok(area);
+    if area.len() < need {
+        return Answer::Refused(12);
+    }
+    add_subject(&mut state[POLICY_AT..], name, 0, name.len());
+    Answer::Accepted(need)
+}
