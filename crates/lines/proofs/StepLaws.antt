@@ -10,14 +10,14 @@ use lib.ListN.{length, take, drop, getD, length-map, length-append, length-drop,
 use Rattle.rights.specs.Path.{Path}
 use Rattle.rights.specs.PathReader.{Got, got, bad, placeOf, pathOf}
 use Rattle.rights.specs.declared.path.Read.the-variants.{At, Bad}
-use Rattle.rights.specs.PolicyBytes.{policyOf, subjectCount, Subject}
+use Rattle.rights.specs.PolicyBytes.{policyOf, subjectCount, isaCount, Subject}
 use Rattle.rights.specs.Table.{count, records, recordsFrom, tableOk}
 use Rattle.rights.specs.PolicyCheck.{policyOk}
 use Rattle.rights.specs.Rights.{rightsBy, chains, rightsOn}
 use Rattle.rights.proofs.Facts.{table-few}
 use Rattle.rights.proofs.Lists.{rest-of}
 use borrow.Rule.Slice.PartMut.{putMid, postOf}
-use lib.Seq.{take-at, take-length}
+use lib.Seq.{take-at, take-length, getD-drop}
 use Rattle.rights.specs.Nodes.{Nodes, Fits, viewOf}
 use Rattle.rights.specs.Policy.{passesOwn}
 use Rattle.rights.specs.Selection.{selection, marksAfter}
@@ -29,15 +29,16 @@ use Rattle.views.proofs.ViewLaws.{view-fits, view-by-numbers}
 use Rattle.lines.specs.Answer.{okText, viewText, queryText, hitsOf}
 use Rattle.lines.specs.AnswerArea.{Answered, written}
 use Rattle.lines.specs.PolicyEdit.{subjectNamed}
+use Rattle.lines.specs.declared.policy_edit.Found.{Found}
 use Rattle.lines.specs.declared.policy_edit.Found.the-variants as FoundIs
 use Rattle.lines.specs.declared.policy_edit.Found.the-variants.{Unknown}
 use Rattle.lines.specs.State.{withSession, withPolicy, userByte, userOf, policyBytes, policyIn, storeOk}
-use Rattle.lines.specs.Step.{Outcome, Made, refusal, finish, fitted, noUser, notPath, rightsIn, storedIn, viewIn, marksIn, stepView, stepQuery, stepFind, stepUser, stepSubject}
+use Rattle.lines.specs.Step.{Outcome, Made, refusal, finish, fitted, noUser, notPath, rightsIn, storedIn, viewIn, marksIn, stepView, stepQuery, stepFind, stepUser, stepSubject, isaLine, stepIsa}
 use Rattle.lines.specs.declared.line.Answer.{Answer}
 use Rattle.lines.specs.declared.line.Answer.the-variants.{Accepted, Refused}
 use Rattle.lines.proofs.EditTests.{found-subject}
 use Rattle.rights.specs.Labels.{sameLabel, restricted}
-use Rattle.lines.specs.PolicyEdit.{withSubject}
+use Rattle.lines.specs.PolicyEdit.{withSubject, isaHeld, withIsa}
 use Rattle.lines.proofs.StateLaws.{Held, store-held, subjects-at}
 
 -- what is refused leaves all as it was
@@ -294,11 +295,62 @@ module _ (s t : List ℕ) (room : ℕ) (name : List ℕ) where
     unfolding stepSubject
     subject-new h q = rw (e, lt-leb 64 (subjectCount (policyBytes s)) (omega (arith, subjects-at s t)), q)
 
--- the policy as a part that was lent, and put back with a subject more
+-- the policy as a part that was lent, and put back
+pub policy-put : (s p' : List ℕ) → putMid 8 (length s - 8) s p' ≡ withPolicy p' s
+policy-put s p' =
+    let h : length (drop 8 s) ≤ length s - 8 = omega (arith, length-drop 8 s) in
+    let z : postOf 8 (length s - 8) s ≡ [] = drop-of-length-le (drop 8 s) h in
+    ap (λ l. take 8 s ++ (p' ++ l)) z ∙ ap (λ l. take 8 s ++ l) (append-nil p')
+
 pub subject-put : (s name p' : List ℕ) → p' ≡ withSubject (take (length s - 8) (drop 8 s)) (take (length name) (drop 0 name))
     → putMid 8 (length s - 8) s p' ≡ withPolicy (withSubject (policyBytes s) name) s
 subject-put s name p' e =
-    let h : length (drop 8 s) ≤ length s - 8 = omega (arith, length-drop 8 s) in
-    let z : postOf 8 (length s - 8) s ≡ [] = drop-of-length-le (drop 8 s) h in
-    ap (λ l. take 8 s ++ (p' ++ l)) z
-    ∙ ap (λ l. take 8 s ++ l) (append-nil p' ∙ e ∙ ap (λ p. withSubject p (take (length name) (drop 0 name))) (rest-of s 8) ∙ ap (withSubject (policyBytes s)) (take-length name))
+    policy-put s p'
+    ∙ ap (λ p. withPolicy p s) (e ∙ ap (λ p. withSubject p (take (length name) (drop 0 name))) (rest-of s 8) ∙ ap (withSubject (policyBytes s)) (take-length name))
+
+-- `(isa N R)`, by the tests that it meets
+pub isa-at : (s : List ℕ) → isaCount (policyBytes s) ≡ getD s 9 0
+isa-at s = getD-drop 8 s 1 0
+
+module _ (s t : List ℕ) (room : ℕ) (member role : List ℕ) where
+  pub isa-no-member : subjectNamed (policyIn s) member ≡ Unknown → stepIsa s t room member role ≡ refusal 5 s t
+  unfolding stepIsa
+  isa-no-member e = rw e (go (subjectNamed (policyIn s) role))
+    where
+      go : (f : Found) → isaLine Unknown f s t room ≡ refusal 5 s t
+      go (FoundIs.Subject u) = refl
+      go Unknown = refl
+
+  module _ (n : ℕ) (e : subjectNamed (policyIn s) member ≡ FoundIs.Subject n) where
+    pub isa-no-role : subjectNamed (policyIn s) role ≡ Unknown → stepIsa s t room member role ≡ refusal 5 s t
+    unfolding stepIsa
+    isa-no-role q = rw (e, q)
+
+    module _ (r : ℕ) (q : subjectNamed (policyIn s) role ≡ FoundIs.Subject r) where
+      pub isa-not-before : n ≤ r → stepIsa s t room member role ≡ refusal 5 s t
+      unfolding stepIsa
+      isa-not-before h = rw (e, q, le-leb n r h)
+
+      module _ (h : r < n) where
+        pub isa-repeated : isaHeld (policyIn s) n r ≡ true → stepIsa s t room member role ≡ refusal 5 s t
+        unfolding stepIsa
+        isa-repeated k = rw (e, q, lt-leb n r h, k)
+
+        module _ (k : isaHeld (policyIn s) n r ≡ false) where
+          pub isa-full : 128 ≤ getD s 9 0 → stepIsa s t room member role ≡ refusal 7 s t
+          unfolding stepIsa
+          isa-full f = rw (e, q, lt-leb n r h, k, le-leb 128 (isaCount (policyBytes s)) (omega (arith, isa-at s)))
+
+          pub isa-new : getD s 9 0 < 128 → stepIsa s t room member role ≡ finish room okText (withPolicy (withIsa (policyBytes s) n r) s) t s t
+          unfolding stepIsa
+          isa-new f = rw (e, q, lt-leb n r h, k, lt-leb 128 (isaCount (policyBytes s)) (omega (arith, isa-at s)))
+
+-- the policy as a part that was lent
+pub held-part : (s : List ℕ) (n r : ℕ) → isaHeld (policyOf (take (length s - 8) (drop 8 s))) n r ≡ isaHeld (policyIn s) n r
+held-part s n r = ap (λ p. isaHeld (policyOf p) n r) (rest-of s 8)
+
+pub isa-put : (s p' : List ℕ) (n r : ℕ) → p' ≡ withIsa (take (length s - 8) (drop 8 s)) n r → putMid 8 (length s - 8) s p' ≡ withPolicy (withIsa (policyBytes s) n r) s
+isa-put s p' n r e = policy-put s p' ∙ ap (λ p. withPolicy p s) (e ∙ ap (λ p. withIsa p n r) (rest-of s 8))
+
+pub found-declared : (s t name : List ℕ) (u : ℕ) → storeOk s t ≡ true → subjectNamed (policyIn s) name ≡ FoundIs.Subject u → u < subjectCount (policyBytes s)
+found-declared s t name u ok e = found-subject (policyBytes s) name u (store-held s t ok .policy) e .declared

@@ -16,9 +16,9 @@ use Rattle.views.specs.Shown.{Stored, stored, view, shownNumbers}
 use Rattle.lines.specs.Answer.{okText, hitsOf, queryText, viewText}
 use Rattle.lines.specs.AnswerChoice.{Choice, chosen, findText}
 use Rattle.rights.specs.Labels.{sameLabel, restricted}
-use Rattle.rights.specs.PolicyBytes.{subjectCount}
+use Rattle.rights.specs.PolicyBytes.{subjectCount, isaCount}
 use Rattle.lines.specs.State.{stageE, withSession, withPolicy, userByte, userOf, policyBytes, policyIn}
-use Rattle.lines.specs.PolicyEdit.{subjectNamed, withSubject}
+use Rattle.lines.specs.PolicyEdit.{subjectNamed, isaHeld, withSubject, withIsa}
 use Rattle.lines.specs.declared.policy_edit.Found.{Found}
 use Rattle.lines.specs.declared.policy_edit.Found.the-variants.{Subject, Unknown}
 use Rattle.lines.specs.declared.line.Answer.{Answer}
@@ -137,3 +137,17 @@ stepSubject s t room name =
     (refuse (leb 64 (subjectCount (policyBytes s))) 7 s t
     (refuse (sameLabel name restricted) 9 s t
     (finish room okText (withPolicy (withSubject (policyBytes s) name) s) t s t)))
+
+-- `(isa N R)`: "5 a name unknown, .. an isa line repeated, or R not before N", "7 more than the policy's maximum"
+abbrev pub isaLine : Found → Found → List ℕ → List ℕ → ℕ → Outcome
+isaLine (Subject n) (Subject r) s t room =
+    refuse (leb n r) 5 s t
+    (refuse (isaHeld (policyIn s) n r) 5 s t
+    (refuse (leb 128 (isaCount (policyBytes s))) 7 s t
+    (finish room okText (withPolicy (withIsa (policyBytes s) n r) s) t s t)))
+isaLine (Subject n) Unknown s t room = refusal 5 s t
+isaLine Unknown (Subject r) s t room = refusal 5 s t
+isaLine Unknown Unknown s t room = refusal 5 s t
+
+unfoldable pub stepIsa : List ℕ → List ℕ → ℕ → List ℕ → List ℕ → Outcome
+stepIsa s t room member role = isaLine (subjectNamed (policyIn s) member) (subjectNamed (policyIn s) role) s t room

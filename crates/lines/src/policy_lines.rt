@@ -3,17 +3,20 @@ use crate::answer::answer_ok;
 use crate::limits::POLICY_AT;
 use crate::line::Answer;
 use crate::policy_edit::Found;
+use crate::policy_edit::add_isa;
 use crate::policy_edit::add_subject;
 use crate::policy_edit::find_name;
+use crate::policy_edit::isa_held;
 use rights::bytes::wide;
 use rights::labels::is_restricted;
+use rights::limits::ISA_MAX;
 use rights::limits::SUBJECTS_MAX;
 ghost use mathlib.Core.Path.{_≡_};
 ghost use mathlib.Core.Bool.{true};
 ghost use Prim.Native.Nat.{_≤_};
 ghost use lib.ListN.{length};
 ghost use Rattle.lines.specs.State.{storeOk};
-ghost use Rattle.lines.specs.Step.{Made, stepSubject};
+ghost use Rattle.lines.specs.Step.{Made, stepSubject, stepIsa};
 
 // `(subject N)`.
 pub fn declare(state: &mut [u8], table: &[u8], name: &[u8], area: &mut [u8]) -> Answer
@@ -34,5 +37,33 @@ pub fn declare(state: &mut [u8], table: &[u8], name: &[u8], area: &mut [u8]) -> 
         return Answer::Refused(12);
     }
     add_subject(&mut state[POLICY_AT..], name, 0, name.len());
+    Answer::Accepted(need)
+}
+
+// `(isa N R)`: member is a role.
+pub fn relate(state: &mut [u8], table: &[u8], member: &[u8], role: &[u8], area: &mut [u8]) -> Answer
+    requires { ⌜ storeOk (now state) (now table) ≡ true ⌝ }
+    ensures { λ r. ⌜ Made (stepIsa (now (state .entry)) (now (table .entry)) (length (now (area .entry))) (now (member .entry)) (now (role .entry))) (now (area .entry)) r (now (state .exit)) (now (table .entry)) (now (area .exit)) ⌝ }
+{
+    let Found::Subject(n) = find_name(&state[POLICY_AT..], member, 0, member.len()) else {
+        return Answer::Refused(5);
+    };
+    let Found::Subject(r) = find_name(&state[POLICY_AT..], role, 0, role.len()) else {
+        return Answer::Refused(5);
+    };
+    if n <= r {
+        return Answer::Refused(5);
+    }
+    if isa_held(&state[POLICY_AT..], n, r) {
+        return Answer::Refused(5);
+    }
+    if ISA_MAX <= wide(state[POLICY_AT + 1]) {
+        return Answer::Refused(7);
+    }
+    let need = answer_ok(area);
+    if area.len() < need {
+        return Answer::Refused(12);
+    }
+    add_isa(&mut state[POLICY_AT..], n, r);
     Answer::Accepted(need)
 }
