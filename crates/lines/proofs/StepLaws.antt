@@ -10,14 +10,14 @@ use lib.ListN.{length, take, drop, getD, length-map, length-append, length-drop,
 use Rattle.rights.specs.Path.{Path}
 use Rattle.rights.specs.PathReader.{Got, got, bad, placeOf, pathOf}
 use Rattle.rights.specs.declared.path.Read.the-variants.{At, Bad}
-use Rattle.rights.specs.PolicyBytes.{policyOf, subjectCount, isaCount, Subject}
+use Rattle.rights.specs.PolicyBytes.{policyOf, subjectCount, isaCount, ruleCount, Subject}
 use Rattle.rights.specs.Table.{count, records, recordsFrom, tableOk}
 use Rattle.rights.specs.PolicyCheck.{policyOk}
 use Rattle.rights.specs.Rights.{rightsBy, chains, rightsOn}
 use Rattle.rights.proofs.Facts.{table-few}
 use Rattle.rights.proofs.Lists.{rest-of}
 use borrow.Rule.Slice.PartMut.{putMid, postOf}
-use lib.Seq.{take-at, take-length, getD-drop}
+use lib.Seq.{take-at, take-length, getD-drop, length-take-le}
 use Rattle.rights.specs.Nodes.{Nodes, Fits, viewOf}
 use Rattle.rights.specs.Policy.{passesOwn}
 use Rattle.rights.specs.Selection.{selection, marksAfter}
@@ -32,13 +32,13 @@ use Rattle.lines.specs.PolicyEdit.{subjectNamed}
 use Rattle.lines.specs.declared.policy_edit.Found.{Found}
 use Rattle.lines.specs.declared.policy_edit.Found.the-variants as FoundIs
 use Rattle.lines.specs.declared.policy_edit.Found.the-variants.{Unknown}
-use Rattle.lines.specs.State.{withSession, withPolicy, userByte, userOf, policyBytes, policyIn, storeOk}
-use Rattle.lines.specs.Step.{Outcome, Made, refusal, finish, fitted, noUser, notPath, rightsIn, storedIn, viewIn, marksIn, stepView, stepQuery, stepFind, stepUser, stepSubject, isaLine, stepIsa}
+use Rattle.lines.specs.State.{withStage, withSession, withPolicy, userByte, userOf, policyBytes, policyIn, storeOk}
+use Rattle.lines.specs.Step.{Outcome, Made, refusal, finish, fitted, noUser, notPath, rightsIn, storedIn, viewIn, marksIn, stepView, stepQuery, stepFind, stepUser, stepSubject, isaLine, stepIsa, stepRule}
 use Rattle.lines.specs.declared.line.Answer.{Answer}
 use Rattle.lines.specs.declared.line.Answer.the-variants.{Accepted, Refused}
 use Rattle.lines.proofs.EditTests.{found-subject}
 use Rattle.rights.specs.Labels.{sameLabel, restricted}
-use Rattle.lines.specs.PolicyEdit.{withSubject, isaHeld, withIsa}
+use Rattle.lines.specs.PolicyEdit.{withSubject, isaHeld, withIsa, hasBracket, pathRestricted, stepsIn, withRule}
 use Rattle.lines.proofs.StateLaws.{Held, store-held, subjects-at}
 
 -- what is refused leaves all as it was
@@ -354,3 +354,53 @@ isa-put s p' n r e = policy-put s p' ∙ ap (λ p. withPolicy p s) (e ∙ ap (λ
 
 pub found-declared : (s t name : List ℕ) (u : ℕ) → storeOk s t ≡ true → subjectNamed (policyIn s) name ≡ FoundIs.Subject u → u < subjectCount (policyBytes s)
 found-declared s t name u ok e = found-subject (policyBytes s) name u (store-held s t ok .policy) e .declared
+
+-- `(rule ..)`, by the tests that it meets
+pub rules-byte : (s : List ℕ) → ruleCount (policyBytes s) ≡ getD s 10 0
+rules-byte s = getD-drop 8 s 2 0
+
+module _ (s t : List ℕ) (room accept right : ℕ) (path name : List ℕ) where
+  pub rule-no-path : notPath (pathOf path) ≡ true → stepRule s t room accept right path name ≡ refusal 4 s t
+  unfolding stepRule
+  rule-no-path e = rw e
+
+  module _ (p : notPath (pathOf path) ≡ false) where
+    pub rule-no-name : subjectNamed (policyIn s) name ≡ Unknown → stepRule s t room accept right path name ≡ refusal 5 s t
+    unfolding stepRule
+    rule-no-name e = rw (p, e)
+
+    module _ (u : ℕ) (e : subjectNamed (policyIn s) name ≡ FoundIs.Subject u) where
+      pub rule-bracket : hasBracket path ≡ true → stepRule s t room accept right path name ≡ refusal 6 s t
+      unfolding stepRule
+      rule-bracket b = rw (p, e, b)
+
+      module _ (b : hasBracket path ≡ false) where
+        pub rule-full : 128 ≤ getD s 10 0 → stepRule s t room accept right path name ≡ refusal 7 s t
+        unfolding stepRule
+        rule-full h = rw (p, e, b, le-leb 128 (ruleCount (policyBytes s)) (omega (arith, rules-byte s)))
+
+        module _ (h : getD s 10 0 < 128) where
+          pub rule-restricted : pathRestricted path ≡ true → stepRule s t room accept right path name ≡ refusal 9 s t
+          unfolding stepRule
+          rule-restricted q = rw (p, e, b, lt-leb 128 (ruleCount (policyBytes s)) (omega (arith, rules-byte s)), q)
+
+          pub rule-new : pathRestricted path ≡ false
+              → stepRule s t room accept right path name ≡ finish room okText (withStage 1 (withPolicy (withRule (policyBytes s) accept right u (stepsIn path)) s)) t s t
+          unfolding stepRule
+          rule-new q = rw (p, e, b, lt-leb 128 (ruleCount (policyBytes s)) (omega (arith, rules-byte s)), q)
+
+stage-set : (s : List ℕ) (g : ℕ) → 1 ≤ length s → set s 0 g ≡ withStage g s
+stage-set [] g h = absurd (omega arith)
+stage-set (x ∷ s) g h = refl
+
+pub rule-put : (s path p' : List ℕ) (accept right u : ℕ) → 8 ≤ length s → p' ≡ withRule (take (length s - 8) (drop 8 s)) accept right u (stepsIn path)
+    → set (putMid 8 (length s - 8) s p') 0 1 ≡ withStage 1 (withPolicy (withRule (policyBytes s) accept right u (stepsIn path)) s)
+rule-put s path p' accept right u h e =
+    let z : putMid 8 (length s - 8) s p' ≡ withPolicy (withRule (policyBytes s) accept right u (stepsIn path)) s =
+    policy-put s p' ∙ ap (λ p. withPolicy p s) (e ∙ ap (λ p. withRule p accept right u (stepsIn path)) (rest-of s 8)) in
+    let k : 1 ≤ length (withPolicy (withRule (policyBytes s) accept right u (stepsIn path)) s) =
+    omega (arith, length-append (take 8 s) (withRule (policyBytes s) accept right u (stepsIn path)), length-take-le 8 s h) in
+    ap (λ l. set l 0 1) z ∙ stage-set (withPolicy (withRule (policyBytes s) accept right u (stepsIn path)) s) 1 k
+
+pub put-room : (s p' : List ℕ) → 8 ≤ length s → 0 < length (putMid 8 (length s - 8) s p')
+put-room s p' h = omega (arith, length-append (take 8 s) (p' ++ postOf 8 (length s - 8) s), length-take-le 8 s h)

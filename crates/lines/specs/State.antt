@@ -42,7 +42,10 @@ policyBytes s = drop 8 s
 abbrev pub policyIn : List ℕ → Policy
 policyIn s = policyOf (policyBytes s)
 
--- a state with another stage and user, and with another policy
+-- a state with another stage, with another stage and user, and with another policy
+abbrev pub withStage : ℕ → List ℕ → List ℕ
+withStage g s = g ∷ drop 1 s
+
 abbrev pub withSession : ℕ → ℕ → List ℕ → List ℕ
 withSession g u s = g ∷ u ∷ drop 2 s
 

@@ -16,9 +16,9 @@ use Rattle.views.specs.Shown.{Stored, stored, view, shownNumbers}
 use Rattle.lines.specs.Answer.{okText, hitsOf, queryText, viewText}
 use Rattle.lines.specs.AnswerChoice.{Choice, chosen, findText}
 use Rattle.rights.specs.Labels.{sameLabel, restricted}
-use Rattle.rights.specs.PolicyBytes.{subjectCount, isaCount}
-use Rattle.lines.specs.State.{stageE, withSession, withPolicy, userByte, userOf, policyBytes, policyIn}
-use Rattle.lines.specs.PolicyEdit.{subjectNamed, isaHeld, withSubject, withIsa}
+use Rattle.rights.specs.PolicyBytes.{subjectCount, isaCount, ruleCount}
+use Rattle.lines.specs.State.{stageB, stageE, withStage, withSession, withPolicy, userByte, userOf, policyBytes, policyIn}
+use Rattle.lines.specs.PolicyEdit.{subjectNamed, isaHeld, hasBracket, pathRestricted, stepsIn, withSubject, withIsa, withRule}
 use Rattle.lines.specs.declared.policy_edit.Found.{Found}
 use Rattle.lines.specs.declared.policy_edit.Found.the-variants.{Subject, Unknown}
 use Rattle.lines.specs.declared.line.Answer.{Answer}
@@ -151,3 +151,17 @@ isaLine Unknown Unknown s t room = refusal 5 s t
 
 unfoldable pub stepIsa : List ℕ → List ℕ → ℕ → List ℕ → List ℕ → Outcome
 stepIsa s t room member role = isaLine (subjectNamed (policyIn s) member) (subjectNamed (policyIn s) role) s t room
+
+-- `(rule accept|deny RIGHT PATH N)`: "4 path not well formed", "5 a name unknown", "6 a bracket in a rule's path", "7", "9 RESTRICTED as a label of .. rule's path";
+-- accept is 1 or 0, right the bit of a right
+abbrev pub ruleLine : Found → ℕ → ℕ → List ℕ → List ℕ → List ℕ → ℕ → Outcome
+ruleLine (Subject u) accept right path s t room =
+    refuse (hasBracket path) 6 s t
+    (refuse (leb 128 (ruleCount (policyBytes s))) 7 s t
+    (refuse (pathRestricted path) 9 s t
+    (finish room okText (withStage stageB (withPolicy (withRule (policyBytes s) accept right u (stepsIn path)) s)) t s t)))
+ruleLine Unknown accept right path s t room = refusal 5 s t
+
+unfoldable pub stepRule : List ℕ → List ℕ → ℕ → ℕ → ℕ → List ℕ → List ℕ → Outcome
+stepRule s t room accept right path name =
+    refuse (notPath (pathOf path)) 4 s t (ruleLine (subjectNamed (policyIn s) name) accept right path s t room)
