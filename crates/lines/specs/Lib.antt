@@ -13,3 +13,5 @@ pub mod AnswerParts
 pub mod State
 pub mod Step
 pub mod PolicyEdit
+pub mod StepTree
+pub mod Line
