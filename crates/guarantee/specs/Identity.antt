@@ -1,0 +1,125 @@
+-- Which node is which (document 01, "What demand 3 compares"): "A change keeps every node that it does not remove, renamed or not, and kept nodes keep their
+-- order. Inserted nodes are new. A removed node never comes back, whatever uses its record." And the sentence on rights.
+-- A node is followed by a tag that its record carries; a node that came later has none.
+use Prim.Native.Nat.{ℕ, suc, _≤_}
+use mathlib.Core.Path.{_≡_}
+use mathlib.Core.Bool.{Bool, true, false}
+use mathlib.Core.List.{List, [], _∷_, map, Sublistᴰ}
+use mathlib.Core.Option.{Option, none, some}
+use Rattle.rights.specs.Policy.{Policy}
+use Rattle.rights.specs.Rights.{rightsOn}
+use Rattle.rights.specs.Table.{records, level}
+use Rattle.views.specs.Marks.{marksOf}
+use Rattle.views.specs.Nodes.{tags}
+use Rattle.views.specs.Change.{chunks, raise, relabel, remove, append, insertAfter, insertBefore, rename}
+use Rattle.views.specs.declared.done.Change.the-variants as change
+use Rattle.views.specs.declared.insert.Place.{Place}
+use Rattle.views.specs.declared.insert.Place.the-variants as place
+use Rattle.lines.specs.AnswerChoice.{Choice}
+use Rattle.lines.specs.Form.{readForm, treeIn}
+use Rattle.lines.specs.State.{stageC, stage, policyIn, storeOk}
+use Rattle.lines.specs.Step.{Reply, says, refuses}
+use Rattle.lines.specs.StepTree.{rootAlone, doneIn, changeAt}
+use Rattle.lines.specs.Tree.{recordsOf}
+use Rattle.lines.specs.Line.{bytesOf}
+use Rattle.lines.specs.declared.form.Form.{Form}
+use Rattle.lines.specs.declared.form.Form.the-variants.{Subject, Isa, Rule, Root, Child, User, View, Query, Find, Rename, Update, Append, Before, After, Remove, NoForm}
+use Rattle.guarantee.specs.Alike.{Input, outcome}
+
+-- a record and the tag of its node, a number
+abbrev pub Tagged : Type 0
+Tagged = List ℕ × Option ℕ
+
+abbrev pub taggedLevel : Tagged → ℕ
+taggedLevel n = level (n .0)
+
+-- records of new nodes
+abbrev pub new : List (List ℕ) → List Tagged
+new rs = map (λ r. (r, none)) rs
+
+-- the inserted tree of m records, its root at level l
+abbrev pub newTree : ℕ → List ℕ → ℕ → List Tagged
+newTree m tree l = new (raise l (chunks m tree))
+
+-- the nodes after an insertion at the places that are marked: those that stood there, and new ones
+abbrev pub afterInsert : Place → ℕ → List ℕ → List ℕ → List Tagged → List Tagged
+afterInsert place.Append m tree ms ns = append taggedLevel (newTree m tree) (marksOf ms) ns
+afterInsert place.After m tree ms ns = insertAfter taggedLevel (newTree m tree) (marksOf ms) ns
+afterInsert place.Before m tree ms ns = insertBefore taggedLevel (newTree m tree) (marksOf ms) ns
+
+-- a node under another label is the same node
+abbrev pub afterRename : List ℕ → List ℕ → List Tagged → List Tagged
+afterRename l ms ns = rename taggedLevel (λ n. (relabel l (n .0), n .1)) (marksOf ms) ns
+
+-- what is done goes, with all below it
+abbrev pub afterRemove : List ℕ → List Tagged → List Tagged
+afterRemove ms ns = remove taggedLevel (marksOf ms) ns
+
+-- the nodes after an accepted line of each form; no line but a change, a child or the root touches any
+abbrev pub afterForm : Form → List ℕ → List ℕ → List ℕ → List ℕ → List Tagged → List Tagged
+afterForm (Subject n) s t t' line ns = ns
+afterForm (Isa n r) s t t' line ns = ns
+afterForm (Rule a b p n) s t t' line ns = ns
+afterForm (Root l) s t t' line ns = new (records t')
+afterForm (Child m) s t t' line ns = afterInsert place.Append m (recordsOf (treeIn line)) rootAlone ns
+afterForm (User n) s t t' line ns = ns
+afterForm View s t t' line ns = ns
+afterForm (Query p) s t t' line ns = ns
+afterForm (Find p) s t t' line ns = ns
+afterForm (Rename p l) s t t' line ns = afterRename (bytesOf line l) (doneIn change.Rename s t (bytesOf line p)) ns
+afterForm (Update p l) s t t' line ns = afterRename (bytesOf line l) (doneIn change.Update s t (bytesOf line p)) ns
+afterForm (Append p m) s t t' line ns = afterInsert place.Append m (recordsOf (treeIn line)) (doneIn change.Append s t (bytesOf line p)) ns
+afterForm (Before p m) s t t' line ns = afterInsert place.Before m (recordsOf (treeIn line)) (doneIn change.Before s t (bytesOf line p)) ns
+afterForm (After p m) s t t' line ns = afterInsert place.After m (recordsOf (treeIn line)) (doneIn change.After s t (bytesOf line p)) ns
+afterForm (Remove p) s t t' line ns = afterRemove (doneIn change.Remove s t (bytesOf line p)) ns
+afterForm NoForm s t t' line ns = ns
+
+-- a refused line keeps every node
+abbrev pub afterReply : Reply → Form → List ℕ → List ℕ → List ℕ → List ℕ → List Tagged → List Tagged
+afterReply (says b) f s t t' line ns = afterForm f s t t' line ns
+afterReply (refuses n) f s t t' line ns = ns
+
+-- the nodes after a line
+unfoldable pub follow : Choice → List ℕ → List ℕ → Input → List Tagged → List Tagged
+follow choice s t i ns = afterReply (outcome choice s t i .reply) (readForm (i .line)) s t (outcome choice s t i .table) (i .line) ns
+
+-- the nodes after a list of lines; and the state and the table then
+unfoldable pub followAll : Choice → List ℕ → List ℕ → List Input → List Tagged → List Tagged
+followAll choice s t [] ns = ns
+followAll choice s t (i ∷ is) ns = followAll choice (outcome choice s t i .state) (outcome choice s t i .table) is (follow choice s t i ns)
+
+-- the kept nodes in order, each by its tag, with what is held on it
+abbrev pub kept : Tagged × ℕ → Option (ℕ × ℕ)
+kept ((r, none), set) = none
+kept ((r, some x), set) = some (x, set)
+
+abbrev pub beside : List Tagged → List ℕ → List (Tagged × ℕ)
+beside [] ss = []
+beside (n ∷ ns) [] = []
+beside (n ∷ ns) (s ∷ ss) = (n, s) ∷ beside ns ss
+
+-- the kept nodes with the rights that subject u has on each
+abbrev pub keptRights : Policy → ℕ → List Tagged → List (ℕ × ℕ)
+keptRights P u ns = tags kept (beside ns (rightsOn P u (map (λ n. n .0) ns)))
+
+unfoldable pub stateAfter : Choice → List ℕ → List ℕ → List Input → List ℕ
+stateAfter choice s t [] = s
+stateAfter choice s t (i ∷ is) = stateAfter choice (outcome choice s t i .state) (outcome choice s t i .table) is
+
+unfoldable pub tableAfter : Choice → List ℕ → List ℕ → List Input → List ℕ
+tableAfter choice s t [] = t
+tableAfter choice s t (i ∷ is) = tableAfter choice (outcome choice s t i .state) (outcome choice s t i .table) is
+
+-- The nodes that are followed are those of the table: nothing else decides which node is which.
+abbrev pub Follows : Type 0
+Follows =
+    (choice : Choice) (s t : List ℕ) → storeOk s t ≡ true → (is : List Input) (ns : List Tagged)
+    → map (λ n. n .0) ns ≡ records t → map (λ n. n .0) (followAll choice s t is ns) ≡ records (tableAfter choice s t is)
+
+-- Demand 3, its sentence on rights: from every store with the root line taken, for every list of lines, whoever works and whatever is refused: what every subject
+-- may do on the kept nodes afterwards is a part, in order, of what it could do on them before. So no right on a kept node has changed.
+abbrev pub RightsKept : Type 0
+RightsKept =
+    (choice : Choice) (s t : List ℕ) → storeOk s t ≡ true → stageC ≤ stage s → (is : List Input) (ns : List Tagged)
+    → map (λ n. n .0) ns ≡ records t → (u : ℕ)
+    → Sublistᴰ (keptRights (policyIn (stateAfter choice s t is)) u (followAll choice s t is ns)) (keptRights (policyIn s) u ns)
