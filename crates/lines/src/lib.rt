@@ -9,6 +9,7 @@ pub mod policy_lines;
 pub mod queries;
 pub mod session;
 pub mod state;
+pub mod stubs;
 pub mod text;
 pub mod tree;
 pub mod word;
