@@ -18,3 +18,4 @@ pub mod EditTests
 pub mod EditBytes
 pub mod EditKept
 pub mod PolicyEdits
+pub mod TreeStepLaws

@@ -11,4 +11,5 @@ pub mod session;
 pub mod state;
 pub mod text;
 pub mod tree;
+pub mod tree_lines;
 pub mod word;
