@@ -1,4 +1,4 @@
-use mathlib.Core.Path.{_≡_, ap, _∙_}
+use mathlib.Core.Path.{ap, _∙_}
 use native.Mathlib.Omega.{arith}
 use Rattle.rights.specs.Labels.{sameLabel, restricted}
 use Rattle.lines.proofs.TreeStepLaws.{label-part, label-long}
