@@ -12,4 +12,5 @@ pub mod state;
 pub mod stubs;
 pub mod text;
 pub mod tree;
+pub mod tree_lines;
 pub mod word;

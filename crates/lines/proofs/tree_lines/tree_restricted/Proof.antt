@@ -1,0 +1,60 @@
+use Prim.Native.Nat.{_≤_, _-_, _*_}
+use mathlib.Core.Path.{_≡_, sym, _∙_}
+use native.Mathlib.Omega.{arith}
+use lib.ListN.{drop}
+use Rattle.lines.specs.StepTree.{treeRestricted}
+use Rattle.lines.proofs.TreeStepLaws.{restricted-first, restricted-stop, restricted-step, restricted-none}
+use borrow.Author.Needs.{needs}
+use Rattle.lines.proofs.tree_lines.tree_restricted.Statement.{statement}
+use Rattle.lines.proofs.tree_lines.tree_restricted.Tie as tie
+
+abbrev Inv-loop : tie.InvT-loop
+Inv-loop tree m j₀ j = (j ≤ m) × (treeRestricted m tree ≡ treeRestricted (m - j) (drop (j * 32) tree))
+
+abbrev μ-loop : tie.MeasureT-loop
+μ-loop tree m j₀ j = m - j
+
+loop-holds : tie.Need-loop-holds Inv-loop μ-loop
+loop-holds c = let a = c .before .args in (omega arith, restricted-first (a .m) (a .tree .now))
+
+mul-record-restricted : tie.Need-mul-record-restricted Inv-loop μ-loop
+mul-record-restricted c = search needs
+
+record-restricted-requires : tie.Need-record-restricted-requires Inv-loop μ-loop
+record-restricted-requires c κs = search needs
+
+returns : tie.Need-returns Inv-loop μ-loop
+returns c = let l = c .before .before .before .loop in
+    let a = c .before .before .before .before .before .args in
+    restricted-stop (a .m) (l .j) (a .tree .now) (omega arith) (sym (c .before .record-restricted .ensures) ∙ c .if1 .taken) ∙ sym (l .inv .1)
+
+add-j : tie.Need-add-j Inv-loop μ-loop
+add-j c = search needs
+
+loop-less : tie.Need-loop-less Inv-loop μ-loop
+loop-less c = search needs
+
+loop-again : tie.Need-loop-again Inv-loop μ-loop
+loop-again c = let l = c .before .before .before .loop in
+    let a = c .before .before .before .before .before .args in
+    (omega arith, l .inv .1 ∙ restricted-step (a .m) (l .j) (a .tree .now) (omega arith) (sym (c .before .record-restricted .ensures) ∙ c .if1 .left))
+
+returns-2 : tie.Need-returns-2 Inv-loop μ-loop
+returns-2 c = let l = c .before .loop in
+    let a = c .before .before .before .args in
+    sym (l .inv .1 ∙ restricted-none (a .m) (l .j) (a .tree .now) (omega arith))
+
+pub tree-restricted-spec : {M : Type 1} → statement M
+tree-restricted-spec =
+    tie.close
+    (tie.spec
+    Inv-loop
+    μ-loop
+    loop-holds
+    mul-record-restricted
+    record-restricted-requires
+    returns
+    add-j
+    loop-less
+    loop-again
+    returns-2)
