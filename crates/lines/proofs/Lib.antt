@@ -20,3 +20,4 @@ pub mod EditKept
 pub mod PolicyEdits
 pub mod FormParts
 pub mod TreeStepLaws
+pub mod LineLaws

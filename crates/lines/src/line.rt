@@ -16,19 +16,20 @@ use crate::queries::query;
 use crate::queries::view;
 use crate::session::log_in;
 use crate::state::store_ok;
-use crate::stubs::change_labels;
-use crate::stubs::child;
 use crate::stubs::insert;
 use crate::stubs::remove;
-use crate::stubs::root;
+use crate::stubs::rename;
 use crate::text::line_ok;
+use crate::tree_lines::child;
+use crate::tree_lines::root;
 use rights::limits::RECORD_BYTES;
 use views::done::Change;
 use views::insert::Place;
 ghost use mathlib.Core.Path.{_≡_};
 ghost use mathlib.Core.Bool.{true, false, not};
 ghost use Prim.Native.Nat.{_*_, _≤_};
-ghost use lib.ListN.{length, take};
+ghost use lib.ListN.{length, take, replicate};
+ghost use Rattle.rights.specs.Record.{pasted};
 ghost use Rattle.lines.specs.Text.{lineOk};
 ghost use Rattle.lines.specs.Tree.{recordsOf};
 ghost use Rattle.lines.specs.Form.{readForm, treeIn};
@@ -53,7 +54,17 @@ fn stage_of(f: Form) -> u8
         Form::Rule(_, _, _, _) => STAGE_B,
         Form::Root(_) => STAGE_C,
         Form::Child(_) => STAGE_D,
-        _ => STAGE_E,
+        Form::User(_) => STAGE_E,
+        Form::View => STAGE_E,
+        Form::Query(_) => STAGE_E,
+        Form::Find(_) => STAGE_E,
+        Form::Rename(_, _) => STAGE_E,
+        Form::Update(_, _) => STAGE_E,
+        Form::Append(_, _) => STAGE_E,
+        Form::Before(_, _) => STAGE_E,
+        Form::After(_, _) => STAGE_E,
+        Form::Remove(_) => STAGE_E,
+        Form::NoForm => STAGE_E,
     }
 }
 
@@ -72,8 +83,22 @@ fn is_no_form(f: Form) -> bool
     ensures { λ r. ⌜ r ≡ isNoForm f ⌝ }
 {
     match f {
+        Form::Subject(_) => false,
+        Form::Isa(_, _) => false,
+        Form::Rule(_, _, _, _) => false,
+        Form::Root(_) => false,
+        Form::Child(_) => false,
+        Form::User(_) => false,
+        Form::View => false,
+        Form::Query(_) => false,
+        Form::Find(_) => false,
+        Form::Rename(_, _) => false,
+        Form::Update(_, _) => false,
+        Form::Append(_, _) => false,
+        Form::Before(_, _) => false,
+        Form::After(_, _) => false,
+        Form::Remove(_) => false,
         Form::NoForm => true,
-        _ => false,
     }
 }
 
@@ -112,8 +137,7 @@ fn run(
     area: &mut [u8],
     f: Form,
 ) -> Answer
-    requires { ⌜ (storeOk (now state) (now table) ≡ true) × (lineOk (now line) ≡ true) × (f ≡ readForm (now line)) × (isNoForm f ≡ false) × (inStage (stageOf f) (stage (now state)) ≡ true) ⌝ }
-    requires { ⌜ take (length (treeIn (now line)) * 32) (now tree) ≡ recordsOf (treeIn (now line)) ⌝ }
+    requires { ⌜ (storeOk (now state) (now table) ≡ true) × (lineOk (now line) ≡ true) × (f ≡ readForm (now line)) × (isNoForm f ≡ false) × (inStage (stageOf f) (stage (now state)) ≡ true) × (now tree ≡ pasted (replicate 16384 0) 0 (recordsOf (treeIn (now line)))) ⌝ }
     ensures { λ r. ⌜ Made (stepForm chosen f (now (state .entry)) (now (table .entry)) (length (now (area .entry))) (now (line .entry)) (recordsOf (treeIn (now (line .entry))))) (now (area .entry)) r (now (state .exit)) (now (table .exit)) (now (area .exit)) ⌝ }
 {
     match f {
@@ -134,7 +158,7 @@ fn run(
         Form::View => view(state, table, area),
         Form::Query(p) => query(state, table, part_of(line, p), area),
         Form::Find(p) => find(state, table, part_of(line, p), area),
-        Form::Rename(p, l) => change_labels(
+        Form::Rename(p, l) => rename(
             state,
             table,
             Change::Rename,
@@ -142,7 +166,7 @@ fn run(
             part_of(line, l),
             area,
         ),
-        Form::Update(p, l) => change_labels(
+        Form::Update(p, l) => rename(
             state,
             table,
             Change::Update,

@@ -4,27 +4,13 @@ use views::done::Change;
 use views::insert::Place;
 ghost use mathlib.Core.Path.{_≡_};
 ghost use mathlib.Core.Bool.{true};
-ghost use Prim.Native.Nat.{_*_, _<_, _≤_};
+ghost use Prim.Native.Nat.{_*_, _≤_};
 ghost use lib.ListN.{length};
-ghost use Rattle.lines.specs.State.{storeOk, stage};
+ghost use Rattle.lines.specs.State.{storeOk};
 ghost use Rattle.lines.specs.Step.{Made};
-ghost use Rattle.lines.specs.StepTree.{stepRoot, stepChild, stepRename, stepInsert, stepRemove};
+ghost use Rattle.lines.specs.StepTree.{stepRename, stepInsert, stepRemove};
 
-pub fn root(state: &mut [u8], table: &mut [u8], label: &[u8], area: &mut [u8]) -> Answer
-    requires { ⌜ (storeOk (now state) (now table) ≡ true) × (stage (now state) < 2) × (length (now label) ≤ 24) ⌝ }
-    ensures { λ r. ⌜ Made (stepRoot (now (state .entry)) (now (table .entry)) (length (now (area .entry))) (now (label .entry))) (now (area .entry)) r (now (state .exit)) (now (table .exit)) (now (area .exit)) ⌝ }
-{
-    Answer::Refused(2)
-}
-
-pub fn child(state: &mut [u8], table: &mut [u8], tree: &[u8], m: usize, area: &mut [u8]) -> Answer
-    requires { ⌜ (storeOk (now state) (now table) ≡ true) × (m * 32 ≤ length (now tree)) × (m ≤ 16384) ⌝ }
-    ensures { λ r. ⌜ Made (stepChild (now (state .entry)) (now (table .entry)) (length (now (area .entry))) m (now (tree .entry))) (now (area .entry)) r (now (state .exit)) (now (table .exit)) (now (area .exit)) ⌝ }
-{
-    Answer::Refused(2)
-}
-
-pub fn change_labels(
+pub fn rename(
     state: &[u8],
     table: &mut [u8],
     change: Change,

@@ -1,15 +1,12 @@
+use Rattle.lines.proofs.LineLaws.{stage-late, stage-even}
 use Rattle.lines.proofs.line.in_stage.Statement.{statement}
 use Rattle.lines.proofs.line.in_stage.Tie as tie
-use Rattle.lines.proofs.line.in_stage.Reads as reads
-use Rattle.lines.proofs.line.in_stage.Lts as lts
 
--- src/line.rt:64:9
 returns : tie.Need-returns
-returns c = ?
+returns c = stage-late _ _ (c .if1 .taken)
 
--- src/line.rt:60:1
 returns-2 : tie.Need-returns-2
-returns-2 c = ?
+returns-2 c = stage-even _ _ (c .if1 .left)
 
 pub in-stage-spec : {M : Type 1} → statement M
 in-stage-spec = tie.close (tie.spec returns returns-2)

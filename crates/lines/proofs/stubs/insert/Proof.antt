@@ -3,7 +3,7 @@ use Rattle.lines.proofs.stubs.insert.Tie as tie
 use Rattle.lines.proofs.stubs.insert.Reads as reads
 use Rattle.lines.proofs.stubs.insert.Lts as lts
 
--- src/stubs.rt:41:1
+-- src/stubs.rt:27:1
 returns : tie.Need-returns
 returns c = ?
 

@@ -3,7 +3,7 @@ use Rattle.lines.proofs.stubs.remove.Tie as tie
 use Rattle.lines.proofs.stubs.remove.Reads as reads
 use Rattle.lines.proofs.stubs.remove.Lts as lts
 
--- src/stubs.rt:56:1
+-- src/stubs.rt:42:1
 returns : tie.Need-returns
 returns c = ?
 
