@@ -1,1 +1,3 @@
 pub mod Keys
+pub mod Chains
+pub mod Scan
