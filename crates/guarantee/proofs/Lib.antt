@@ -1,1 +1,4 @@
 pub mod SamePolicy
+pub mod Keys
+pub mod Chains
+pub mod Scan
