@@ -3,3 +3,4 @@ pub mod Keys
 pub mod Chains
 pub mod Scan
 pub mod DoneSeen
+pub mod LowTable
