@@ -1,8 +1,8 @@
 -- Each node with its key chain: the keys of the nodes from the root down to it. A change of the nodes is the same change of the nodes with their chains.
 -- Assumes nothing.
-use Prim.Native.Nat.{ℕ, zero, suc, _+_, _≤_, _<_, min}
+use Prim.Native.Nat.{ℕ, suc, _≤_, _<_, min}
 use mathlib.Core.Path.{_≡_, refl, ap, ap₂, sym, _∙_}
-use mathlib.Core.Bool.{Bool, true, false, cond}
+use mathlib.Core.Bool.{Bool}
 use mathlib.Core.List.{List, [], _∷_, _++_, map}
 use native.Mathlib.Omega.{arith}
 use native.Mathlib.Numerals.{add-one}
@@ -36,6 +36,16 @@ module _ {E K : Type 0} (lev : E → ℕ) (key : E → K) where
   unfolding cells
   cells-nodes c [] = refl
   cells-nodes c (x ∷ t) = ap (λ r. x ∷ r) (cells-nodes (chain c x) t)
+
+  pub cells-nested : (n : ℕ) (c : List K) (t : List E) → Nested lev n t → Nested cellLevel n (cells c t)
+  unfolding cells
+  cells-nested n c [] w = tt
+  cells-nested n c (x ∷ t) w = (w .0, cells-nested (suc (lev x)) (chain c x) t (w .1))
+
+  pub cells-done : (P : E → Type 0) (c : List K) (ms : List Bool) (t : List E) → AtDone P ms t → AtDone (λ p. P (p .0)) ms (cells c t)
+  unfolding cells
+  cells-done P c ms [] a = tt
+  cells-done P c ms (x ∷ t) a = (a .0, cells-done P (chain c x) (later ms) t (a .1))
 
   pub length-chain : (c : List K) (x : E) → length (chain c x) ≡ suc (min (lev x) (length c))
   unfolding chain

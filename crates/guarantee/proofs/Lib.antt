@@ -4,3 +4,4 @@ pub mod Chains
 pub mod Scan
 pub mod DoneSeen
 pub mod LowTable
+pub mod Low

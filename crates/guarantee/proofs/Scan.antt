@@ -1,8 +1,8 @@
 -- The shown nodes by one scan over a list of nodes with levels, and the changes on them: a change whose marks are spread from those of the shown nodes acts
 -- on the shown nodes as that change with their marks. `seen-shown` and `spread-shown` tie the scan to the view (views/specs/Shown.antt). Assumes nothing.
-use Prim.Native.Nat.{ℕ, zero, suc, _+_, _≤_, _<_, min}
+use Prim.Native.Nat.{ℕ, suc, _≤_, _<_, min}
 use mathlib.Core.Path.{_≡_, refl, ap, ap₂, sym, _∙_}
-use mathlib.Core.Bool.{Bool, true, false, cond, _&&_}
+use mathlib.Core.Bool.{Bool, true, false, cond}
 use mathlib.Core.List.{List, [], _∷_, _++_, append-nil, map}
 use native.Mathlib.Omega.{arith}
 use native.Mathlib.Numerals.{add-one}
@@ -15,7 +15,7 @@ use Rattle.views.specs.Change.{isDone, later, dropBelow, putBehind, remove, ins
 use Rattle.views.specs.Done.{inTable}
 use Rattle.views.specs.Nodes.{Nested}
 use Rattle.views.specs.Pass.{Above, Front, AtDone}
-use Rattle.views.specs.Shown.{isShownAt, depthAfter, shownFrom, shownBy, keep}
+use Rattle.views.specs.Shown.{isShownAt, shownFrom, shownBy, keep}
 use Rattle.views.proofs.ShownDepth.{Steps, shown-by-depth}
 
 -- what holds of every node holds of each that is done
