@@ -145,6 +145,16 @@ module _ (P : Policy) (u : ℕ) where
   abbrev pub nodesOf : List PublicRecord → Nodes
   nodesOf ps = map (λ p. node (p .level) (p .carried)) ps
 
+  abbrev pub publicSet : PublicRecord → ℕ
+  publicSet p = rightsByKeys P u (p .chain)
+
+  abbrev pub publicWord : PublicRecord → Bool
+  publicWord p = isWord (p .key)
+
+  -- which of the shown nodes a change does, where ms are the marks of the selected ones
+  abbrev pub doneLow : Change → List Bool → List PublicRecord → List Bool
+  doneLow c ms ps = doneSeen publicLevel (publicGrant grantBy) publicSet publicWord c ms ps
+
   chain-keys : (c : List (List ℕ)) (r : List ℕ) → map (keyOf P) (take (level r) c ++ (label r ∷ [])) ≡ chain level keyIn (map (keyOf P) c) r
   unfolding chain
   chain-keys c r = map-snoc (keyOf P) (take (level r) c) (label r) ∙ ap (λ l. l ++ (keyIn r ∷ [])) (map-take (keyOf P) (level r) c)
@@ -242,16 +252,6 @@ module _ (P : Policy) (u : ℕ) where
 
     -- What a change does
 
-    abbrev pub publicSet : PublicRecord → ℕ
-    publicSet p = rightsByKeys P u (p .chain)
-
-    abbrev pub publicWord : PublicRecord → Bool
-    publicWord p = isWord (p .key)
-
-    -- which of the shown nodes a change does, where ms are the marks of the selected ones
-    abbrev pub doneLow : Change → List Bool → List PublicRecord → List Bool
-    doneLow c ms ps = doneSeen publicLevel (publicGrant grantBy) publicSet publicWord c ms ps
-
     items-public : (d : ℕ) (ms : List Bool) (c : List (List ℕ)) (k : List Key) (rs : List (List ℕ)) → map (keyOf P) c ≡ k
         → items (policyWord P) rs (map (rightsBy P u) (chains c rs)) (shownFrom publicLevel (publicGrant grantBy) d (publics level keyIn labelBy grantBy k rs))
         (inTable (shownFrom publicLevel (publicGrant grantBy) d (publics level keyIn labelBy grantBy k rs)) ms)
@@ -261,13 +261,13 @@ module _ (P : Policy) (u : ℕ) where
     items-public d ms c k (r ∷ rs) e =
         let h = chain level keyIn (map (keyOf P) c) r in
         let p : PublicRecord = publicOf level keyIn labelBy grantBy (r, h) in
-        rw (← e, set-keys c r, key-word P (label r))
+        rw (← e, set-keys c r)
         (byCase (isShownAt publicLevel (publicGrant grantBy) d p)
         (λ v. rw (v, first-mark ms, later-marks ms, add-one (level r))
-        (ap (λ l. record { level = level r; rights = rightsByKeys P u h; shown = true; selected = isDone ms; word = isWord (keyIn r) } ∷ l)
+        (ap₂ _∷_ (λ i. record { level = level r; rights = rightsByKeys P u h; shown = true; selected = isDone ms; word = key-word P (label r) i })
         (items-public (suc (level r)) (later ms) (take (level r) c ++ (label r ∷ [])) h rs (chain-keys c r))))
         (λ v. rw v
-        (ap (λ l. record { level = level r; rights = rightsByKeys P u h; shown = false; selected = false; word = isWord (keyIn r) } ∷ l)
+        (ap₂ _∷_ (λ i. record { level = level r; rights = rightsByKeys P u h; shown = false; selected = false; word = key-word P (label r) i })
         (items-public (min d (level r)) ms (take (level r) c ++ (label r ∷ [])) h rs (chain-keys c r)))))
 
     public-steps : (n : ℕ) (c : List Key) (rs : List (List ℕ)) → Nested level n rs → Nested publicLevel n (publics level keyIn labelBy grantBy c rs)
