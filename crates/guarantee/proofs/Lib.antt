@@ -5,3 +5,5 @@ pub mod Scan
 pub mod DoneSeen
 pub mod LowTable
 pub mod Low
+pub mod Accepted
+pub mod SessionKept
