@@ -7,3 +7,4 @@ pub mod LowTable
 pub mod Low
 pub mod Accepted
 pub mod SessionKept
+pub mod LineLow

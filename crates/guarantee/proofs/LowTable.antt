@@ -111,6 +111,17 @@ from-held word [] ys h = tt
 from-held word (x ∷ xs) [] h = tt
 from-held word (x ∷ xs) (y ∷ ys) h = (h .0, from-held word xs ys (h .1))
 
+-- what is public of a record
+abbrev pub PublicRecord : Type 0
+PublicRecord = Public Key (List ℕ)
+
+-- the view that a low projection holds
+abbrev pub nodesOf : List PublicRecord → Nodes
+nodesOf ps = map (λ p. node (p .level) (p .carried)) ps
+
+abbrev pub publicWord : PublicRecord → Bool
+publicWord p = isWord (p .key)
+
 module _ (P : Policy) (u : ℕ) where
   abbrev pub keyIn : List ℕ → Key
   keyIn r = keyOf P (label r)
@@ -120,10 +131,6 @@ module _ (P : Policy) (u : ℕ) where
 
   abbrev pub grantBy : List Key → Bool
   grantBy c = grants (rightsByKeys P u c)
-
-  -- what is public of a record
-  abbrev pub PublicRecord : Type 0
-  PublicRecord = Public Key (List ℕ)
 
   abbrev pub lowOf : List (List ℕ) → List PublicRecord
   lowOf rs = low level keyIn labelBy grantBy rs
@@ -141,15 +148,8 @@ module _ (P : Policy) (u : ℕ) where
   abbrev pub shownOf : List (List ℕ) → List Stored
   shownOf rs = keep (shown (storedBy rs)) (storedBy rs)
 
-  -- the view that a low projection holds
-  abbrev pub nodesOf : List PublicRecord → Nodes
-  nodesOf ps = map (λ p. node (p .level) (p .carried)) ps
-
   abbrev pub publicSet : PublicRecord → ℕ
   publicSet p = rightsByKeys P u (p .chain)
-
-  abbrev pub publicWord : PublicRecord → Bool
-  publicWord p = isWord (p .key)
 
   -- which of the shown nodes a change does, where ms are the marks of the selected ones
   abbrev pub doneLow : Change → List Bool → List PublicRecord → List Bool
