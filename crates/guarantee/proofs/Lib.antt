@@ -1,2 +1,4 @@
 pub mod Accepted
 pub mod SessionKept
+pub mod FormParts
+pub mod TreeRecords
