@@ -2,3 +2,4 @@ pub mod Accepted
 pub mod SessionKept
 pub mod FormParts
 pub mod TreeRecords
+pub mod TableAfter
