@@ -8,3 +8,6 @@ pub mod Low
 pub mod Accepted
 pub mod SessionKept
 pub mod LineLow
+pub mod FormParts
+pub mod TreeRecords
+pub mod TableAfter
