@@ -11,3 +11,4 @@ pub mod LineLow
 pub mod FormParts
 pub mod TreeRecords
 pub mod TableAfter
+pub mod LineAlike
