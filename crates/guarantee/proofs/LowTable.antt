@@ -24,7 +24,7 @@ use Rattle.views.proofs.ShownDepth.{Steps, shown-by-depth}
 use Rattle.guarantee.specs.Alike.{NoWordDiffers, Behind}
 use Rattle.guarantee.proofs.Keys.{Key, keyOf, rightsByKeys, rights-by-keys}
 use Rattle.guarantee.proofs.Chains.{Cell, cellLevel, chain, cells, cells-nested}
-use Rattle.guarantee.proofs.Scan.{seen, spread, nested-steps}
+use Rattle.guarantee.proofs.Scan.{seen, spread, nested-steps, first-mark, later-marks}
 use Rattle.guarantee.proofs.Low.{Public, publicLevel, publicGrant, cellGrant, publicOf, publics, lowBelow, low, marks, shownCells, low-shown, shown-cells, look, KeysBehind, low-alike, alike-low}
 use Rattle.guarantee.proofs.DoneSeen.{Item, doneFrom, items, done-items, allItems, seenItems, doneSeen, done-seen}
 
@@ -42,14 +42,6 @@ map-take f (suc n) (x ∷ xs) = ap (λ r. f x ∷ r) (map-take f n xs)
 map-snoc : {A B : Type 0} (f : A → B) (xs : List A) (y : A) → map f (xs ++ (y ∷ [])) ≡ map f xs ++ (f y ∷ [])
 map-snoc f [] y = refl
 map-snoc f (x ∷ xs) y = ap (λ r. f x ∷ r) (map-snoc f xs y)
-
-first-mark : (ms : List Bool) → getD ms 0 false ≡ isDone ms
-first-mark [] = refl
-first-mark (b ∷ bs) = refl
-
-later-marks : (ms : List Bool) → drop 1 ms ≡ later ms
-later-marks [] = refl
-later-marks (b ∷ bs) = refl
 
 -- what is shown goes by level and grant alone
 shown-map : {E F : Type 0} (lev : F → ℕ) (gr : F → Bool) (f : E → F) (before : List (ℕ × Bool)) (t : List E)
@@ -86,7 +78,7 @@ module _ (P : Policy) (a b : List ℕ) where
 
 -- The reader
 
--- a node's record with the rights on it, and what both carry
+-- a node's record with the rights on it, the label it carries, and no policy word differing behind RESTRICTED
 abbrev Held : Type 0
 Held = List ℕ × ℕ
 
@@ -193,15 +185,6 @@ module _ (P : Policy) (u : ℕ) where
         ∙ ap (λ bs. map heldCell (keep bs (cells level keyIn [] rs))) (shown-cells-by 0 [] [] [] rs refl)
         ∙ ap (map heldCell) (sym (shown-cells level keyIn labelBy grantBy rs w))
 
-    -- The view is read off the low projection.
-    pub view-low : (rs : List (List ℕ)) → Nested level 0 rs → view (storedBy rs) ≡ nodesOf (lowOf rs)
-    view-low rs w =
-        sym (map-map (λ (x : Held). node (level (x .0)) (heldLabel x)) heldOf (shownOf rs))
-        ∙ ap (map (λ (x : Held). node (level (x .0)) (heldLabel x))) (held-shown rs w)
-        ∙ map-map (λ (x : Held). node (level (x .0)) (heldLabel x)) heldCell (shownCells level keyIn labelBy grantBy rs)
-        ∙ sym (map-map (λ (p : PublicRecord). node (p .level) (p .carried)) (publicOf level keyIn labelBy grantBy) (shownCells level keyIn labelBy grantBy rs))
-        ∙ ap nodesOf (sym (low-shown level keyIn labelBy grantBy rs))
-
     abbrev cellNode : RecordCell → Node
     cellNode p = node (level (p .0)) (labelBy (p .1) (p .0))
 
@@ -210,6 +193,13 @@ module _ (P : Policy) (u : ℕ) where
         sym (map-map (λ (x : Held). node (level (x .0)) (heldLabel x)) heldOf (shownOf rs))
         ∙ ap (map (λ (x : Held). node (level (x .0)) (heldLabel x))) (held-shown rs w)
         ∙ map-map (λ (x : Held). node (level (x .0)) (heldLabel x)) heldCell (shownCells level keyIn labelBy grantBy rs)
+
+    -- The view is read off the low projection.
+    pub view-low : (rs : List (List ℕ)) → Nested level 0 rs → view (storedBy rs) ≡ nodesOf (lowOf rs)
+    view-low rs w =
+        view-cells rs w
+        ∙ sym (map-map (λ (p : PublicRecord). node (p .level) (p .carried)) (publicOf level keyIn labelBy grantBy) (shownCells level keyIn labelBy grantBy rs))
+        ∙ ap nodesOf (sym (low-shown level keyIn labelBy grantBy rs))
 
     keys-behind : (ps qs : List RecordCell) → HeldBehind (policyWord P) (map heldCell ps) (map heldCell qs) → KeysBehind level keyIn labelBy grantBy restricted ps qs
     keys-behind [] qs h = tt

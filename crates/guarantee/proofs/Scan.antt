@@ -23,11 +23,11 @@ pub done-every : {E : Type 0} (P : E → Type 0) → ((x : E) → P x) → (ms :
 done-every P h ms [] = tt
 done-every P h ms (x ∷ t) = ((λ e. h x), done-every P h (later ms) t)
 
-first-mark : (ms : List Bool) → getD ms 0 false ≡ isDone ms
+pub first-mark : (ms : List Bool) → getD ms 0 false ≡ isDone ms
 first-mark [] = refl
 first-mark (b ∷ bs) = refl
 
-later-marks : (ms : List Bool) → drop 1 ms ≡ later ms
+pub later-marks : (ms : List Bool) → drop 1 ms ≡ later ms
 later-marks [] = refl
 later-marks (b ∷ bs) = refl
 
