@@ -3,3 +3,4 @@ pub mod SessionKept
 pub mod FormParts
 pub mod TreeRecords
 pub mod TableAfter
+pub mod StoreKept
