@@ -4,3 +4,5 @@ pub mod FormParts
 pub mod TreeRecords
 pub mod TableAfter
 pub mod StoreKept
+pub mod LineLaws
+pub mod RunKept
