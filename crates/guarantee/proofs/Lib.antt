@@ -12,3 +12,6 @@ pub mod FormParts
 pub mod TreeRecords
 pub mod TableAfter
 pub mod LineAlike
+pub mod StoreKept
+pub mod LineLaws
+pub mod RunKept
