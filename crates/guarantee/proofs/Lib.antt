@@ -15,3 +15,4 @@ pub mod LineAlike
 pub mod StoreKept
 pub mod LineLaws
 pub mod RunKept
+pub mod Demand

@@ -259,7 +259,7 @@ module _ (P : Policy) (u : ℕ) where
     free-done c path f =
         let word = policyWord (policyIn s) in
         let e : marksOf (doneIn c s t path) ≡ doneFrom c [] [] (items word (records t) (rightsIn s t) (shown (storedIn s t)) (selectedIn s t path)) =
-            marks-bits (doneRecords c path) ∙ done-items c word t (rightsIn s t) (selectedIn s t path) in
+        marks-bits (doneRecords c path) ∙ done-items c word t (rightsIn s t) (selectedIn s t path) in
         rw e
         (done-from level (λ r. word (label r) ≡ false) (λ r. policyWord P (label r) ≡ false) (λ r q. sym (ap (λ w. w (label r)) word-in) ∙ q)
         (doneFrom c [] [] (items word (records t) (rightsIn s t) (shown (storedIn s t)) (selectedIn s t path))) (records t)

@@ -39,16 +39,16 @@ found g [] e = absurd (false≢true e)
 found g (p ∷ ps) e = byCase (g p)
     (λ q. record { line = p; passes = q; held = or-left (isLine (p .0) (p .1) p) (some (isLine (p .0) (p .1)) ps) (rw (eq-eqb (p .0) (p .0) refl, eq-eqb (p .1) (p .1) refl)) })
     (λ q. let f : some g ps ≡ true = rw q at e in let h = found g ps f in
-        record { line = h .line; passes = h .passes; held = or-right (isLine (h .line .0) (h .line .1) p) _ (h .held) })
+    record { line = h .line; passes = h .passes; held = or-right (isLine (h .line .0) (h .line .1) p) _ (h .held) })
 
 give : (g : ℕ × ℕ → Bool) (ps : List (ℕ × ℕ)) (n r : ℕ) → some (isLine n r) ps ≡ true → g (n, r) ≡ true → some g ps ≡ true
 unfolding some
 give g [] n r e h = absurd (false≢true e)
 give g (p ∷ ps) n r e h = byCase (isLine n r p)
     (λ q. let w = both (eqb (p .0) n) (eqb (p .1) r) q in
-        let a : p .0 ≡ n = eqb-true (p .0) n (w .0) in
-        let b : p .1 ≡ r = eqb-true (p .1) r (w .1) in
-        or-left (g p) _ (ap g (λ i. (a i, b i)) ∙ h))
+    let a : p .0 ≡ n = eqb-true (p .0) n (w .0) in
+    let b : p .1 ≡ r = eqb-true (p .1) r (w .1) in
+    or-left (g p) _ (ap g (λ i. (a i, b i)) ∙ h))
     (λ q. let f : some (isLine n r) ps ≡ true = rw q at e in or-right (g p) _ (give g ps n r f h))
 
 module _ (ps qs : List (ℕ × ℕ)) (same : (n r : ℕ) → some (isLine n r) ps ≡ some (isLine n r) qs) where
@@ -61,10 +61,10 @@ unfolding isBy
 is-same ps qs same zero u k = refl
 is-same ps qs same (suc f) u k =
     ap (λ b. eqb u k || b) (equal-tests _ _
-        (some-same ps qs same (λ p. eqb (p .0) u && isBy ps f (p .1) k) (λ p. eqb (p .0) u && isBy qs f (p .1) k)
-            (λ w. ap (λ b. eqb (w .0) u && b) (is-same ps qs same f (w .1) k)))
-        (some-same qs ps (λ n r. sym (same n r)) (λ p. eqb (p .0) u && isBy qs f (p .1) k) (λ p. eqb (p .0) u && isBy ps f (p .1) k)
-            (λ w. ap (λ b. eqb (w .0) u && b) (sym (is-same ps qs same f (w .1) k)))))
+    (some-same ps qs same (λ p. eqb (p .0) u && isBy ps f (p .1) k) (λ p. eqb (p .0) u && isBy qs f (p .1) k)
+    (λ w. ap (λ b. eqb (w .0) u && b) (is-same ps qs same f (w .1) k)))
+    (some-same qs ps (λ n r. sym (same n r)) (λ p. eqb (p .0) u && isBy qs f (p .1) k) (λ p. eqb (p .0) u && isBy ps f (p .1) k)
+    (λ w. ap (λ b. eqb (w .0) u && b) (sym (is-same ps qs same f (w .1) k)))))
 
 module _ (P Q : Policy) (same : SamePolicy P Q) where
   pub same-is : (u k : ℕ) → is P u k ≡ is Q u k
