@@ -1,11 +1,12 @@
 -- Which node is which (document 01, "What demand 3 compares"): "A change keeps every node that it does not remove, renamed or not, and kept nodes keep their
 -- order. Inserted nodes are new. A removed node never comes back, whatever uses its record." And the sentence on rights.
 -- A node is followed by a tag that its record carries; a node that came later has none.
-use Prim.Native.Nat.{ℕ, suc, _≤_}
+use Prim.Native.Nat.{ℕ, suc, _≤_, _<_}
 use mathlib.Core.Path.{_≡_}
 use mathlib.Core.Bool.{Bool, true, false}
 use mathlib.Core.List.{List, [], _∷_, map, Sublistᴰ}
 use mathlib.Core.Option.{Option, none, some}
+use lib.ListN.{length}
 use Rattle.rights.specs.Policy.{Policy}
 use Rattle.rights.specs.Rights.{rightsOn}
 use Rattle.rights.specs.Table.{records, level}
@@ -116,10 +117,10 @@ Follows =
     (choice : Choice) (s t : List ℕ) → storeOk s t ≡ true → (is : List Input) (ns : List Tagged)
     → map (λ n. n .0) ns ≡ records t → map (λ n. n .0) (followAll choice s t is ns) ≡ records (tableAfter choice s t is)
 
--- Demand 3, its sentence on rights: from every store with the root line taken, for every list of lines, whoever works and whatever is refused: what every subject
--- may do on the kept nodes afterwards is a part, in order, of what it could do on them before. So no right on a kept node has changed.
+-- Demand 3, its sentence on rights: from every store with the root line taken, for every list of lines, whoever works and whatever is refused: what every declared
+-- subject may do on the kept nodes afterwards is a part, in order, of what it could do on them before. So no right on a kept node has changed.
 abbrev pub RightsKept : Type 0
 RightsKept =
     (choice : Choice) (s t : List ℕ) → storeOk s t ≡ true → stageC ≤ stage s → (is : List Input) (ns : List Tagged)
-    → map (λ n. n .0) ns ≡ records t → (u : ℕ)
+    → map (λ n. n .0) ns ≡ records t → (u : ℕ) → u < length (policyIn s .names)
     → Sublistᴰ (keptRights (policyIn (stateAfter choice s t is)) u (followAll choice s t is ns)) (keptRights (policyIn s) u ns)

@@ -1,0 +1,285 @@
+-- The low projection of a tree of records, for a declared subject: the view is read off it, two trees have the same exactly if they look the same and no policy word
+-- differs behind RESTRICTED, and it decides which nodes a change does. Assumes nothing.
+use Prim.Native.Nat.{ℕ, zero, suc, _+_, _≤_, _<_, min}
+use mathlib.Core.Path.{_≡_, refl, ap, ap₂, sym, _∙_, subst}
+use mathlib.Core.Bool.{Bool, true, false, cond, not, _&&_}
+use mathlib.Core.List.{List, [], _∷_, _++_, map}
+use mathlib.Core.Logic.{_⊎_, inl, inr}
+use mathlib.Core.Option.{Option, none, some}
+use native.Mathlib.Omega.{arith}
+use native.Mathlib.Numerals.{add-one}
+use lib.ListN.{length, getD, take, drop}
+use Rattle.rights.specs.Labels.{restricted}
+use Rattle.rights.specs.Nodes.{Node, node, Nodes, levelOf, labelOf}
+use Rattle.rights.specs.Policy.{Policy, read, policyWord}
+use Rattle.rights.specs.Rights.{holds, rightsBy, chains, rightsOn}
+use Rattle.rights.specs.Table.{records, level, label}
+use Rattle.rights.proofs.Lists.{byCase}
+use Rattle.views.specs.Change.{isDone, later}
+use Rattle.views.specs.Done.{doneMarks, inTable}
+use Rattle.views.specs.Nodes.{Nested}
+use Rattle.views.specs.Shown.{Stored, storedFrom, stored, storedLevel, grants, granted, isShown, isShownAt, depthAfter, shownAfter, shownBy, shownFrom, shown, keep, carried, view}
+use Rattle.views.specs.declared.done.Change.{Change}
+use Rattle.views.proofs.ShownDepth.{Steps, shown-by-depth}
+use Rattle.guarantee.specs.Alike.{NoWordDiffers, Behind}
+use Rattle.guarantee.proofs.Keys.{Key, keyOf, rightsByKeys, rights-by-keys}
+use Rattle.guarantee.proofs.Chains.{Cell, cellLevel, chain, cells, cells-nested}
+use Rattle.guarantee.proofs.Scan.{seen, spread, nested-steps, first-mark, later-marks}
+use Rattle.guarantee.proofs.Low.{Public, publicLevel, publicGrant, cellGrant, publicOf, publics, lowBelow, low, marks, shownCells, low-shown, shown-cells, look, KeysBehind, low-alike, alike-low}
+use Rattle.guarantee.proofs.DoneSeen.{Item, doneFrom, items, done-items, allItems, seenItems, doneSeen, done-seen}
+
+-- Lists
+
+map-map : {A B C : Type 0} (f : B → C) (g : A → B) (xs : List A) → map f (map g xs) ≡ map (λ x. f (g x)) xs
+map-map f g [] = refl
+map-map f g (x ∷ xs) = ap (λ r. f (g x) ∷ r) (map-map f g xs)
+
+map-take : {A B : Type 0} (f : A → B) (n : ℕ) (xs : List A) → map f (take n xs) ≡ take n (map f xs)
+map-take f zero xs = refl
+map-take f (suc n) [] = refl
+map-take f (suc n) (x ∷ xs) = ap (λ r. f x ∷ r) (map-take f n xs)
+
+map-snoc : {A B : Type 0} (f : A → B) (xs : List A) (y : A) → map f (xs ++ (y ∷ [])) ≡ map f xs ++ (f y ∷ [])
+map-snoc f [] y = refl
+map-snoc f (x ∷ xs) y = ap (λ r. f x ∷ r) (map-snoc f xs y)
+
+-- what is shown goes by level and grant alone
+shown-map : {E F : Type 0} (lev : F → ℕ) (gr : F → Bool) (f : E → F) (before : List (ℕ × Bool)) (t : List E)
+    → shownAfter lev gr before (map f t) ≡ shownAfter (λ x. lev (f x)) (λ x. gr (f x)) before t
+unfolding shownAfter
+shown-map lev gr f before [] = refl
+shown-map lev gr f before (x ∷ t) = ap (λ r. isShown lev gr before (f x) ∷ r) (shown-map lev gr f _ t)
+
+-- a key that is a policy word
+abbrev pub isWord : Key → Bool
+isWord none = false
+isWord (some x) = true
+
+-- A label's key
+
+key-word : (P : Policy) (x : List ℕ) → policyWord P x ≡ isWord (keyOf P x)
+key-word P x = byCase (policyWord P x) (λ e. rw e) (λ e. rw e)
+
+some-eq : (a b : List ℕ) → _≡_ {A = Key} (some a) (some b) → a ≡ b
+some-eq a b z = cc
+
+some-none : {C : Type 0} (a : List ℕ) → _≡_ {A = Key} (some a) none → C
+some-none a z = absurd (let o : _≡_ {A = ℕ} 0 1 = cc in omega arith)
+
+module _ (P : Policy) (a b : List ℕ) where
+  key-same : NoWordDiffers (policyWord P) a b → keyOf P a ≡ keyOf P b
+  key-same (inl e) = ap (keyOf P) e
+  key-same (inr e) = rw (e .0, e .1)
+
+  same-key : keyOf P a ≡ keyOf P b → NoWordDiffers (policyWord P) a b
+  same-key e = byCase (policyWord P a)
+      (λ p. byCase (policyWord P b) (λ q. inl (some-eq a b (rw (p, q) at e))) (λ q. some-none a (rw (p, q) at e)))
+      (λ p. byCase (policyWord P b) (λ q. some-none b (sym (rw (p, q) at e))) (λ q. inr (p, q)))
+
+-- The reader
+
+-- a node's record with the rights on it, the label it carries, and no policy word differing behind RESTRICTED
+abbrev Held : Type 0
+Held = List ℕ × ℕ
+
+abbrev heldLabel : Held → List ℕ
+heldLabel x = cond (holds read (x .1)) (label (x .0)) restricted
+
+abbrev HeldBehind : (List ℕ → Bool) → List Held → List Held → Type 0
+HeldBehind word [] ys = Unit {0}
+HeldBehind word (x ∷ xs) [] = Unit {0}
+HeldBehind word (x ∷ xs) (y ∷ ys) = (heldLabel x ≡ restricted → heldLabel y ≡ restricted → NoWordDiffers word (label (x .0)) (label (y .0))) × HeldBehind word xs ys
+
+abbrev heldOf : Stored → Held
+heldOf x = (x .bytes, x .rights)
+
+to-held : (word : List ℕ → Bool) (xs ys : List Stored) → Behind word xs ys → HeldBehind word (map heldOf xs) (map heldOf ys)
+to-held word [] ys h = tt
+to-held word (x ∷ xs) [] h = tt
+to-held word (x ∷ xs) (y ∷ ys) h = (h .0, to-held word xs ys (h .1))
+
+from-held : (word : List ℕ → Bool) (xs ys : List Stored) → HeldBehind word (map heldOf xs) (map heldOf ys) → Behind word xs ys
+from-held word [] ys h = tt
+from-held word (x ∷ xs) [] h = tt
+from-held word (x ∷ xs) (y ∷ ys) h = (h .0, from-held word xs ys (h .1))
+
+-- what is public of a record
+abbrev pub PublicRecord : Type 0
+PublicRecord = Public Key (List ℕ)
+
+-- the view that a low projection holds
+abbrev pub nodesOf : List PublicRecord → Nodes
+nodesOf ps = map (λ p. node (p .level) (p .carried)) ps
+
+abbrev pub publicWord : PublicRecord → Bool
+publicWord p = isWord (p .key)
+
+module _ (P : Policy) (u : ℕ) where
+  abbrev pub keyIn : List ℕ → Key
+  keyIn r = keyOf P (label r)
+
+  abbrev pub labelBy : List Key → List ℕ → List ℕ
+  labelBy c r = cond (holds read (rightsByKeys P u c)) (label r) restricted
+
+  abbrev pub grantBy : List Key → Bool
+  grantBy c = grants (rightsByKeys P u c)
+
+  abbrev pub lowOf : List (List ℕ) → List PublicRecord
+  lowOf rs = low level keyIn labelBy grantBy rs
+
+  abbrev RecordCell : Type 0
+  RecordCell = Cell level keyIn
+
+  abbrev heldCell : RecordCell → Held
+  heldCell p = (p .0, rightsByKeys P u (p .1))
+
+  -- the stored nodes of a tree of records, and those that are shown
+  abbrev pub storedBy : List (List ℕ) → List Stored
+  storedBy rs = storedFrom 0 rs (rightsOn P u rs)
+
+  abbrev pub shownOf : List (List ℕ) → List Stored
+  shownOf rs = keep (shown (storedBy rs)) (storedBy rs)
+
+  abbrev pub publicSet : PublicRecord → ℕ
+  publicSet p = rightsByKeys P u (p .chain)
+
+  -- which of the shown nodes a change does, where ms are the marks of the selected ones
+  abbrev pub doneLow : Change → List Bool → List PublicRecord → List Bool
+  doneLow c ms ps = doneSeen publicLevel (publicGrant grantBy) publicSet publicWord c ms ps
+
+  chain-keys : (c : List (List ℕ)) (r : List ℕ) → map (keyOf P) (take (level r) c ++ (label r ∷ [])) ≡ chain level keyIn (map (keyOf P) c) r
+  unfolding chain
+  chain-keys c r = map-snoc (keyOf P) (take (level r) c) (label r) ∙ ap (λ l. l ++ (keyIn r ∷ [])) (map-take (keyOf P) (level r) c)
+
+  module _ (declared : u < length (P .names)) where
+    set-keys : (c : List (List ℕ)) (r : List ℕ) → rightsBy P u (take (level r) c ++ (label r ∷ [])) ≡ rightsByKeys P u (chain level keyIn (map (keyOf P) c) r)
+    set-keys c r = rights-by-keys P u (take (level r) c ++ (label r ∷ [])) declared ∙ ap (rightsByKeys P u) (chain-keys c r)
+
+    -- the stored nodes and the nodes with their key chains: shown alike, and the same records with the same rights
+    shown-cells-by : (i : ℕ) (before : List (ℕ × Bool)) (c : List (List ℕ)) (k : List Key) (rs : List (List ℕ)) → map (keyOf P) c ≡ k
+        → shownAfter storedLevel granted before (storedFrom i rs (map (rightsBy P u) (chains c rs)))
+        ≡ shownAfter (cellLevel level keyIn) (cellGrant level keyIn labelBy grantBy) before (cells level keyIn k rs)
+    unfolding shownAfter storedFrom chains cells
+    shown-cells-by i before c k [] e = refl
+    shown-cells-by i before c k (r ∷ rs) e =
+        rw (← e, set-keys c r)
+        (ap (λ l. isShown (cellLevel level keyIn) (cellGrant level keyIn labelBy grantBy) before (r, chain level keyIn (map (keyOf P) c) r) ∷ l)
+        (shown-cells-by (suc i) _ (take (level r) c ++ (label r ∷ [])) (chain level keyIn (map (keyOf P) c) r) rs (chain-keys c r)))
+
+    held-cells : (bs : List Bool) (i : ℕ) (c : List (List ℕ)) (k : List Key) (rs : List (List ℕ)) → map (keyOf P) c ≡ k
+        → map heldOf (keep bs (storedFrom i rs (map (rightsBy P u) (chains c rs)))) ≡ map heldCell (keep bs (cells level keyIn k rs))
+    unfolding keep storedFrom chains cells
+    held-cells [] i c k rs e = refl
+    held-cells (b ∷ bs) i c k [] e = refl
+    held-cells (true ∷ bs) i c k (r ∷ rs) e =
+        rw (← e, set-keys c r)
+        (ap (λ l. (r, rightsByKeys P u (chain level keyIn (map (keyOf P) c) r)) ∷ l)
+        (held-cells bs (suc i) (take (level r) c ++ (label r ∷ [])) (chain level keyIn (map (keyOf P) c) r) rs (chain-keys c r)))
+    held-cells (false ∷ bs) i c k (r ∷ rs) e =
+        rw (← e)
+        (held-cells bs (suc i) (take (level r) c ++ (label r ∷ [])) (chain level keyIn (map (keyOf P) c) r) rs (chain-keys c r))
+
+    held-shown : (rs : List (List ℕ)) → Nested level 0 rs → map heldOf (shownOf rs) ≡ map heldCell (shownCells level keyIn labelBy grantBy rs)
+    held-shown rs w =
+        held-cells (shown (storedBy rs)) 0 [] [] rs refl
+        ∙ ap (λ bs. map heldCell (keep bs (cells level keyIn [] rs))) (shown-cells-by 0 [] [] [] rs refl)
+        ∙ ap (map heldCell) (sym (shown-cells level keyIn labelBy grantBy rs w))
+
+    abbrev cellNode : RecordCell → Node
+    cellNode p = node (level (p .0)) (labelBy (p .1) (p .0))
+
+    view-cells : (rs : List (List ℕ)) → Nested level 0 rs → view (storedBy rs) ≡ map cellNode (shownCells level keyIn labelBy grantBy rs)
+    view-cells rs w =
+        sym (map-map (λ (x : Held). node (level (x .0)) (heldLabel x)) heldOf (shownOf rs))
+        ∙ ap (map (λ (x : Held). node (level (x .0)) (heldLabel x))) (held-shown rs w)
+        ∙ map-map (λ (x : Held). node (level (x .0)) (heldLabel x)) heldCell (shownCells level keyIn labelBy grantBy rs)
+
+    -- The view is read off the low projection.
+    pub view-low : (rs : List (List ℕ)) → Nested level 0 rs → view (storedBy rs) ≡ nodesOf (lowOf rs)
+    view-low rs w =
+        view-cells rs w
+        ∙ sym (map-map (λ (p : PublicRecord). node (p .level) (p .carried)) (publicOf level keyIn labelBy grantBy) (shownCells level keyIn labelBy grantBy rs))
+        ∙ ap nodesOf (sym (low-shown level keyIn labelBy grantBy rs))
+
+    keys-behind : (ps qs : List RecordCell) → HeldBehind (policyWord P) (map heldCell ps) (map heldCell qs) → KeysBehind level keyIn labelBy grantBy restricted ps qs
+    keys-behind [] qs h = tt
+    keys-behind (x ∷ ps) [] h = tt
+    keys-behind (x ∷ ps) (y ∷ qs) h = ((λ a b. key-same P (label (x .0)) (label (y .0)) (h .0 a b)), keys-behind ps qs (h .1))
+
+    behind-keys : (ps qs : List RecordCell) → KeysBehind level keyIn labelBy grantBy restricted ps qs → HeldBehind (policyWord P) (map heldCell ps) (map heldCell qs)
+    behind-keys [] qs h = tt
+    behind-keys (x ∷ ps) [] h = tt
+    behind-keys (x ∷ ps) (y ∷ qs) h = ((λ a b. same-key P (label (x .0)) (label (y .0)) (h .0 a b)), behind-keys ps qs (h .1))
+
+    -- what a node carries tells its key, unless it is RESTRICTED
+    tells : (c d : List Key) (x y : List ℕ) → labelBy c x ≡ labelBy d y → (keyIn x ≡ keyIn y) ⊎ (labelBy c x ≡ restricted)
+    tells c d x y e = byCase (holds read (rightsByKeys P u c))
+        (λ p. byCase (holds read (rightsByKeys P u d))
+        (λ q. inl (ap (keyOf P) (rw (p, q) at e)))
+        (λ q. inr (rw q at e)))
+        (λ p. inr (rw p))
+
+    module _ (rs qs : List (List ℕ)) (w : Nested level 0 rs) (v : Nested level 0 qs) where
+      -- Trees that look the same, no policy word differing behind RESTRICTED, have the same low projection;
+      pub low-of-alike : view (storedBy rs) ≡ view (storedBy qs) → Behind (policyWord P) (shownOf rs) (shownOf qs) → lowOf rs ≡ lowOf qs
+      low-of-alike e h =
+          let a = shownCells level keyIn labelBy grantBy rs in
+          let b = shownCells level keyIn labelBy grantBy qs in
+          let pair : Node → ℕ × List ℕ = λ n. (levelOf n, labelOf n) in
+          let n : map cellNode a ≡ map cellNode b = sym (view-cells rs w) ∙ e ∙ view-cells qs v in
+          let l : map (look level keyIn labelBy grantBy) a ≡ map (look level keyIn labelBy grantBy) b = sym (map-map pair cellNode a) ∙ ap (map pair) n ∙ map-map pair cellNode b in
+          let k : HeldBehind (policyWord P) (map heldCell a) (map heldCell b) = rw (← held-shown rs w, ← held-shown qs v) (to-held (policyWord P) (shownOf rs) (shownOf qs) h) in
+          low-alike level keyIn labelBy grantBy restricted tells rs qs l (keys-behind a b k)
+
+      -- and back.
+      pub alike-of-low : lowOf rs ≡ lowOf qs → (view (storedBy rs) ≡ view (storedBy qs)) × Behind (policyWord P) (shownOf rs) (shownOf qs)
+      alike-of-low e =
+          let a = shownCells level keyIn labelBy grantBy rs in
+          let b = shownCells level keyIn labelBy grantBy qs in
+          let r = alike-low level keyIn labelBy grantBy restricted rs qs e in
+          let k : HeldBehind (policyWord P) (map heldOf (shownOf rs)) (map heldOf (shownOf qs)) = rw (held-shown rs w, held-shown qs v) (behind-keys a b (r .1)) in
+          (view-low rs w ∙ ap nodesOf e ∙ sym (view-low qs v), from-held (policyWord P) (shownOf rs) (shownOf qs) k)
+
+    -- What a change does
+
+    items-public : (d : ℕ) (ms : List Bool) (c : List (List ℕ)) (k : List Key) (rs : List (List ℕ)) → map (keyOf P) c ≡ k
+        → items (policyWord P) rs (map (rightsBy P u) (chains c rs)) (shownFrom publicLevel (publicGrant grantBy) d (publics level keyIn labelBy grantBy k rs))
+        (inTable (shownFrom publicLevel (publicGrant grantBy) d (publics level keyIn labelBy grantBy k rs)) ms)
+        ≡ allItems publicLevel (publicGrant grantBy) publicSet publicWord d ms (publics level keyIn labelBy grantBy k rs)
+    unfolding items chains publics cells shownFrom inTable allItems
+    items-public d ms c k [] e = refl
+    items-public d ms c k (r ∷ rs) e =
+        let h = chain level keyIn (map (keyOf P) c) r in
+        let p : PublicRecord = publicOf level keyIn labelBy grantBy (r, h) in
+        rw (← e, set-keys c r)
+        (byCase (isShownAt publicLevel (publicGrant grantBy) d p)
+        (λ v. rw (v, first-mark ms, later-marks ms, add-one (level r))
+        (ap₂ _∷_ (λ i. record { level = level r; rights = rightsByKeys P u h; shown = true; selected = isDone ms; word = key-word P (label r) i })
+        (items-public (suc (level r)) (later ms) (take (level r) c ++ (label r ∷ [])) h rs (chain-keys c r))))
+        (λ v. rw v
+        (ap₂ _∷_ (λ i. record { level = level r; rights = rightsByKeys P u h; shown = false; selected = false; word = key-word P (label r) i })
+        (items-public (min d (level r)) ms (take (level r) c ++ (label r ∷ [])) h rs (chain-keys c r)))))
+
+    public-steps : (n : ℕ) (c : List Key) (rs : List (List ℕ)) → Nested level n rs → Nested publicLevel n (publics level keyIn labelBy grantBy c rs)
+    unfolding publics cells
+    public-steps n c [] w = tt
+    public-steps n c (r ∷ rs) w = (w .0, public-steps (suc (level r)) (chain level keyIn c r) rs (w .1))
+
+    shown-public : (rs : List (List ℕ)) → Nested level 0 rs → shown (storedBy rs) ≡ shownFrom publicLevel (publicGrant grantBy) 0 (publics level keyIn labelBy grantBy [] rs)
+    unfolding publics
+    shown-public rs w =
+        shown-cells-by 0 [] [] [] rs refl
+        ∙ sym (shown-map publicLevel (publicGrant grantBy) (publicOf level keyIn labelBy grantBy) [] (cells level keyIn [] rs))
+        ∙ shown-by-depth publicLevel (publicGrant grantBy) (publics level keyIn labelBy grantBy [] rs)
+        (nested-steps publicLevel (publicGrant grantBy) 0 (publics level keyIn labelBy grantBy [] rs) (public-steps 0 [] rs w))
+
+    -- The marks of the records that a change does are taken from the low projection alone.
+    pub done-low : (c : Change) (ms : List Bool) (t : List ℕ) → Nested level 0 (records t)
+        → doneMarks c (policyWord P) t (rightsOn P u (records t)) (inTable (shown (storedBy (records t))) ms)
+        ≡ marks level keyIn labelBy grantBy (doneLow c ms) (records t)
+    unfolding marks lowBelow
+    done-low c ms t w =
+        done-items c (policyWord P) t (rightsOn P u (records t)) (inTable (shown (storedBy (records t))) ms)
+        ∙ ap (λ bs. doneFrom c [] [] (items (policyWord P) (records t) (rightsOn P u (records t)) bs (inTable bs ms))) (shown-public (records t) w)
+        ∙ ap (doneFrom c [] []) (items-public 0 ms [] [] (records t) refl)
+        ∙ done-seen publicLevel (publicGrant grantBy) publicSet publicWord c ms (publics level keyIn labelBy grantBy [] (records t))
