@@ -2,3 +2,4 @@ pub mod Keys
 pub mod Chains
 pub mod Scan
 pub mod KeptNodes
+pub mod Accepted
