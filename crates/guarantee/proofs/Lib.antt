@@ -3,3 +3,4 @@ pub mod Chains
 pub mod Scan
 pub mod KeptNodes
 pub mod Accepted
+pub mod Identity

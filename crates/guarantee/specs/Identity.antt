@@ -1,12 +1,12 @@
 -- Which node is which (document 01, "What demand 3 compares"): "A change keeps every node that it does not remove, renamed or not, and kept nodes keep their
 -- order. Inserted nodes are new. A removed node never comes back, whatever uses its record." And the sentence on rights.
 -- A node is followed by a tag that its record carries; a node that came later has none.
-use Prim.Native.Nat.{ℕ, suc, _≤_, _<_}
+use Prim.Native.Nat.{ℕ, zero, suc, _≤_, _<_}
 use mathlib.Core.Path.{_≡_}
-use mathlib.Core.Bool.{Bool, true, false}
+use mathlib.Core.Bool.{true}
 use mathlib.Core.List.{List, [], _∷_, map, Sublistᴰ}
 use mathlib.Core.Option.{Option, none, some}
-use lib.ListN.{length}
+use lib.ListN.{length, getD}
 use Rattle.rights.specs.Policy.{Policy}
 use Rattle.rights.specs.Rights.{rightsOn}
 use Rattle.rights.specs.Table.{records, level}
@@ -20,7 +20,7 @@ use Rattle.lines.specs.AnswerChoice.{Choice}
 use Rattle.lines.specs.Form.{readForm, treeIn}
 use Rattle.lines.specs.State.{stageC, stage, policyIn, storeOk}
 use Rattle.lines.specs.Step.{Reply, says, refuses}
-use Rattle.lines.specs.StepTree.{rootAlone, doneIn, changeAt}
+use Rattle.lines.specs.StepTree.{rootAlone, doneIn}
 use Rattle.lines.specs.Tree.{recordsOf}
 use Rattle.lines.specs.Line.{bytesOf}
 use Rattle.lines.specs.declared.form.Form.{Form}
@@ -124,3 +124,30 @@ RightsKept =
     (choice : Choice) (s t : List ℕ) → storeOk s t ≡ true → stageC ≤ stage s → (is : List Input) (ns : List Tagged)
     → map (λ n. n .0) ns ≡ records t → (u : ℕ) → u < length (policyIn s .names)
     → Sublistᴰ (keptRights (policyIn (stateAfter choice s t is)) u (followAll choice s t is ns)) (keptRights (policyIn s) u ns)
+
+-- The same in plain words, with the nodes of the first table numbered 0, 1, 2, ..
+
+abbrev pub numbered : ℕ → List (List ℕ) → List Tagged
+numbered i [] = []
+numbered i (r ∷ rs) = (r, some i) ∷ numbered (suc i) rs
+
+abbrev pub tagAt : List Tagged → ℕ → Option ℕ
+tagAt [] k = none
+tagAt (n ∷ ns) zero = n .1
+tagAt (n ∷ ns) (suc k) = tagAt ns k
+
+-- node k of the last table was node i of the first
+abbrev pub Was : Choice → List ℕ → List ℕ → List Input → ℕ → ℕ → Type 0
+Was choice s t is k i = tagAt (followAll choice s t is (numbered 0 (records t))) k ≡ some i
+
+-- "kept nodes keep their order", and no two nodes of the last table were one node of the first: a removed node never comes back
+abbrev pub OrderKept : Type 0
+OrderKept =
+    (choice : Choice) (s t : List ℕ) (is : List Input) (k k' i i' : ℕ) → Was choice s t is k i → Was choice s t is k' i' → k < k' → i < i'
+
+-- a node of the last table that was in the first carries the rights there that it carried then, whoever asks
+abbrev pub SameRights : Type 0
+SameRights =
+    (choice : Choice) (s t : List ℕ) → storeOk s t ≡ true → stageC ≤ stage s → (is : List Input) (u : ℕ) → u < length (policyIn s .names)
+    → (k i : ℕ) → Was choice s t is k i
+    → getD (rightsOn (policyIn (stateAfter choice s t is)) u (records (tableAfter choice s t is))) k 0 ≡ getD (rightsOn (policyIn s) u (records t)) i 0
