@@ -27,7 +27,7 @@ use Rattle.guarantee.specs.Identity.{Tagged, taggedLevel, new, newTree, 
 
 -- The records of the nodes that are followed
 
-records-new : (rs : List (List ℕ)) → map (λ n. n .0) (new rs) ≡ rs
+pub records-new : (rs : List (List ℕ)) → map (λ n. n .0) (new rs) ≡ rs
 records-new [] = refl
 records-new (r ∷ rs) = ap (λ l. r ∷ l) (records-new rs)
 

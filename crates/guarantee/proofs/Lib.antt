@@ -4,3 +4,4 @@ pub mod Scan
 pub mod KeptNodes
 pub mod Accepted
 pub mod Identity
+pub mod RightsKept
