@@ -5,3 +5,4 @@ pub mod KeptNodes
 pub mod Accepted
 pub mod Identity
 pub mod RightsKept
+pub mod SessionKept
