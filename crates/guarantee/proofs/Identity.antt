@@ -1,6 +1,8 @@
 -- Which node is which: every node but those that a removal takes stays the same node, in order; inserted nodes are new; and the nodes that are followed are those of
 -- the table. Assumes nothing.
-use Prim.Native.Nat.{ℕ, zero, suc, _<_}
+use Prim.Native.Nat.{ℕ, zero, suc, _≤_, _<_}
+use mathlib.Core.Bool.{true}
+use mathlib.Core.Logic.{_⊎_, inl, inr}
 use mathlib.Core.Path.{_≡_, refl, ap}
 use mathlib.Core.List.{List, [], _∷_, map, Sublistᴰ, Sublistᴰ·slnil, Sublistᴰ·cons, Sublistᴰ·cons-cons, Sublistᴰ·refl, Sublistᴰ·trans, Sublistᴰ·nil-sublist}
 use mathlib.Core.Option.{Option, none, some}
@@ -14,16 +16,21 @@ use Rattle.views.specs.declared.insert.Place.{Place}
 use Rattle.views.specs.declared.insert.Place.the-variants as place
 use Rattle.views.proofs.KeptLaws.{tags-remove, tags-insertBehind, tags-insertInFront, tags-rename}
 use Rattle.views.proofs.Mapped.{map-remove, map-insertBehind, map-insertInFront, map-rename}
+use Rattle.views.proofs.NodeLaws.{remove-only}
 use Rattle.lines.specs.AnswerChoice.{Choice}
 use Rattle.lines.specs.Form.{readForm, treeIn}
 use Rattle.lines.specs.Step.{Reply, says, refuses}
 use Rattle.lines.specs.StepTree.{rootAlone, doneIn}
 use Rattle.lines.specs.Tree.{recordsOf}
-use Rattle.lines.specs.Line.{bytesOf}
+use Rattle.lines.specs.Line.{stageOf, inStage, bytesOf}
+use Rattle.lines.specs.State.{stageC, stage}
+use Rattle.lines.specs.declared.form.Part.{Part}
 use Rattle.lines.specs.declared.form.Form.{Form}
 use Rattle.lines.specs.declared.form.Form.the-variants.{Subject, Isa, Rule, Root, Child, User, View, Query, Find, Rename, Update, Append, Before, After, Remove, NoForm}
 use Rattle.guarantee.specs.Alike.{Input, outcome}
-use Rattle.guarantee.specs.Identity.{Tagged, taggedLevel, new, newTree, afterInsert, afterRename, afterRemove, afterForm, afterReply, follow, followAll, numbered, tagAt, OrderKept}
+use Rattle.guarantee.specs.Identity.{Tagged, taggedLevel, new, newTree, afterInsert, afterRename, afterRemove, afterForm, afterReply, follow, followAll, numbered, tagAt, NodesKept, NodesRemoved, OrderKept}
+use Rattle.guarantee.proofs.Accepted.{Refused, Accepted, line-cases}
+use Rattle.guarantee.proofs.SessionKept.{before-root}
 
 -- The records of the nodes that are followed
 
@@ -106,6 +113,39 @@ unfolding followAll
 tags-all choice s t [] ns = Sublistᴰ·refl _
 tags-all choice s t (i ∷ is) ns =
     Sublistᴰ·trans (tags-all choice (outcome choice s t i .state) (outcome choice s t i .table) is (follow choice s t i ns)) (tags-follow choice s t i ns)
+
+-- "A change keeps every node that it does not remove"
+tags-same : (f : Form) (s t t' line : List ℕ) (ns : List Tagged) → inStage (stageOf f) (stage s) ≡ true → stageC ≤ stage s → ((p : Part) → f ≡ Remove p → ⊥)
+    → tags tagOf (afterForm f s t t' line ns) ≡ tags tagOf ns
+tags-same (Subject n) s t t' line ns i h k = refl
+tags-same (Isa n r) s t t' line ns i h k = refl
+tags-same (Rule a b p n) s t t' line ns i h k = refl
+tags-same (Root l) s t t' line ns i h k = absurd (omega (arith, before-root (stage s) i))
+tags-same (Child m) s t t' line ns i h k = tags-insert place.Append m (recordsOf (treeIn line)) rootAlone ns
+tags-same (User n) s t t' line ns i h k = refl
+tags-same View s t t' line ns i h k = refl
+tags-same (Query p) s t t' line ns i h k = refl
+tags-same (Find p) s t t' line ns i h k = refl
+tags-same (Rename p l) s t t' line ns i h k = tags-relabel (bytesOf line l) (doneIn change.Rename s t (bytesOf line p)) ns
+tags-same (Update p l) s t t' line ns i h k = tags-relabel (bytesOf line l) (doneIn change.Update s t (bytesOf line p)) ns
+tags-same (Append p m) s t t' line ns i h k = tags-insert place.Append m (recordsOf (treeIn line)) (doneIn change.Append s t (bytesOf line p)) ns
+tags-same (Before p m) s t t' line ns i h k = tags-insert place.Before m (recordsOf (treeIn line)) (doneIn change.Before s t (bytesOf line p)) ns
+tags-same (After p m) s t t' line ns i h k = tags-insert place.After m (recordsOf (treeIn line)) (doneIn change.After s t (bytesOf line p)) ns
+tags-same (Remove p) s t t' line ns i h k = absurd (k p refl)
+tags-same NoForm s t t' line ns i h k = refl
+
+pub nodes-kept : NodesKept
+unfolding follow
+nodes-kept choice s t h i ns k = go (line-cases choice s t (i .line) (i .room))
+  where
+    go : Refused s t (outcome choice s t i) ⊎ Accepted choice s t (i .line) (i .room)
+        → tags tagOf (afterReply (outcome choice s t i .reply) (readForm (i .line)) s t (outcome choice s t i .table) (i .line) ns) ≡ tags tagOf ns
+    go (inl x) = rw (x .is)
+    go (inr x) = rw (x .reply) (tags-same (readForm (i .line)) s t (outcome choice s t i .table) (i .line) ns (x .taken .in-stage) h k)
+
+pub nodes-removed : NodesRemoved
+unfolding follow
+nodes-removed choice s t i ns p text e q = rw (q, e) (remove-only taggedLevel (marksOf (doneIn change.Remove s t (bytesOf (i .line) p))) ns)
 
 -- Numbers as tags
 

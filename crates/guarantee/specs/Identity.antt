@@ -3,7 +3,7 @@
 -- A node is followed by a tag that its record carries; a node that came later has none.
 use Prim.Native.Nat.{ℕ, zero, suc, _≤_, _<_}
 use mathlib.Core.Path.{_≡_}
-use mathlib.Core.Bool.{true}
+use mathlib.Core.Bool.{true, not}
 use mathlib.Core.List.{List, [], _∷_, map, Sublistᴰ}
 use mathlib.Core.Option.{Option, none, some}
 use lib.ListN.{length, getD}
@@ -11,7 +11,7 @@ use Rattle.rights.specs.Policy.{Policy}
 use Rattle.rights.specs.Rights.{rightsOn}
 use Rattle.rights.specs.Table.{records, level}
 use Rattle.views.specs.Marks.{marksOf}
-use Rattle.views.specs.Nodes.{tags}
+use Rattle.views.specs.Nodes.{goes, only, tags}
 use Rattle.views.specs.Change.{chunks, raise, relabel, remove, append, insertAfter, insertBefore, rename}
 use Rattle.views.specs.declared.done.Change.the-variants as change
 use Rattle.views.specs.declared.insert.Place.{Place}
@@ -23,6 +23,7 @@ use Rattle.lines.specs.Step.{Reply, says, refuses}
 use Rattle.lines.specs.StepTree.{rootAlone, doneIn}
 use Rattle.lines.specs.Tree.{recordsOf}
 use Rattle.lines.specs.Line.{bytesOf}
+use Rattle.lines.specs.declared.form.Part.{Part}
 use Rattle.lines.specs.declared.form.Form.{Form}
 use Rattle.lines.specs.declared.form.Form.the-variants.{Subject, Isa, Rule, Root, Child, User, View, Query, Find, Rename, Update, Append, Before, After, Remove, NoForm}
 use Rattle.guarantee.specs.Alike.{Input, outcome}
@@ -110,6 +111,19 @@ stateAfter choice s t (i ∷ is) = stateAfter choice (outcome choice s t i .stat
 unfoldable pub tableAfter : Choice → List ℕ → List ℕ → List Input → List ℕ
 tableAfter choice s t [] = t
 tableAfter choice s t (i ∷ is) = tableAfter choice (outcome choice s t i .state) (outcome choice s t i .table) is
+
+-- "A change keeps every node that it does not remove": from the root line on, only `(remove P)` takes nodes away;
+abbrev pub NodesKept : Type 0
+NodesKept =
+    (choice : Choice) (s t : List ℕ) → stageC ≤ stage s → (i : Input) (ns : List Tagged) → ((p : Part) → readForm (i .line) ≡ Remove p → ⊥)
+    → tags (λ n. n .1) (follow choice s t i ns) ≡ tags (λ n. n .1) ns
+
+-- and it takes those that are done, and those below them (`goes`, views/specs/Nodes.antt), no others.
+abbrev pub NodesRemoved : Type 0
+NodesRemoved =
+    (choice : Choice) (s t : List ℕ) (i : Input) (ns : List Tagged) (p : Part) (text : List ℕ) → readForm (i .line) ≡ Remove p
+    → outcome choice s t i .reply ≡ says text
+    → follow choice s t i ns ≡ only (λ k. not (goes taggedLevel (marksOf (doneIn change.Remove s t (bytesOf (i .line) p))) ns k)) ns
 
 -- The nodes that are followed are those of the table: nothing else decides which node is which.
 abbrev pub Follows : Type 0
