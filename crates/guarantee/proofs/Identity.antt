@@ -28,7 +28,7 @@ use Rattle.lines.specs.declared.form.Part.{Part}
 use Rattle.lines.specs.declared.form.Form.{Form}
 use Rattle.lines.specs.declared.form.Form.the-variants.{Subject, Isa, Rule, Root, Child, User, View, Query, Find, Rename, Update, Append, Before, After, Remove, NoForm}
 use Rattle.guarantee.specs.Alike.{Input, outcome}
-use Rattle.guarantee.specs.Identity.{Tagged, taggedLevel, new, newTree, afterInsert, afterRename, afterRemove, afterForm, afterReply, follow, followAll, numbered, tagAt, NodesKept, NodesRemoved, OrderKept}
+use Rattle.guarantee.specs.Identity.{Tagged, taggedLevel, new, newTree, afterInsert, afterRename, afterRemove, afterForm, afterReply, follow, followAll, numbered, tagAt, NodesKept, NodesRemoved, NoneBack, OrderKept}
 use Rattle.guarantee.proofs.Accepted.{Refused, Accepted, line-cases}
 use Rattle.guarantee.proofs.SessionKept.{before-root}
 
@@ -108,11 +108,11 @@ unfolding follow
 tags-follow choice s t i ns = tags-reply (outcome choice s t i .reply) (readForm (i .line)) s t (outcome choice s t i .table) (i .line) ns
 
 -- after any lines, whatever the store: the kept nodes are some of those at first, in order
-pub tags-all : (choice : Choice) (s t : List ℕ) (is : List Input) (ns : List Tagged) → Sublistᴰ (tags tagOf (followAll choice s t is ns)) (tags tagOf ns)
+pub none-back : NoneBack
 unfolding followAll
-tags-all choice s t [] ns = Sublistᴰ·refl _
-tags-all choice s t (i ∷ is) ns =
-    Sublistᴰ·trans (tags-all choice (outcome choice s t i .state) (outcome choice s t i .table) is (follow choice s t i ns)) (tags-follow choice s t i ns)
+none-back choice s t [] ns = Sublistᴰ·refl _
+none-back choice s t (i ∷ is) ns =
+    Sublistᴰ·trans (none-back choice (outcome choice s t i .state) (outcome choice s t i .table) is (follow choice s t i ns)) (tags-follow choice s t i ns)
 
 -- "A change keeps every node that it does not remove"
 tags-same : (f : Form) (s t t' line : List ℕ) (ns : List Tagged) → inStage (stageOf f) (stage s) ≡ true → stageC ≤ stage s → ((p : Part) → f ≡ Remove p → ⊥)
@@ -195,4 +195,4 @@ tags-rise ((r, some j) ∷ ns) (suc k) (suc k') i i' a e f h = tags-rise ns k k'
 pub order-kept : OrderKept
 order-kept choice s t is k k' i i' e f h =
     tags-rise (followAll choice s t is (numbered 0 (records t))) k k' i i'
-    (rises-part (tags-all choice s t is (numbered 0 (records t))) (numbers-rise 0 (records t))) e f h
+    (rises-part (none-back choice s t is (numbered 0 (records t))) (numbers-rise 0 (records t))) e f h

@@ -125,6 +125,11 @@ NodesRemoved =
     → outcome choice s t i .reply ≡ says text
     → follow choice s t i ns ≡ only (λ k. not (goes taggedLevel (marksOf (doneIn change.Remove s t (bytesOf (i .line) p))) ns k)) ns
 
+-- "A removed node never comes back, whatever uses its record": after any lines the nodes that carry a tag are some of those that did before, in order.
+abbrev pub NoneBack : Type 0
+NoneBack =
+    (choice : Choice) (s t : List ℕ) (is : List Input) (ns : List Tagged) → Sublistᴰ (tags (λ n. n .1) (followAll choice s t is ns)) (tags (λ n. n .1) ns)
+
 -- The nodes that are followed are those of the table: nothing else decides which node is which.
 abbrev pub Follows : Type 0
 Follows =
@@ -154,12 +159,12 @@ tagAt (n ∷ ns) (suc k) = tagAt ns k
 abbrev pub Was : Choice → List ℕ → List ℕ → List Input → ℕ → ℕ → Type 0
 Was choice s t is k i = tagAt (followAll choice s t is (numbered 0 (records t))) k ≡ some i
 
--- "kept nodes keep their order", and no two nodes of the last table were one node of the first: a removed node never comes back
+-- "kept nodes keep their order", and no two nodes of the last table were one node of the first
 abbrev pub OrderKept : Type 0
 OrderKept =
     (choice : Choice) (s t : List ℕ) (is : List Input) (k k' i i' : ℕ) → Was choice s t is k i → Was choice s t is k' i' → k < k' → i < i'
 
--- a node of the last table that was in the first carries the rights there that it carried then, whoever asks
+-- a node of the last table that was in the first: every declared subject has the rights on it that it had then
 abbrev pub SameRights : Type 0
 SameRights =
     (choice : Choice) (s t : List ℕ) → storeOk s t ≡ true → stageC ≤ stage s → (is : List Input) (u : ℕ) → u < length (policyIn s .names)
