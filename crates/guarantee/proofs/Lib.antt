@@ -6,3 +6,5 @@ pub mod Accepted
 pub mod Identity
 pub mod RightsKept
 pub mod SessionKept
+pub mod FormParts
+pub mod TreeRecords

@@ -1,0 +1,107 @@
+-- The records of a tree that was read may be inserted, if none of its labels is RESTRICTED. Assumes nothing.
+use Prim.Native.Nat.{ℕ, zero, suc, _+_, _≤_, min}
+use mathlib.Core.Path.{_≡_, refl, sym, ap, _∙_}
+use mathlib.Core.Bool.{Bool, true, false, _||_}
+use mathlib.Core.List.{List, [], _∷_, _++_, append-nil}
+use native.Mathlib.Omega.{arith}
+use lib.ListN.{length, take, drop}
+use lib.Seq.{take-at, drop-at}
+use Rattle.rights.specs.Labels.{sameLabel, restricted}
+use Rattle.rights.specs.Policy.{some}
+use Rattle.rights.specs.Record.{recordOf}
+use Rattle.rights.specs.Table.{level, label, recordOk}
+use Rattle.rights.proofs.RecordLaws.{length-record}
+use Rattle.rights.proofs.RecordMade.{made-ok, level-made, label-made}
+use Rattle.views.specs.Change.{chunks}
+use Rattle.views.specs.Nodes.{All, Nested, TreeOk}
+use Rattle.lines.specs.StepTree.{treeRestricted}
+use Rattle.lines.specs.Tree.{Node, node, held, recordsOf}
+use Rattle.lines.specs.TreeText.{Tree, tree, Trees, none, more, GoodLabel, GoodTree, GoodTrees, nodesOf, nodesIn}
+use Rattle.lines.specs.Form.{treeIn}
+use Rattle.lines.proofs.StoredSteps.{or-none}
+use Rattle.guarantee.proofs.FormParts.{TreeSaid}
+
+abbrev nodeLevel : Node → ℕ
+nodeLevel (node l x) = l
+
+abbrev Labelled : Node → Type 0
+Labelled (node l x) = GoodLabel x
+
+-- each node of a tree is at most one level deeper than the one before it, and its label is good
+mutual
+  unfolding nodesOf nodesIn GoodTree GoodTrees
+
+  tree-nested : (t : Tree) (k n : ℕ) (rest : List Node) → k ≤ n → ((j : ℕ) → k ≤ j → Nested nodeLevel j rest) → Nested nodeLevel n (nodesOf k t ++ rest)
+  tree-nested (tree l ts) k n rest h w = (h, trees-nested ts (suc k) (suc k) rest (omega arith) (λ j i. w j (omega arith)))
+
+  trees-nested : (ts : Trees) (k n : ℕ) (rest : List Node) → k ≤ n → ((j : ℕ) → k ≤ j → Nested nodeLevel j rest) → Nested nodeLevel n (nodesIn k ts ++ rest)
+  trees-nested none k n rest h w = w n h
+  trees-nested (more t ts) k n rest h w =
+      rw (mathlib.Core.List.append-assoc (nodesOf k t) (nodesIn k ts) rest)
+      (tree-nested t k n (nodesIn k ts ++ rest) h (λ j i. trees-nested ts k j rest i w))
+
+mutual
+  unfolding nodesOf nodesIn GoodTree GoodTrees
+
+  tree-labels : (t : Tree) (k : ℕ) (rest : List Node) → GoodTree t → All Labelled rest → All Labelled (nodesOf k t ++ rest)
+  tree-labels (tree l ts) k rest g a = (g .0, trees-labels ts (suc k) rest (g .1) a)
+
+  trees-labels : (ts : Trees) (k : ℕ) (rest : List Node) → GoodTrees ts → All Labelled rest → All Labelled (nodesIn k ts ++ rest)
+  trees-labels none k rest g a = a
+  trees-labels (more t ts) k rest g a =
+      rw (mathlib.Core.List.append-assoc (nodesOf k t) (nodesIn k ts) rest)
+      (tree-labels t k (nodesIn k ts ++ rest) (g .0) (trees-labels ts k rest (g .1) a))
+
+-- the record of a node
+level-cleared : (l : ℕ) (x : List ℕ) → 0 ∷ drop 1 (recordOf l x) ≡ recordOf 0 x
+unfolding recordOf
+level-cleared l x = refl
+
+abbrev Storable : List ℕ → Type 0
+Storable r = (length r ≡ 32) × (recordOk 0 11 (0 ∷ drop 1 r) ≡ true)
+
+record-storable : (l : ℕ) (x : List ℕ) → GoodLabel x → sameLabel x restricted ≡ false → Storable (recordOf l x)
+record-storable l x g f = (length-record l x (g .1), rw (level-cleared l x) (made-ok 0 11 0 x (omega arith) (omega arith) (omega arith) (g .0) (g .1) (g .2) f))
+
+-- the records of nodes
+abbrev pub nodeRecords : List Node → List (List ℕ)
+nodeRecords [] = []
+nodeRecords (node l x ∷ ns) = recordOf (held l) x ∷ nodeRecords ns
+
+chunks-nodes : (ns : List Node) → All Labelled ns → chunks (length ns) (recordsOf ns) ≡ nodeRecords ns
+unfolding chunks recordsOf
+chunks-nodes [] a = refl
+chunks-nodes (node l x ∷ ns) a =
+    let n = length-record (held l) x (a .0 .1) in
+    rw (take-at (recordOf (held l) x) (recordsOf ns) 32 n, drop-at (recordOf (held l) x) (recordsOf ns) 32 n)
+    (ap (λ (rs : List (List ℕ)). recordOf (held l) x ∷ rs) (chunks-nodes ns (a .1)))
+
+nodes-nested : (ns : List Node) (n m : ℕ) → held n ≤ m → Nested nodeLevel n ns → Nested level m (nodeRecords ns)
+nodes-nested [] n m h w = tt
+nodes-nested (node l x ∷ ns) n m h w =
+    let i : l ≤ n = w .0 in
+    rw (level-made (held l) x) (omega (arith, i, h), nodes-nested ns (suc l) (suc (held l)) (omega arith) (w .1))
+
+nodes-storable : (ns : List Node) → All Labelled ns → some (λ r. sameLabel (label r) restricted) (nodeRecords ns) ≡ false → All Storable (nodeRecords ns)
+unfolding some
+nodes-storable [] a e = tt
+nodes-storable (node l x ∷ ns) a e =
+    let p = or-none (sameLabel (label (recordOf (held l) x)) restricted) (some (λ r. sameLabel (label r) restricted) (nodeRecords ns)) e in
+    let f : sameLabel x restricted ≡ false = sym (ap (λ (y : List ℕ). sameLabel y restricted) (label-made (held l) x)) ∙ p .0 in
+    (record-storable (held l) x (a .0) f, nodes-storable ns (a .1) (p .1))
+
+-- the records that a line's tree has
+said-labels : (line : List ℕ) (m : ℕ) (x : TreeSaid line m) → All Labelled (nodesOf 0 (x .is))
+said-labels line m x = rw (append-nil (nodesOf 0 (x .is))) at (tree-labels (x .is) 0 [] (x .good) tt)
+
+pub tree-records : (line : List ℕ) (m : ℕ) (x : TreeSaid line m) → chunks m (recordsOf (treeIn line)) ≡ nodeRecords (nodesOf 0 (x .is))
+tree-records line m x = rw (x .nodes, x .size) (chunks-nodes (nodesOf 0 (x .is)) (said-labels line m x))
+
+-- "9 RESTRICTED as a label of .. child, inserted tree": a line's tree that is not refused so may be inserted.
+pub tree-ok : (line : List ℕ) (m : ℕ) → TreeSaid line m → treeRestricted m (recordsOf (treeIn line)) ≡ false → TreeOk (chunks m (recordsOf (treeIn line)))
+unfolding treeRestricted
+tree-ok line m x e =
+    let ns : List Node = nodesOf 0 (x .is) in
+    let w : Nested nodeLevel 0 ns = rw (append-nil ns) at (tree-nested (x .is) 0 0 [] (omega arith) (λ j i. tt)) in
+    let f : some (λ r. sameLabel (label r) restricted) (nodeRecords ns) ≡ false = rw (tree-records line m x) at e in
+    rw (tree-records line m x) (record { nested = nodes-nested ns 0 0 (omega arith) w; labels = nodes-storable ns (said-labels line m x) f })
