@@ -61,9 +61,10 @@ module _ (s : List ℕ) (a : ℕ) (w r : List ℕ) (e : drop a s ≡ 32 ∷ (w +
 said-good : (f : Said) → Good f → PartsGood (placed f) (write f)
 unfolding write writePiece GoodPiece
 said-good (subject n) g = part-good (write (subject n)) 8 n (41 ∷ []) refl (g .0)
-said-good (isa n r) g =
-    (part-good (write (isa n r)) 4 n (32 ∷ (r ++ (41 ∷ []))) refl (g .0),
-      part-good (write (isa n r)) (4 + 1 + length n) r (41 ∷ []) (part-next (write (isa n r)) 4 n (32 ∷ (r ++ (41 ∷ []))) refl) (g .1 .0))
+said-good (isa n r) g = (
+  part-good (write (isa n r)) 4 n (32 ∷ (r ++ (41 ∷ []))) refl (g .0),
+  part-good (write (isa n r)) (4 + 1 + length n) r (41 ∷ []) (part-next (write (isa n r)) 4 n (32 ∷ (r ++ (41 ∷ []))) refl) (g .1 .0),
+)
 said-good (rule b r p n) g = (r, written-rule b r p n .1)
 said-good (root l) g = part-good (write (root l)) 5 l (41 ∷ []) refl (g .0)
 said-good (child t) g = record { is = t; good = g .0; nodes = written-tree (child t) g; size = ap length (written-tree (child t) g) }

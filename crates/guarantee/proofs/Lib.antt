@@ -8,3 +8,4 @@ pub mod RightsKept
 pub mod SessionKept
 pub mod FormParts
 pub mod TreeRecords
+pub mod TableAfter
