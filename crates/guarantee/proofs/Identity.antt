@@ -3,7 +3,7 @@
 use Prim.Native.Nat.{ℕ, zero, suc, _≤_, _<_}
 use mathlib.Core.Bool.{true}
 use mathlib.Core.Logic.{_⊎_, inl, inr}
-use mathlib.Core.Path.{_≡_, refl, ap}
+use mathlib.Core.Path.{_≡_, refl, sym, ap, _∙_}
 use mathlib.Core.List.{List, [], _∷_, map, Sublistᴰ, Sublistᴰ·slnil, Sublistᴰ·cons, Sublistᴰ·cons-cons, Sublistᴰ·refl, Sublistᴰ·trans, Sublistᴰ·nil-sublist}
 use mathlib.Core.Option.{Option, none, some}
 use native.Mathlib.Omega.{arith}
@@ -28,13 +28,14 @@ use Rattle.lines.specs.declared.form.Part.{Part}
 use Rattle.lines.specs.declared.form.Form.{Form}
 use Rattle.lines.specs.declared.form.Form.the-variants.{Subject, Isa, Rule, Root, Child, User, View, Query, Find, Rename, Update, Append, Before, After, Remove, NoForm}
 use Rattle.guarantee.specs.Alike.{Input, outcome}
-use Rattle.guarantee.specs.Identity.{Tagged, taggedLevel, new, newTree, afterInsert, afterRename, afterRemove, afterForm, afterReply, follow, followAll, numbered, tagAt, NodesKept, NodesRemoved, NoneBack, OrderKept}
+use Rattle.guarantee.specs.Identity.{Tagged, taggedLevel, new, newTree, afterInsert, afterRename, afterRemove, afterForm, afterReply, follow, followAll, tableAfter, Follows, numbered, tagAt, NodesKept, NodesRemoved, NoneBack, OrderKept}
 use Rattle.guarantee.proofs.Accepted.{Refused, Accepted, line-cases}
 use Rattle.guarantee.proofs.SessionKept.{before-root}
+use Rattle.guarantee.proofs.TableAfter.{recordsAfter, table-after}
 
 -- The records of the nodes that are followed
 
-pub records-new : (rs : List (List ℕ)) → map (λ n. n .0) (new rs) ≡ rs
+records-new : (rs : List (List ℕ)) → map (λ n. n .0) (new rs) ≡ rs
 records-new [] = refl
 records-new (r ∷ rs) = ap (λ l. r ∷ l) (records-new rs)
 
@@ -55,6 +56,57 @@ records-insert place.After m tree ms ns =
 records-insert place.Before m tree ms ns =
     map-insertInFront taggedLevel level (λ n. n .0) (λ n. refl) (λ n. newTree m tree (taggedLevel n)) (λ r. raise (level r) (chunks m tree))
     (λ n. records-new (raise (taggedLevel n) (chunks m tree))) (marksOf ms) ns
+
+module _ (s t line t' : List ℕ) (ns : List Tagged) (e : map (λ n. n .0) ns ≡ records t) where
+  abbrev tree : List ℕ
+  tree = recordsOf (treeIn line)
+
+  inserted : (at : Place) (m : ℕ) (ms : List ℕ) → records t' ≡ placed at m tree ms (records t) → map (λ n. n .0) (afterInsert at m tree ms ns) ≡ records t'
+  inserted at m ms h = records-insert at m tree ms ns ∙ ap (placed at m tree ms) e ∙ sym h
+
+  relabelled : (l ms : List ℕ) → records t' ≡ renamed l ms (records t) → map (λ n. n .0) (afterRename l ms ns) ≡ records t'
+  relabelled l ms h = records-rename l ms ns ∙ ap (renamed l ms) e ∙ sym h
+
+  -- the nodes after an accepted line are the records of the new table
+  follows-form : (f : Form) → records t' ≡ recordsAfter f s t line → map (λ n. n .0) (afterForm f s t t' line ns) ≡ records t'
+  follows-form (Subject n) h = e ∙ sym h
+  follows-form (Isa n r) h = e ∙ sym h
+  follows-form (Rule a b p n) h = e ∙ sym h
+  follows-form (Root l) h = records-new (records t')
+  follows-form (Child m) h = inserted place.Append m rootAlone h
+  follows-form (User n) h = e ∙ sym h
+  follows-form View h = e ∙ sym h
+  follows-form (Query p) h = e ∙ sym h
+  follows-form (Find p) h = e ∙ sym h
+  follows-form (Rename p l) h = relabelled (bytesOf line l) (doneIn change.Rename s t (bytesOf line p)) h
+  follows-form (Update p l) h = relabelled (bytesOf line l) (doneIn change.Update s t (bytesOf line p)) h
+  follows-form (Append p m) h = inserted place.Append m (doneIn change.Append s t (bytesOf line p)) h
+  follows-form (Before p m) h = inserted place.Before m (doneIn change.Before s t (bytesOf line p)) h
+  follows-form (After p m) h = inserted place.After m (doneIn change.After s t (bytesOf line p)) h
+  follows-form (Remove p) h =
+      let ms : List ℕ = doneIn change.Remove s t (bytesOf line p) in
+      records-remove ms ns ∙ ap (removed ms) e ∙ sym h
+  follows-form NoForm h = e ∙ sym h
+
+-- one line
+module _ (choice : Choice) (s t : List ℕ) (i : Input) (ns : List Tagged) (e : map (λ n. n .0) ns ≡ records t) where
+  pub follows-line : map (λ n. n .0) (follow choice s t i ns) ≡ records (outcome choice s t i .table)
+  unfolding follow
+  follows-line = go (line-cases choice s t (i .line) (i .room))
+    where
+      go : Refused s t (outcome choice s t i) ⊎ Accepted choice s t (i .line) (i .room)
+          → map (λ n. n .0) (afterReply (outcome choice s t i .reply) (readForm (i .line)) s t (outcome choice s t i .table) (i .line) ns) ≡ records (outcome choice s t i .table)
+      go (inl x) = rw (x .is) e
+      go (inr x) =
+          rw (x .reply) (follows-form s t (i .line) (outcome choice s t i .table) ns e (readForm (i .line))
+          (table-after choice s t (i .line) (x .text) (outcome choice s t i .state) (outcome choice s t i .table) (x .taken) .held))
+
+-- any lines
+pub follows : Follows
+unfolding followAll tableAfter
+follows choice s t [] ns e = e
+follows choice s t (i ∷ is) ns e =
+    follows choice (outcome choice s t i .state) (outcome choice s t i .table) is (follow choice s t i ns) (follows-line choice s t i ns e)
 
 -- The tags
 

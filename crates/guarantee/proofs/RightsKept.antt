@@ -1,7 +1,6 @@
--- Demand 3's sentence on rights: over any lines, what every declared subject may do on the kept nodes stays as it was. And the nodes that are followed are those of
--- the table. Assumes nothing.
+-- Demand 3's sentence on rights: over any lines, what every declared subject may do on the kept nodes stays as it was. Assumes nothing.
 use Prim.Native.Nat.{ℕ, zero, suc, _+_, _≤_, _<_}
-use mathlib.Core.Bool.{Bool, true, false, _||_}
+use mathlib.Core.Bool.{true}
 use mathlib.Core.Logic.{_⊎_, inl, inr}
 use mathlib.Core.Path.{_≡_, refl, sym, ap, _∙_}
 use mathlib.Core.List.{List, [], _∷_, map, Sublistᴰ, Sublistᴰ·refl, Sublistᴰ·trans}
@@ -13,105 +12,32 @@ use Rattle.rights.specs.Policy.{Policy, policyWord}
 use Rattle.rights.specs.PolicyBytes.{policyOf}
 use Rattle.rights.specs.Rights.{rightsBy, chains, rightsOn}
 use Rattle.rights.specs.Table.{records, level}
-use Rattle.views.specs.Change.{chunks, placed, removed, renamed}
 use Rattle.views.specs.Nodes.{All, Nested, tags}
+use Rattle.views.specs.declared.done.Change.{Change}
 use Rattle.views.specs.declared.done.Change.the-variants as change
+use Rattle.views.specs.declared.insert.Place.{Place}
 use Rattle.views.specs.declared.insert.Place.the-variants as place
 use Rattle.lines.specs.AnswerChoice.{Choice}
 use Rattle.lines.specs.Form.{readForm, treeIn}
 use Rattle.lines.specs.State.{stageC, stage, policyIn, storeOk}
 use Rattle.lines.specs.StepTree.{rootAlone, doneIn}
 use Rattle.lines.specs.Tree.{recordsOf}
-use Rattle.lines.specs.Line.{stageOf, inStage, bytesOf, step}
+use Rattle.lines.specs.Line.{stageOf, inStage, bytesOf}
 use Rattle.lines.specs.declared.form.Form.{Form}
 use Rattle.lines.specs.declared.form.Form.the-variants.{Subject, Isa, Rule, Root, Child, User, View, Query, Find, Rename, Update, Append, Before, After, Remove, NoForm}
 use Rattle.lines.proofs.StateLaws.{store-held}
+use Rattle.lines.proofs.StoredSteps.{or-none}
 use Rattle.guarantee.specs.Alike.{Input, outcome}
-use Rattle.guarantee.specs.Identity.{Tagged, afterForm, afterReply, follow, followAll, kept, beside, keptRights, stateAfter, tableAfter, Follows, RightsKept, numbered, tagAt, SameRights}
-use Rattle.guarantee.proofs.Accepted.{Taken, Refused, LineTaken, Accepted, line-cases}
+use Rattle.guarantee.specs.Identity.{Tagged, afterInsert, afterRename, afterForm, afterReply, follow, followAll, kept, beside, keptRights, stateAfter, RightsKept, numbered, tagAt, SameRights}
+use Rattle.guarantee.proofs.Accepted.{RenameTaken, Inserted, Taken, Refused, Accepted, line-cases}
 use Rattle.guarantee.proofs.SessionKept.{before-root, policy-kept, rooted-kept}
-use Rattle.guarantee.proofs.Identity.{records-new, records-remove, records-rename, records-insert, all-part}
-use Rattle.guarantee.proofs.KeptNodes.{rename-renames, update-renames, done-free, nodes-nested, kept-remove, kept-insert, kept-rename}
-
--- what an accepted line of each form leaves in the table
-abbrev Leaves : Form → List ℕ → List ℕ → List ℕ → List ℕ → Type 0
-Leaves (Subject n) s t line t' = t' ≡ t
-Leaves (Isa n r) s t line t' = t' ≡ t
-Leaves (Rule a b p n) s t line t' = t' ≡ t
-Leaves (Root l) s t line t' = Unit {0}
-Leaves (Child m) s t line t' = records t' ≡ placed place.Append m (recordsOf (treeIn line)) rootAlone (records t)
-Leaves (User n) s t line t' = t' ≡ t
-Leaves View s t line t' = t' ≡ t
-Leaves (Query p) s t line t' = t' ≡ t
-Leaves (Find p) s t line t' = t' ≡ t
-Leaves (Rename p l) s t line t' = records t' ≡ renamed (bytesOf line l) (doneIn change.Rename s t (bytesOf line p)) (records t)
-Leaves (Update p l) s t line t' = records t' ≡ renamed (bytesOf line l) (doneIn change.Update s t (bytesOf line p)) (records t)
-Leaves (Append p m) s t line t' = records t' ≡ placed place.Append m (recordsOf (treeIn line)) (doneIn change.Append s t (bytesOf line p)) (records t)
-Leaves (Before p m) s t line t' = records t' ≡ placed place.Before m (recordsOf (treeIn line)) (doneIn change.Before s t (bytesOf line p)) (records t)
-Leaves (After p m) s t line t' = records t' ≡ placed place.After m (recordsOf (treeIn line)) (doneIn change.After s t (bytesOf line p)) (records t)
-Leaves (Remove p) s t line t' = records t' ≡ removed (doneIn change.Remove s t (bytesOf line p)) (records t)
-Leaves NoForm s t line t' = t' ≡ t
-
-module _ (s t line t' : List ℕ) (ns : List Tagged) (e : map (λ n. n .0) ns ≡ records t) where
-  abbrev tree : List ℕ
-  tree = recordsOf (treeIn line)
-
-  -- the nodes after an accepted line are the records of the new table
-  follows-form : (f : Form) → Leaves f s t line t' → map (λ n. n .0) (afterForm f s t t' line ns) ≡ records t'
-  follows-form (Subject n) h = e ∙ ap records (sym h)
-  follows-form (Isa n r) h = e ∙ ap records (sym h)
-  follows-form (Rule a b p n) h = e ∙ ap records (sym h)
-  follows-form (Root l) h = records-new (records t')
-  follows-form (Child m) h = records-insert place.Append m tree rootAlone ns ∙ ap (placed place.Append m tree rootAlone) e ∙ sym h
-  follows-form (User n) h = e ∙ ap records (sym h)
-  follows-form View h = e ∙ ap records (sym h)
-  follows-form (Query p) h = e ∙ ap records (sym h)
-  follows-form (Find p) h = e ∙ ap records (sym h)
-  follows-form (Rename p l) h =
-      let ms : List ℕ = doneIn change.Rename s t (bytesOf line p) in
-      records-rename (bytesOf line l) ms ns ∙ ap (renamed (bytesOf line l) ms) e ∙ sym h
-  follows-form (Update p l) h =
-      let ms : List ℕ = doneIn change.Update s t (bytesOf line p) in
-      records-rename (bytesOf line l) ms ns ∙ ap (renamed (bytesOf line l) ms) e ∙ sym h
-  follows-form (Append p m) h =
-      let ms : List ℕ = doneIn change.Append s t (bytesOf line p) in
-      records-insert place.Append m tree ms ns ∙ ap (placed place.Append m tree ms) e ∙ sym h
-  follows-form (Before p m) h =
-      let ms : List ℕ = doneIn change.Before s t (bytesOf line p) in
-      records-insert place.Before m tree ms ns ∙ ap (placed place.Before m tree ms) e ∙ sym h
-  follows-form (After p m) h =
-      let ms : List ℕ = doneIn change.After s t (bytesOf line p) in
-      records-insert place.After m tree ms ns ∙ ap (placed place.After m tree ms) e ∙ sym h
-  follows-form (Remove p) h =
-      let ms : List ℕ = doneIn change.Remove s t (bytesOf line p) in
-      records-remove ms ns ∙ ap (removed ms) e ∙ sym h
-  follows-form NoForm h = e ∙ ap records (sym h)
-
--- the inserted tree's levels run from 0
-abbrev TreeNested : Form → List ℕ → Type 0
-TreeNested (Subject n) line = Unit {0}
-TreeNested (Isa n r) line = Unit {0}
-TreeNested (Rule a b p n) line = Unit {0}
-TreeNested (Root l) line = Unit {0}
-TreeNested (Child m) line = Nested level 0 (chunks m (recordsOf (treeIn line)))
-TreeNested (User n) line = Unit {0}
-TreeNested View line = Unit {0}
-TreeNested (Query p) line = Unit {0}
-TreeNested (Find p) line = Unit {0}
-TreeNested (Rename p l) line = Unit {0}
-TreeNested (Update p l) line = Unit {0}
-TreeNested (Append p m) line = Nested level 0 (chunks m (recordsOf (treeIn line)))
-TreeNested (Before p m) line = Nested level 0 (chunks m (recordsOf (treeIn line)))
-TreeNested (After p m) line = Nested level 0 (chunks m (recordsOf (treeIn line)))
-TreeNested (Remove p) line = Unit {0}
-TreeNested NoForm line = Unit {0}
+use Rattle.guarantee.proofs.FormParts.{TreeSaid, PartsGood, parts-good}
+use Rattle.guarantee.proofs.TreeRecords.{tree-ok}
+use Rattle.guarantee.proofs.Identity.{all-part, follows-line, follows}
+use Rattle.guarantee.proofs.KeptNodes.{Renames, rename-renames, update-renames, done-free, nodes-nested, kept-remove, kept-insert, kept-rename}
 
 same : {a b : List (ℕ × ℕ)} → a ≡ b → Sublistᴰ a b
 same {b = b} e = rw e (Sublistᴰ·refl b)
-
-or-right : (a b : Bool) → (a || b) ≡ false → b ≡ false
-or-right true b e = absurd (let z : _≡_ {A = ℕ} 0 1 = cc in omega arith)
-or-right false b e = e
 
 -- the rights on the kept nodes after an accepted line, the root line taken before
 module _ (choice : Choice) (s t line text s' t' : List ℕ) (ok : storeOk s t ≡ true) (rooted : stageC ≤ stage s) (ns : List Tagged) (e : map (λ n. n .0) ns ≡ records t)
@@ -122,28 +48,32 @@ module _ (choice : Choice) (s t line text s' t' : List ℕ) (ok : storeOk s t �
   nested : Nested (λ (n : Tagged). level (n .0)) 0 ns
   nested = nodes-nested t ns (store-held s t ok .table) e
 
-  rights-form : (f : Form) → inStage (stageOf f) (stage s) ≡ true → TreeNested f line → Taken choice f s t line (recordsOf (treeIn line)) text s' t'
+  inserted-part : (at : Place) (m : ℕ) (ms : List ℕ) → TreeSaid line m → Inserted at ms m (recordsOf (treeIn line)) t t'
+      → Part (afterInsert at m (recordsOf (treeIn line)) ms ns)
+  inserted-part at m ms w x = same (kept-insert (policyIn s) u d at m (recordsOf (treeIn line)) ms ns (tree-ok line m w (x .free) .nested) nested)
+
+  renamed-part : (c : Change) → Renames c → (path l : List ℕ) → RenameTaken c s t path l text s' t' → Part (afterRename l (doneIn c s t path) ns)
+  renamed-part c r path l x =
+      same (kept-rename (policyIn s) u d l (doneIn c s t path) ns
+      (or-none (sameLabel l restricted) (policyWord (policyIn s) l) (x .free) .1)
+      (done-free c r s t path ns e))
+
+  rights-form : (f : Form) → inStage (stageOf f) (stage s) ≡ true → PartsGood f line → Taken choice f s t line (recordsOf (treeIn line)) text s' t'
       → Part (afterForm f s t t' line ns)
   rights-form (Subject n) i w x = Sublistᴰ·refl _
   rights-form (Isa n r) i w x = Sublistᴰ·refl _
   rights-form (Rule a b p n) i w x = Sublistᴰ·refl _
   rights-form (Root l) i w x = absurd (omega (arith, before-root (stage s) i))
-  rights-form (Child m) i w x = same (kept-insert (policyIn s) u d place.Append m (recordsOf (treeIn line)) rootAlone ns w nested)
+  rights-form (Child m) i w x = inserted-part place.Append m rootAlone w (x .inserted)
   rights-form (User n) i w x = Sublistᴰ·refl _
   rights-form View i w x = Sublistᴰ·refl _
   rights-form (Query p) i w x = Sublistᴰ·refl _
   rights-form (Find p) i w x = Sublistᴰ·refl _
-  rights-form (Rename p l) i w x =
-      same (kept-rename (policyIn s) u d (bytesOf line l) (doneIn change.Rename s t (bytesOf line p)) ns
-      (or-right (sameLabel (bytesOf line l) restricted) (policyWord (policyIn s) (bytesOf line l)) (x .free))
-      (done-free change.Rename rename-renames s t (bytesOf line p) ns e))
-  rights-form (Update p l) i w x =
-      same (kept-rename (policyIn s) u d (bytesOf line l) (doneIn change.Update s t (bytesOf line p)) ns
-      (or-right (sameLabel (bytesOf line l) restricted) (policyWord (policyIn s) (bytesOf line l)) (x .free))
-      (done-free change.Update update-renames s t (bytesOf line p) ns e))
-  rights-form (Append p m) i w x = same (kept-insert (policyIn s) u d place.Append m (recordsOf (treeIn line)) (doneIn change.Append s t (bytesOf line p)) ns w nested)
-  rights-form (Before p m) i w x = same (kept-insert (policyIn s) u d place.Before m (recordsOf (treeIn line)) (doneIn change.Before s t (bytesOf line p)) ns w nested)
-  rights-form (After p m) i w x = same (kept-insert (policyIn s) u d place.After m (recordsOf (treeIn line)) (doneIn change.After s t (bytesOf line p)) ns w nested)
+  rights-form (Rename p l) i w x = renamed-part change.Rename rename-renames (bytesOf line p) (bytesOf line l) x
+  rights-form (Update p l) i w x = renamed-part change.Update update-renames (bytesOf line p) (bytesOf line l) x
+  rights-form (Append p m) i w x = inserted-part place.Append m (doneIn change.Append s t (bytesOf line p)) w (x .inserted)
+  rights-form (Before p m) i w x = inserted-part place.Before m (doneIn change.Before s t (bytesOf line p)) w (x .inserted)
+  rights-form (After p m) i w x = inserted-part place.After m (doneIn change.After s t (bytesOf line p)) w (x .inserted)
   rights-form (Remove p) i w x = kept-remove (policyIn s) u d (doneIn change.Remove s t (bytesOf line p)) ns nested
   rights-form NoForm i w x = Sublistᴰ·refl _
 
@@ -180,63 +110,43 @@ chains-length c (r ∷ rs) = ap suc (chains-length _ rs)
 sets-length : (P : Policy) (u : ℕ) (ns : List Tagged) → length (rightsOn P u (map (λ n. n .0) ns)) ≡ length ns
 sets-length P u ns = length-map (chains [] (map (λ n. n .0) ns)) (rightsBy P u) ∙ chains-length [] (map (λ n. n .0) ns) ∙ length-map ns (λ n. n .0)
 
-module _
-    (store-kept : (choice : Choice) (s t line : List ℕ) (room : ℕ) → storeOk s t ≡ true → storeOk (step choice s t line room .state) (step choice s t line room .table) ≡ true)
-    (leaves : (choice : Choice) (s t line text s' t' : List ℕ) → LineTaken choice s t line text s' t' → Leaves (readForm line) s t line t')
-    (tree-nested : (line : List ℕ) → TreeNested (readForm line) line) where
-  -- one line
-  module _ (choice : Choice) (s t : List ℕ) (ok : storeOk s t ≡ true) (i : Input) (ns : List Tagged) (e : map (λ n. n .0) ns ≡ records t) where
-    pub follows-line : map (λ n. n .0) (follow choice s t i ns) ≡ records (outcome choice s t i .table)
-    unfolding follow
-    follows-line = go (line-cases choice s t (i .line) (i .room))
-      where
-        go : Refused s t (outcome choice s t i) ⊎ Accepted choice s t (i .line) (i .room)
-            → map (λ n. n .0) (afterReply (outcome choice s t i .reply) (readForm (i .line)) s t (outcome choice s t i .table) (i .line) ns) ≡ records (outcome choice s t i .table)
-        go (inl x) = rw (x .is) e
-        go (inr x) =
-            rw (x .reply) (follows-form s t (i .line) (outcome choice s t i .table) ns e (readForm (i .line))
-            (leaves choice s t (i .line) (x .text) (outcome choice s t i .state) (outcome choice s t i .table) (x .taken)))
+-- One line
+module _ (choice : Choice) (s t : List ℕ) (i : Input) (ns : List Tagged) (e : map (λ n. n .0) ns ≡ records t) where
+  pub rights-line : stageC ≤ stage s → (u : ℕ) → u < length (policyIn s .names)
+      → Sublistᴰ (keptRights (policyIn s) u (follow choice s t i ns)) (keptRights (policyIn s) u ns)
+  unfolding follow
+  rights-line rooted u d = go (line-cases choice s t (i .line) (i .room))
+    where
+      go : Refused s t (outcome choice s t i) ⊎ Accepted choice s t (i .line) (i .room)
+          → Sublistᴰ (keptRights (policyIn s) u (afterReply (outcome choice s t i .reply) (readForm (i .line)) s t (outcome choice s t i .table) (i .line) ns)) (keptRights (policyIn s) u ns)
+      go (inl x) = rw (x .is) (Sublistᴰ·refl _)
+      go (inr x) =
+          rw (x .reply) (rights-form choice s t (i .line) (x .text) (outcome choice s t i .state) (outcome choice s t i .table) (x .taken .passes) rooted ns e u d
+          (readForm (i .line)) (x .taken .in-stage) (parts-good (i .line) (x .taken .form)) (x .taken .taken))
 
-    pub rights-line : stageC ≤ stage s → (u : ℕ) → u < length (policyIn s .names)
-        → Sublistᴰ (keptRights (policyIn s) u (follow choice s t i ns)) (keptRights (policyIn s) u ns)
-    unfolding follow
-    rights-line rooted u d = go (line-cases choice s t (i .line) (i .room))
-      where
-        go : Refused s t (outcome choice s t i) ⊎ Accepted choice s t (i .line) (i .room)
-            → Sublistᴰ (keptRights (policyIn s) u (afterReply (outcome choice s t i .reply) (readForm (i .line)) s t (outcome choice s t i .table) (i .line) ns)) (keptRights (policyIn s) u ns)
-        go (inl x) = rw (x .is) (Sublistᴰ·refl _)
-        go (inr x) =
-            rw (x .reply) (rights-form choice s t (i .line) (x .text) (outcome choice s t i .state) (outcome choice s t i .table) ok rooted ns e u d
-            (readForm (i .line)) (x .taken .in-stage) (tree-nested (i .line)) (x .taken .taken))
+-- Any lines
 
-  pub follows : Follows
-  unfolding followAll tableAfter
-  follows choice s t ok [] ns e = e
-  follows choice s t ok (i ∷ is) ns e =
-      follows choice (outcome choice s t i .state) (outcome choice s t i .table) (store-kept choice s t (i .line) (i .room) ok) is (follow choice s t i ns)
-      (follows-line choice s t ok i ns e)
+pub rights-kept : RightsKept
+unfolding followAll stateAfter
+rights-kept choice s t rooted [] ns e u d = Sublistᴰ·refl _
+rights-kept choice s t rooted (i ∷ is) ns e u d =
+    let s' : List ℕ = outcome choice s t i .state in
+    let t' : List ℕ = outcome choice s t i .table in
+    let p : policyIn s ≡ policyIn s' = ap policyOf (sym (policy-kept choice s t (i .line) (i .room) rooted)) in
+    Sublistᴰ·trans
+    (rights-kept choice s' t' (rooted-kept choice s t (i .line) (i .room) rooted) is
+    (follow choice s t i ns) (follows-line choice s t i ns e) u (rw (← p) d))
+    (rw (← p) (rights-line choice s t i ns e rooted u d))
 
-  pub rights-kept : RightsKept
-  unfolding followAll stateAfter
-  rights-kept choice s t ok rooted [] ns e u d = Sublistᴰ·refl _
-  rights-kept choice s t ok rooted (i ∷ is) ns e u d =
-      let s' : List ℕ = outcome choice s t i .state in
-      let t' : List ℕ = outcome choice s t i .table in
-      let p : policyIn s ≡ policyIn s' = ap policyOf (sym (policy-kept choice s t (i .line) (i .room) rooted)) in
-      Sublistᴰ·trans
-      (rights-kept choice s' t' (store-kept choice s t (i .line) (i .room) ok) (rooted-kept choice s t (i .line) (i .room) rooted) is
-      (follow choice s t i ns) (follows-line choice s t ok i ns e) u (rw (← p) d))
-      (rw (← p) (rights-line choice s t ok i ns e rooted u d))
-
-  pub same-rights : SameRights
-  same-rights choice s t ok rooted is u d k i w =
-      let ns : List Tagged = numbered 0 (records t) in
-      let ns' : List Tagged = followAll choice s t is ns in
-      let P' : Policy = policyIn (stateAfter choice s t is) in
-      let sets : List ℕ = rightsOn (policyIn s) u (records t) in
-      let n : map (λ x. x .0) ns ≡ records t = records-numbered 0 (records t) in
-      let z : (j : ℕ) → getD sets j 0 ≡ getD sets (0 + j) 0 = λ j. let y : 0 + j ≡ j = omega arith in rw y in
-      let a : All (λ p. p .1 ≡ getD sets (p .0) 0) (keptRights (policyIn s) u ns) = rw n (numbered-sets sets 0 (records t) sets z) in
-      let b : All (λ p. p .1 ≡ getD sets (p .0) 0) (keptRights P' u ns') = all-part (λ p. p .1 ≡ getD sets (p .0) 0) (rights-kept choice s t ok rooted is ns n u d) a in
-      ap (λ rs. getD (rightsOn P' u rs) k 0) (sym (follows choice s t ok is ns n))
-      ∙ tagged-set (λ p. p .1 ≡ getD sets (p .0) 0) ns' (rightsOn P' u (map (λ x. x .0) ns')) k i (omega (arith, sets-length P' u ns')) b w
+pub same-rights : SameRights
+same-rights choice s t rooted is u d k i w =
+    let ns : List Tagged = numbered 0 (records t) in
+    let ns' : List Tagged = followAll choice s t is ns in
+    let P' : Policy = policyIn (stateAfter choice s t is) in
+    let sets : List ℕ = rightsOn (policyIn s) u (records t) in
+    let n : map (λ x. x .0) ns ≡ records t = records-numbered 0 (records t) in
+    let z : (j : ℕ) → getD sets j 0 ≡ getD sets (0 + j) 0 = λ j. let y : 0 + j ≡ j = omega arith in rw y in
+    let a : All (λ p. p .1 ≡ getD sets (p .0) 0) (keptRights (policyIn s) u ns) = rw n (numbered-sets sets 0 (records t) sets z) in
+    let b : All (λ p. p .1 ≡ getD sets (p .0) 0) (keptRights P' u ns') = all-part (λ p. p .1 ≡ getD sets (p .0) 0) (rights-kept choice s t rooted is ns n u d) a in
+    ap (λ rs. getD (rightsOn P' u rs) k 0) (sym (follows choice s t is ns n))
+    ∙ tagged-set (λ p. p .1 ≡ getD sets (p .0) 0) ns' (rightsOn P' u (map (λ x. x .0) ns')) k i (omega (arith, sets-length P' u ns')) b w

@@ -3,7 +3,7 @@
 -- A node is followed by a tag that its record carries; a node that came later has none.
 use Prim.Native.Nat.{ℕ, zero, suc, _≤_, _<_}
 use mathlib.Core.Path.{_≡_}
-use mathlib.Core.Bool.{true, not}
+use mathlib.Core.Bool.{not}
 use mathlib.Core.List.{List, [], _∷_, map, Sublistᴰ}
 use mathlib.Core.Option.{Option, none, some}
 use lib.ListN.{length, getD}
@@ -18,7 +18,7 @@ use Rattle.views.specs.declared.insert.Place.{Place}
 use Rattle.views.specs.declared.insert.Place.the-variants as place
 use Rattle.lines.specs.AnswerChoice.{Choice}
 use Rattle.lines.specs.Form.{readForm, treeIn}
-use Rattle.lines.specs.State.{stageC, stage, policyIn, storeOk}
+use Rattle.lines.specs.State.{stageC, stage, policyIn}
 use Rattle.lines.specs.Step.{Reply, says, refuses}
 use Rattle.lines.specs.StepTree.{rootAlone, doneIn}
 use Rattle.lines.specs.Tree.{recordsOf}
@@ -133,14 +133,15 @@ NoneBack =
 -- The nodes that are followed are those of the table: nothing else decides which node is which.
 abbrev pub Follows : Type 0
 Follows =
-    (choice : Choice) (s t : List ℕ) → storeOk s t ≡ true → (is : List Input) (ns : List Tagged)
+    (choice : Choice) (s t : List ℕ) (is : List Input) (ns : List Tagged)
     → map (λ n. n .0) ns ≡ records t → map (λ n. n .0) (followAll choice s t is ns) ≡ records (tableAfter choice s t is)
 
--- Demand 3, its sentence on rights: from every store with the root line taken, for every list of lines, whoever works and whatever is refused: what every declared
--- subject may do on the kept nodes afterwards is a part, in order, of what it could do on them before. So no right on a kept node has changed.
+-- Demand 3, its sentence on rights: from every start with the root line taken (one that 13 does not let pass stays as it is), for every list of lines, whoever works
+-- and whatever is refused: what every declared subject may do on the kept nodes afterwards is a part, in order, of what it could do on them before. So no right on a
+-- kept node has changed.
 abbrev pub RightsKept : Type 0
 RightsKept =
-    (choice : Choice) (s t : List ℕ) → storeOk s t ≡ true → stageC ≤ stage s → (is : List Input) (ns : List Tagged)
+    (choice : Choice) (s t : List ℕ) → stageC ≤ stage s → (is : List Input) (ns : List Tagged)
     → map (λ n. n .0) ns ≡ records t → (u : ℕ) → u < length (policyIn s .names)
     → Sublistᴰ (keptRights (policyIn (stateAfter choice s t is)) u (followAll choice s t is ns)) (keptRights (policyIn s) u ns)
 
@@ -167,6 +168,6 @@ OrderKept =
 -- a node of the last table that was in the first: every declared subject has the rights on it that it had then
 abbrev pub SameRights : Type 0
 SameRights =
-    (choice : Choice) (s t : List ℕ) → storeOk s t ≡ true → stageC ≤ stage s → (is : List Input) (u : ℕ) → u < length (policyIn s .names)
+    (choice : Choice) (s t : List ℕ) → stageC ≤ stage s → (is : List Input) (u : ℕ) → u < length (policyIn s .names)
     → (k i : ℕ) → Was choice s t is k i
     → getD (rightsOn (policyIn (stateAfter choice s t is)) u (records (tableAfter choice s t is))) k 0 ≡ getD (rightsOn (policyIn s) u (records t)) i 0
