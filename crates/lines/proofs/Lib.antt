@@ -19,3 +19,4 @@ pub mod EditBytes
 pub mod EditKept
 pub mod PolicyEdits
 pub mod TreeStepLaws
+pub mod ChangeLaws
