@@ -21,3 +21,4 @@ pub mod PolicyEdits
 pub mod FormParts
 pub mod TreeStepLaws
 pub mod LineLaws
+pub mod ChangeLaws

@@ -119,7 +119,7 @@ module _ (s t : List ℕ) (ok : storeOk s t ≡ true) (u : noUser s ≡ false) (
 
 -- what the rights of the user are, and give
 module _ (s t rights' more : List ℕ) (user : ℕ) (e : user ≡ userByte s) (q : rights' ≡ rightsOn (policyOf (take (length s - 8) (drop 8 s))) (user - 1) (records t) ++ more) where
-  rights-held : rights' ≡ rightsIn s t ++ more
+  pub rights-held : rights' ≡ rightsIn s t ++ more
   rights-held =
       q
       ∙ ap (λ p. rightsOn (policyOf p) (user - 1) (records t) ++ more) (rest-of s 8)

@@ -14,4 +14,5 @@ pub mod State
 pub mod Step
 pub mod PolicyEdit
 pub mod StepTree
+pub mod ChangeRoom
 pub mod Line

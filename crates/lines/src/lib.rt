@@ -1,5 +1,6 @@
 // Lines (document 01): reading them, the session, stages, refusals and answers.
 pub mod answer;
+pub mod changes;
 pub mod form;
 pub mod limits;
 pub mod line;

@@ -19,6 +19,7 @@ ghost use lib.ListN.{length, drop};
 ghost use Rattle.rights.specs.PathReader.{pathOf};
 ghost use Rattle.views.specs.Shown.{shownNumbers};
 ghost use Rattle.lines.specs.AnswerChoice.{chosen};
+ghost use Rattle.lines.specs.ChangeRoom.{RightsHeld};
 ghost use Rattle.lines.specs.State.{userByte, storeOk};
 ghost use Rattle.lines.specs.Step.{Made, fitted, noUser, notPath, storedIn, marksIn, stepView, stepQuery, stepFind, Chosen};
 
@@ -32,10 +33,10 @@ fn finished(need: usize, room: usize) -> Answer
     Answer::Accepted(need)
 }
 
-// Writes the numbers of the nodes that the user is shown, and returns how many they are. `rights` is room for the rights on each node.
+// Writes the user's rights on each node and the numbers of the nodes that the user is shown, and returns how many they are.
 fn show_user(state: &[u8], table: &[u8], rights: &mut [u8], shown: &mut [u16]) -> usize
     requires { ⌜ (storeOk (now state) (now table) ≡ true) × (noUser (now state) ≡ false) × (length (now rights) ≡ 16384) × (length (now shown) ≡ 16384) ⌝ }
-    ensures { λ r. ⌜ (r ≡ length (shownNumbers (storedIn (now (state .entry)) (now (table .entry))))) × (now (shown .exit) ≡ shownNumbers (storedIn (now (state .entry)) (now (table .entry))) ++ drop r (now (shown .entry))) ⌝ }
+    ensures { λ r. ⌜ (r ≡ length (shownNumbers (storedIn (now (state .entry)) (now (table .entry))))) × (now (shown .exit) ≡ shownNumbers (storedIn (now (state .entry)) (now (table .entry))) ++ drop r (now (shown .entry))) × RightsHeld (now (state .entry)) (now (table .entry)) (now (rights .entry)) (now (rights .exit)) ⌝ }
 {
     let user = wide(state[1]) - 1;
     rights_on(&state[POLICY_AT..], user, table, rights);
@@ -71,8 +72,9 @@ pub fn view(state: &[u8], table: &[u8], area: &mut [u8]) -> Answer
     view_with(state, table, &mut rights, &mut shown, area)
 }
 
-// Writes the numbers of the nodes that the user is shown and the marks of those that a path selects, and returns how many are shown.
-fn select_user(
+// Writes the user's rights on each node, the numbers of the nodes that the user is shown and the marks of those that a path selects, and returns how many
+// are shown.
+pub fn select_user(
     state: &[u8],
     table: &[u8],
     path: &[u8],
@@ -81,7 +83,7 @@ fn select_user(
     marks: &mut [u8],
 ) -> usize
     requires { ⌜ (storeOk (now state) (now table) ≡ true) × (noUser (now state) ≡ false) × (notPath (pathOf (now path)) ≡ false) × (length (now rights) ≡ 16384) × (length (now shown) ≡ 16384) × (length (now marks) ≡ 16384) ⌝ }
-    ensures { λ r. ⌜ Chosen (now (state .entry)) (now (table .entry)) (now (path .entry)) (now (shown .entry)) (now (marks .entry)) r (now (shown .exit)) (now (marks .exit)) ⌝ }
+    ensures { λ r. ⌜ (Chosen (now (state .entry)) (now (table .entry)) (now (path .entry)) (now (shown .entry)) (now (marks .entry)) r (now (shown .exit)) (now (marks .exit))) × RightsHeld (now (state .entry)) (now (table .entry)) (now (rights .entry)) (now (rights .exit)) ⌝ }
 {
     let k = show_user(state, table, rights, shown);
     let user = wide(state[1]) - 1;

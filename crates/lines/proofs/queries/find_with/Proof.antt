@@ -19,7 +19,7 @@ part-answer-find-start c = search needs
 part-answer-find-end : tie.Need-part-answer-find-end
 part-answer-find-end c = let g = c .before .before .before .before .before .before .before .before .before .before .before .before .before .before .before .before .before .before .pre in
     let a = c .before .before .before .before .before .before .before .before .before .before .before .before .before .before .before .before .before .before .args in
-    let r = c .before .before .before .before .before .before .before .select-user .ensures in
+    let r = c .before .before .before .before .before .before .before .select-user .ensures .0 in
     shown-long (a .state .now) (a .table .now) (g .0) _ _ _ (r .size) (r .numbers)
 
 sub-answer-find-2 : tie.Need-sub-answer-find-2
@@ -31,13 +31,13 @@ part-answer-find-start-2 c = search needs
 part-answer-find-end-2 : tie.Need-part-answer-find-end-2
 part-answer-find-end-2 c = let g = c .before .before .before .before .before .before .before .before .before .before .before .before .before .before .before .before .before .before .before .before .pre in
     let a = c .before .before .before .before .before .before .before .before .before .before .before .before .before .before .before .before .before .before .before .before .args in
-    let r = c .before .before .before .before .before .before .before .before .before .select-user .ensures in
+    let r = c .before .before .before .before .before .before .before .before .before .select-user .ensures .0 in
     marks-long-enough (a .state .now) (a .table .now) (a .path .now) _ _ _ (g .0) (r .size) (r .picked)
 
 answer-find-requires : tie.Need-answer-find-requires
 answer-find-requires c κs = let g = c .before .before .before .before .before .before .before .before .before .before .before .before .before .before .before .before .before .before .before .before .before .before .pre in
     let a = c .before .before .before .before .before .before .before .before .before .before .before .before .before .before .before .before .before .before .before .before .before .before .args in
-    let r = c .before .before .before .before .before .before .before .before .before .before .before .select-user .ensures in
+    let r = c .before .before .before .before .before .before .before .before .before .before .before .select-user .ensures .0 in
     (shown-fits (a .state .now) (a .table .now) (g .0) _ _ _ (r .size) (r .numbers), marks-cover (a .state .now) (a .table .now) (a .path .now) _ _ _ _ _ (g .0) (r .size) (r .numbers) (r .picked))
 
 finished-requires : tie.Need-finished-requires
@@ -58,7 +58,7 @@ same-length-4 c = search needs
 returns : tie.Need-returns
 returns c = let g = c .before .before .before .before .before .before .before .before .before .before .before .before .before .before .before .before .before .before .before .before .before .before .before .before .before .before .pre in
     let a = c .before .before .before .before .before .before .before .before .before .before .before .before .before .before .before .before .before .before .before .before .before .before .before .before .before .before .args in
-    let r = c .before .before .before .before .before .before .before .before .before .before .before .before .before .before .before .select-user .ensures in
+    let r = c .before .before .before .before .before .before .before .before .before .before .before .before .before .before .before .select-user .ensures .0 in
     let v = shown-view (a .state .now) (a .table .now) (g .0) _ _ _ (r .size) (r .numbers) in
     let m = marks-part (a .state .now) (a .table .now) (a .path .now) _ _ _ (g .0) (r .size) (r .picked) in
     made-at (find-seen _ _ _ _ _ (g .2) (g .1)) (made-finish _ _ _ _ _ _ _ (rw (v, m) at (c .before .before .before .answer-find .ensures)) (c .finished .ensures))

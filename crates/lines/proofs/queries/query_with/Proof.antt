@@ -19,7 +19,7 @@ part-answer-query-start c = search needs
 part-answer-query-end : tie.Need-part-answer-query-end
 part-answer-query-end c = let g = c .before .before .before .before .before .before .before .before .before .before .before .before .before .before .before .before .before .before .pre in
     let a = c .before .before .before .before .before .before .before .before .before .before .before .before .before .before .before .before .before .before .args in
-    let r = c .before .before .before .before .before .before .before .select-user .ensures in
+    let r = c .before .before .before .before .before .before .before .select-user .ensures .0 in
     shown-long (a .state .now) (a .table .now) (g .0) _ _ _ (r .size) (r .numbers)
 
 sub-answer-query-2 : tie.Need-sub-answer-query-2
@@ -31,13 +31,13 @@ part-answer-query-start-2 c = search needs
 part-answer-query-end-2 : tie.Need-part-answer-query-end-2
 part-answer-query-end-2 c = let g = c .before .before .before .before .before .before .before .before .before .before .before .before .before .before .before .before .before .before .before .before .pre in
     let a = c .before .before .before .before .before .before .before .before .before .before .before .before .before .before .before .before .before .before .before .before .args in
-    let r = c .before .before .before .before .before .before .before .before .before .select-user .ensures in
+    let r = c .before .before .before .before .before .before .before .before .before .select-user .ensures .0 in
     marks-long-enough (a .state .now) (a .table .now) (a .path .now) _ _ _ (g .0) (r .size) (r .picked)
 
 answer-query-requires : tie.Need-answer-query-requires
 answer-query-requires c κs = let g = c .before .before .before .before .before .before .before .before .before .before .before .before .before .before .before .before .before .before .before .before .before .before .pre in
     let a = c .before .before .before .before .before .before .before .before .before .before .before .before .before .before .before .before .before .before .before .before .before .before .args in
-    let r = c .before .before .before .before .before .before .before .before .before .before .before .select-user .ensures in
+    let r = c .before .before .before .before .before .before .before .before .before .before .before .select-user .ensures .0 in
     (shown-fits (a .state .now) (a .table .now) (g .0) _ _ _ (r .size) (r .numbers), marks-cover (a .state .now) (a .table .now) (a .path .now) _ _ _ _ _ (g .0) (r .size) (r .numbers) (r .picked))
 
 finished-requires : tie.Need-finished-requires
@@ -58,7 +58,7 @@ same-length-4 c = search needs
 returns : tie.Need-returns
 returns c = let g = c .before .before .before .before .before .before .before .before .before .before .before .before .before .before .before .before .before .before .before .before .before .before .before .before .before .before .pre in
     let a = c .before .before .before .before .before .before .before .before .before .before .before .before .before .before .before .before .before .before .before .before .before .before .before .before .before .before .args in
-    let r = c .before .before .before .before .before .before .before .before .before .before .before .before .before .before .before .select-user .ensures in
+    let r = c .before .before .before .before .before .before .before .before .before .before .before .before .before .before .before .select-user .ensures .0 in
     let v = shown-view (a .state .now) (a .table .now) (g .0) _ _ _ (r .size) (r .numbers) in
     let m = marks-part (a .state .now) (a .table .now) (a .path .now) _ _ _ (g .0) (r .size) (r .picked) in
     made-at (query-seen _ _ _ _ (g .2) (g .1)) (made-finish _ _ _ _ _ _ _ (rw (v, m) at (c .before .before .before .answer-query .ensures)) (c .finished .ensures))

@@ -60,11 +60,7 @@ returns : tie.Need-returns
 returns c = let g = c .before .before .before .before .before .before .before .before .before .before .before .before .before .before .before .before .before .before .before .before .before .before .pre in
     let a = c .before .before .before .before .before .before .before .before .before .before .before .before .before .before .before .before .before .before .before .before .before .before .args in
     let r = c .before .before .before .before .before .before .before .before .before .before .before .before .before .show-user .ensures in
-    record {
-      size = r .0;
-      numbers = r .1;
-      picked = picked-are (a .state .now) (a .table .now) (a .path .now) (g .0) _ (c .before .before .before .before .before .before .before .wide .ensures) _ (shown-view (a .state .now) (a .table .now) (g .0) _ _ _ (r .0) (r .1)) (g .2) (a .marks .now) _ _ (r .0) (c .before .before .select .ensures .marks);
-    }
+    (record { size = r .0; numbers = r .1; picked = picked-are (a .state .now) (a .table .now) (a .path .now) (g .0) _ (c .before .before .before .before .before .before .before .wide .ensures) _ (shown-view (a .state .now) (a .table .now) (g .0) _ _ _ (r .0) (r .1)) (g .2) (a .marks .now) _ _ (r .0) (c .before .before .select .ensures .marks) }, r .2)
 
 pub select-user-spec : {M : Type 1} → statement M
 select-user-spec =

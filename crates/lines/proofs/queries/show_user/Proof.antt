@@ -2,7 +2,7 @@ use Rattle.rights.specs.Table.{count}
 use mathlib.Core.List.{_++_}
 use lib.ListN.{drop}
 use Rattle.views.specs.Shown.{shownNumbers}
-use Rattle.lines.proofs.StepLaws.{rights-cover, rights-stored}
+use Rattle.lines.proofs.StepLaws.{rights-cover, rights-stored, rights-held}
 use mathlib.Core.Path.{_≡_, sym, ap, _∙_}
 use native.Mathlib.Omega.{arith}
 use lib.ListN.{length}
@@ -51,7 +51,8 @@ returns : tie.Need-returns
 returns c = let r = c .before .before .show .ensures in
     let a = c .before .before .before .before .before .before .before .before .before .before .before .before .before .before .before .before .args in
     let e = rights-stored (a .state .now) (a .table .now) _ (drop (count (a .table .now)) (a .rights .now)) _ (c .before .before .before .before .before .before .before .before .before .before .wide .ensures) (c .before .before .before .before .before .before .before .rights-on .ensures) in
-    (rw e at (r .0), rw e at (r .1))
+    let q = rights-held (a .state .now) (a .table .now) _ (drop (count (a .table .now)) (a .rights .now)) _ (c .before .before .before .before .before .before .before .before .before .before .wide .ensures) (c .before .before .before .before .before .before .before .rights-on .ensures) in
+    (rw e at (r .0), rw e at (r .1), q)
 
 pub show-user-spec : {M : Type 1} → statement M
 show-user-spec =

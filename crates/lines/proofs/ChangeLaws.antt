@@ -1,0 +1,252 @@
+-- The six changes: what is decided before anything changes, and what is made of them, by the tests that they meet. Assumes nothing.
+use Prim.Native.Nat.{ℕ, zero, suc, _+_, _-_, _≤_}
+use mathlib.Core.Bool.{Bool, true, false, _||_}
+use mathlib.Core.Path.{_≡_, refl, sym, ap, _∙_}
+use mathlib.Core.List.{List, [], _++_, map, append-nil}
+use native.Mathlib.Omega.{arith}
+use lib.ListN.{length, take, drop, length-map, length-append}
+use lib.Seq.{take-at, take-length}
+use Rattle.rights.specs.Automaton.{bit}
+use Rattle.rights.specs.Labels.{sameLabel, restricted}
+use Rattle.rights.specs.PathReader.{pathOf}
+use Rattle.rights.specs.Policy.{policyWord}
+use Rattle.rights.specs.PolicyBytes.{policyOf}
+use Rattle.rights.specs.PolicyCheck.{policyOk}
+use Rattle.rights.specs.Table.{count, records, tableOk}
+use Rattle.rights.proofs.Facts.{table-few}
+use Rattle.rights.proofs.Lists.{byCase, rest-of}
+use Rattle.views.specs.Change.{changed, renamed, removed}
+use Rattle.views.specs.Done.{doneMarks, isNext, byNumbers}
+use Rattle.views.specs.Marks.{marksOf, markCount, marked}
+use Rattle.views.specs.Shown.{shown, shownNumbers}
+use Rattle.views.specs.declared.done.Change.{Change}
+use Rattle.views.specs.declared.done.Change.the-variants as change
+use Rattle.views.specs.declared.insert.Place.{Place}
+use Rattle.views.proofs.DoneLaws.{numbers-in-table, done-length}
+use Rattle.views.proofs.MarkLaws.{marks-bits}
+use Rattle.lines.specs.Answer.{doneText}
+use Rattle.lines.specs.AnswerArea.{Answered, written}
+use Rattle.lines.specs.ChangeRoom.{Selected, Decided}
+use Rattle.lines.specs.State.{policyIn, storeOk}
+use Rattle.lines.specs.Step.{Made, Chosen, refusal, finish, noUser, notPath, rightsIn, storedIn, marksIn}
+use Rattle.lines.specs.StepTree.{treeRestricted, inserting, changeAt, selectedIn, doneIn, countText, stepRename, stepInsert, stepRemove}
+use Rattle.lines.specs.declared.line.Answer.the-variants.{Accepted}
+use Rattle.lines.proofs.StateLaws.{store-held}
+use Rattle.lines.proofs.StepLaws.{rights-length, marks-size, marks-part}
+use Rattle.lines.proofs.TreeStepLaws.{made-changed}
+
+-- the part of an area that was written
+pub part-fits : (xs more ys : List ℕ) (n : ℕ) → ys ≡ xs ++ more → length xs ≡ n → n ≤ length ys
+part-fits xs more ys n e h = omega (arith, ap length e, length-append xs more)
+
+pub part-is : (xs more ys : List ℕ) (n : ℕ) → ys ≡ xs ++ more → length xs ≡ n → take (n - 0) (drop 0 ys) ≡ xs
+part-is xs more ys n e h =
+    let z : n - 0 ≡ n = omega arith in
+    rw (z, e) (take-at xs more n h)
+
+-- an answer that equals another
+answered-as : (a b before after : List ℕ) (need : ℕ) → a ≡ b → Answered a before after need → Answered b before after need
+answered-as a b before after need e r = record { size = r .size ∙ ap length e; area = r .area ∙ ap (λ x. written x before) e }
+
+numbers-length : (xs : List ℕ) (ms : List Bool) (n i : ℕ) → length (byNumbers xs ms n i) ≡ n
+unfolding byNumbers
+numbers-length xs ms zero i = refl
+numbers-length xs ms (suc n) i =
+    byCase (isNext xs i)
+    (λ e. rw e (ap suc (numbers-length (drop 1 xs) (drop 1 ms) n (suc i))))
+    (λ e. rw e (ap suc (numbers-length xs ms n (suc i))))
+
+-- What is selected
+module _ (s t path : List ℕ) (ok : storeOk s t ≡ true) where
+  selected-numbers : byNumbers (shownNumbers (storedIn s t)) (marksOf (marksIn s t path)) (count t) 0 ≡ selectedIn s t path
+  selected-numbers = numbers-in-table t (rightsIn s t) (marksOf (marksIn s t path)) (store-held s t ok .table) (omega (arith, rights-length s t))
+
+  -- a mark for each record
+  pub selected-size : length (map bit (selectedIn s t path)) ≡ count t
+  selected-size =
+      length-map (selectedIn s t path) bit
+      ∙ sym (ap length selected-numbers)
+      ∙ numbers-length (shownNumbers (storedIn s t)) (marksOf (marksIn s t path)) (count t) 0
+
+  module _ (shown marks shown' marks' : List ℕ) (k : ℕ) (r : Chosen s t path shown marks k shown' marks') where
+    pub selected-count : (n : ℕ) → n ≡ marked k marks' → n ≡ markCount (marksOf (marksIn s t path))
+    selected-count n e =
+        let z : take k marks' ≡ marksIn s t path = ap (take k) (r .picked) ∙ take-at (marksIn s t path) (drop k marks) k (marks-size s t path ok ∙ sym (r .size)) in
+        e ∙ ap (λ l. markCount (marksOf l)) z
+
+    pub selected-records : (selected selected' : List ℕ) (n : ℕ) → n ≡ count t
+        → selected' ≡ map bit (byNumbers (take k shown') (marksOf (take (k - 0) (drop 0 marks'))) n 0) ++ drop n selected
+        → selected' ≡ map bit (selectedIn s t path) ++ drop (count t) selected
+    selected-records selected selected' n e q =
+        let x : take k shown' ≡ shownNumbers (storedIn s t) = ap (take k) (r .numbers) ∙ take-at (shownNumbers (storedIn s t)) (drop k shown) k (sym (r .size)) in
+        let y : take (k - 0) (drop 0 marks') ≡ marksIn s t path = marks-part s t path marks' (drop k marks) k ok (r .size) (r .picked) in
+        q
+        ∙ ap (λ m. map bit (byNumbers (take k shown') (marksOf (take (k - 0) (drop 0 marks'))) m 0) ++ drop m selected) e
+        ∙ ap (λ l. map bit (byNumbers l (marksOf (take (k - 0) (drop 0 marks'))) (count t) 0) ++ drop (count t) selected) x
+        ∙ ap (λ l. map bit (byNumbers (shownNumbers (storedIn s t)) (marksOf l) (count t) 0) ++ drop (count t) selected) y
+        ∙ ap (λ l. map bit l ++ drop (count t) selected) selected-numbers
+
+  -- What is done
+  module _ (rights rights' selected selected' : List ℕ) (k n : ℕ) (r : Selected s t path rights selected k rights' selected') (e : n ≡ count t) where
+    pub rights-part : take (n - 0) (drop 0 rights') ≡ rightsIn s t
+    rights-part = part-is (rightsIn s t) (drop (count t) rights) rights' n (r .held) (rights-length s t ∙ sym e)
+
+    pub selected-part : take (n - 0) (drop 0 selected') ≡ map bit (selectedIn s t path)
+    selected-part = part-is (map bit (selectedIn s t path)) (drop (count t) selected) selected' n (r .picked) (selected-size ∙ sym e)
+
+    pub rights-reach : n ≤ length rights'
+    rights-reach = part-fits (rightsIn s t) (drop (count t) rights) rights' n (r .held) (rights-length s t ∙ sym e)
+
+    pub selected-reach : n ≤ length selected'
+    selected-reach = part-fits (map bit (selectedIn s t path)) (drop (count t) selected) selected' n (r .picked) (selected-size ∙ sym e)
+
+    pub done-asks : (done : List ℕ) → length done ≡ 16384
+        → (policyOk (take (length s - 8) (drop 8 s)) ≡ true) × (tableOk t ≡ true) × (count t ≤ length (take (n - 0) (drop 0 rights'))) × (count t ≤ length (take (n - 0) (drop 0 selected'))) × (count t ≤ length done)
+    done-asks done h =
+        let g = store-held s t ok in
+        let p : policyOk (take (length s - 8) (drop 8 s)) ≡ true = rw (rest-of s 8) (g .policy) in
+        (p, g .table, omega (arith, ap length rights-part, rights-length s t), omega (arith, ap length selected-part, selected-size), omega (arith, table-few t (g .table), h))
+
+    pub done-records : (c : Change) (done done' : List ℕ)
+        → done' ≡ map bit (doneMarks c (policyWord (policyOf (take (length s - 8) (drop 8 s)))) t (take (n - 0) (drop 0 rights')) (marksOf (take (n - 0) (drop 0 selected')))) ++ drop (count t) done
+        → Decided c s t path done k done'
+    done-records c done done' q =
+        record {
+          size = r .size;
+          marks =
+              q
+              ∙ ap (λ p. map bit (doneMarks c (policyWord (policyOf p)) t (take (n - 0) (drop 0 rights')) (marksOf (take (n - 0) (drop 0 selected')))) ++ drop (count t) done) (rest-of s 8)
+              ∙ ap (λ l. map bit (doneMarks c (policyWord (policyIn s)) t l (marksOf (take (n - 0) (drop 0 selected')))) ++ drop (count t) done) rights-part
+              ∙ ap (λ l. map bit (doneMarks c (policyWord (policyIn s)) t (rightsIn s t) (marksOf l)) ++ drop (count t) done) selected-part
+              ∙ ap (λ l. map bit (doneMarks c (policyWord (policyIn s)) t (rightsIn s t) l) ++ drop (count t) done) (marks-bits (selectedIn s t path));
+        }
+
+-- The marks of the records that are done
+pub done-size : (c : Change) (s t path : List ℕ) → length (doneIn c s t path) ≡ count t
+done-size c s t path =
+    length-map (doneMarks c (policyWord (policyIn s)) t (rightsIn s t) (selectedIn s t path)) bit
+    ∙ done-length c (policyWord (policyIn s)) t (rightsIn s t) (selectedIn s t path)
+
+module _ (c : Change) (s t path done done' : List ℕ) (k n : ℕ) (r : Decided c s t path done k done') (e : n ≡ count t) where
+  pub done-part : take (n - 0) (drop 0 done') ≡ doneIn c s t path
+  done-part = part-is (doneIn c s t path) (drop (count t) done) done' n (r .marks) (done-size c s t path ∙ sym e)
+
+  pub done-reach : n ≤ length done'
+  done-reach = part-fits (doneIn c s t path) (drop (count t) done) done' n (r .marks) (done-size c s t path ∙ sym e)
+
+  pub done-cover : count t ≤ length (take (n - 0) (drop 0 done'))
+  done-cover = omega (arith, ap length done-part, done-size c s t path)
+
+  done-text : doneText k (marked (count t) (take (n - 0) (drop 0 done'))) ≡ countText c s t path
+  done-text =
+      ap (λ m. doneText m (marked (count t) (take (n - 0) (drop 0 done')))) (r .size)
+      ∙ ap (λ l. doneText (markCount (marksOf (marksIn s t path))) (marked (count t) l)) done-part
+
+  pub done-answered : (before after : List ℕ) (need : ℕ) → Answered (doneText k (marked (count t) (take (n - 0) (drop 0 done')))) before after need
+      → Answered (countText c s t path) before after need
+  done-answered before after need a =
+      answered-as (doneText k (marked (count t) (take (n - 0) (drop 0 done')))) (countText c s t path) before after need done-text a
+
+  -- what the table becomes
+  pub renamed-table : (l t' : List ℕ) → t' ≡ changed t (renamed (take (length l - 0) (drop 0 l)) (take (n - 0) (drop 0 done')) (records t))
+      → t' ≡ changed t (renamed l (doneIn c s t path) (records t))
+  renamed-table l t' q =
+      let z : take (length l - 0) (drop 0 l) ≡ l = part-is l [] l (length l) (sym (append-nil l)) refl in
+      q
+      ∙ ap (λ x. changed t (renamed x (take (n - 0) (drop 0 done')) (records t))) z
+      ∙ ap (λ x. changed t (renamed l x (records t))) done-part
+
+  pub removed-table : (t' : List ℕ) → t' ≡ changed t (removed (take (n - 0) (drop 0 done')) (records t)) → t' ≡ changed t (removed (doneIn c s t path) (records t))
+  removed-table t' q = q ∙ ap (λ x. changed t (removed x (records t))) done-part
+
+  pub insert-parts : (place : Place) → c ≡ changeAt place → (m : ℕ) (tree : List ℕ) (room : ℕ)
+      → inserting place (doneIn (changeAt place) s t path) m tree (countText (changeAt place) s t path) s s t room
+      ≡ inserting place (take (n - 0) (drop 0 done')) m tree (doneText k (marked (count t) (take (n - 0) (drop 0 done')))) s s t room
+  insert-parts place q m tree room =
+      ap (λ x. inserting place (doneIn x s t path) m tree (countText x s t path) s s t room) (sym q)
+      ∙ ap (λ x. inserting place x m tree (countText c s t path) s s t room) (sym done-part)
+      ∙ ap (λ x. inserting place (take (n - 0) (drop 0 done')) m tree x s s t room) (sym done-text)
+
+-- D, counted
+pub answered-count : (t done before after : List ℕ) (k n d need : ℕ) → n ≡ count t → d ≡ marked n done → Answered (doneText k d) before after need
+    → Answered (doneText k (marked (count t) done)) before after need
+answered-count t done before after k n d need e q a =
+    answered-as (doneText k d) (doneText k (marked (count t) done)) before after need (ap (doneText k) (q ∙ ap (λ m. marked m done) e)) a
+
+-- a line whose answer is put if it fits, and whose table becomes t' only then
+pub made-table : (text before after s t t' u : List ℕ) (need : ℕ) → u ≡ t' → Answered text before after need → need ≤ length after
+    → Made (finish (length before) text s t' s t) before (Accepted need) s u after
+made-table text before after s t t' u need e a h = rw e (made-changed text before after s t s t' need a h)
+
+-- "RESTRICTED as .. new label, or a policy word as new label"
+module _ (s l : List ℕ) (b : Bool) (q : b ≡ sameLabel (take (length l) (drop 0 l)) restricted) where
+  whole : b ≡ sameLabel l restricted
+  whole = q ∙ ap (λ x. sameLabel x restricted) (take-length l)
+
+  pub barred-restricted : b ≡ true → true ≡ (sameLabel l restricted || policyWord (policyIn s) l)
+  barred-restricted e = let z : sameLabel l restricted ≡ true = sym whole ∙ e in rw z
+
+  pub barred-word : (w : Bool) → b ≡ false → w ≡ policyWord (policyOf (take (length s - 8) (drop 8 s))) (take (length l) (drop 0 l))
+      → w ≡ (sameLabel l restricted || policyWord (policyIn s) l)
+  barred-word w e p =
+      let z : sameLabel l restricted ≡ false = sym whole ∙ e in
+      rw z (p ∙ ap (λ x. policyWord (policyOf x) (take (length l) (drop 0 l))) (rest-of s 8) ∙ ap (policyWord (policyIn s)) (take-length l))
+
+-- `(rename P L)` and `(update P L)`, by the tests that they meet
+module _ (c : Change) (s t : List ℕ) (room : ℕ) (path l : List ℕ) where
+  pub rename-no-path : notPath (pathOf path) ≡ true → stepRename c s t room path l ≡ refusal 4 s t
+  unfolding stepRename
+  rename-no-path p = rw p
+
+  module _ (p : notPath (pathOf path) ≡ false) where
+    pub rename-no-user : noUser s ≡ true → stepRename c s t room path l ≡ refusal 8 s t
+    unfolding stepRename
+    rename-no-user u = rw (p, u)
+
+    module _ (u : noUser s ≡ false) where
+      pub rename-barred : (sameLabel l restricted || policyWord (policyIn s) l) ≡ true → stepRename c s t room path l ≡ refusal 9 s t
+      unfolding stepRename
+      rename-barred b = rw (p, u, b)
+
+      pub rename-seen : (sameLabel l restricted || policyWord (policyIn s) l) ≡ false
+          → stepRename c s t room path l ≡ finish room (countText c s t path) s (changed t (renamed l (doneIn c s t path) (records t))) s t
+      unfolding stepRename
+      rename-seen b = rw (p, u, b)
+
+-- `(remove P)`, by the tests that it meets
+module _ (s t : List ℕ) (room : ℕ) (path : List ℕ) where
+  pub remove-no-path : notPath (pathOf path) ≡ true → stepRemove s t room path ≡ refusal 4 s t
+  unfolding stepRemove
+  remove-no-path p = rw p
+
+  module _ (p : notPath (pathOf path) ≡ false) where
+    pub remove-no-user : noUser s ≡ true → stepRemove s t room path ≡ refusal 8 s t
+    unfolding stepRemove
+    remove-no-user u = rw (p, u)
+
+    pub remove-seen : noUser s ≡ false
+        → stepRemove s t room path ≡ finish room (countText change.Remove s t path) s (changed t (removed (doneIn change.Remove s t path) (records t))) s t
+    unfolding stepRemove
+    remove-seen u = rw (p, u)
+
+-- `(append P TREE)`, `(before P TREE)` and `(after P TREE)`, by the tests that they meet
+module _ (place : Place) (s t : List ℕ) (room : ℕ) (path : List ℕ) (m : ℕ) (tree : List ℕ) where
+  pub insert-no-path : notPath (pathOf path) ≡ true → stepInsert place s t room path m tree ≡ refusal 4 s t
+  unfolding stepInsert
+  insert-no-path p = rw p
+
+  module _ (p : notPath (pathOf path) ≡ false) where
+    pub insert-no-user : noUser s ≡ true → stepInsert place s t room path m tree ≡ refusal 8 s t
+    unfolding stepInsert
+    insert-no-user u = rw (p, u)
+
+    module _ (u : noUser s ≡ false) where
+      pub insert-restricted : treeRestricted m tree ≡ true → stepInsert place s t room path m tree ≡ refusal 9 s t
+      unfolding stepInsert
+      insert-restricted b = rw (p, u, b)
+
+      pub insert-seen : treeRestricted m tree ≡ false
+          → stepInsert place s t room path m tree
+          ≡ inserting place (doneIn (changeAt place) s t path) m tree (countText (changeAt place) s t path) s s t room
+      unfolding stepInsert
+      insert-seen b = rw (p, u, b)

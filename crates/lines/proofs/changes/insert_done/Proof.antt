@@ -1,0 +1,89 @@
+use Rattle.rights.specs.Table.{count, records}
+use Rattle.views.specs.Change.{changed, placed}
+use Rattle.views.specs.Marks.{marked}
+use Rattle.lines.specs.Answer.{doneText}
+use lib.ListN.{length}
+use Rattle.lines.proofs.StepLaws.{made-at, refused}
+use Rattle.lines.proofs.TreeStepLaws.{made-kept, insert-refused, insert-shallow, insert-fits, insert-done}
+use Rattle.lines.proofs.ChangeLaws.{made-table}
+use borrow.Author.Needs.{needs}
+use Rattle.lines.proofs.changes.insert_done.Statement.{statement}
+use Rattle.lines.proofs.changes.insert_done.Tie as tie
+
+turned-down-requires : tie.Need-turned-down-requires
+turned-down-requires c κs = search needs
+
+same-length : tie.Need-same-length
+same-length c = search needs
+
+-- antt refused `returns` as it was built: the module's report says why
+returns : tie.Need-returns
+returns c = let g = c .before .before .before .before .before .before .before .before .pre in
+    let a = c .before .before .before .before .before .before .before .before .args in
+    let s = a .state .now in
+    let t = a .table .now in
+    let k = a .done .now in
+    let text = doneText (a .selected) (marked (count t) k) in
+    made-at (insert-refused (a .place) k (a .m) (a .tree .now) t _ (c .before .turned-down .ensures) text s s (length (a .area .now)) (c .if1 .taken)) refused
+
+answer-change-requires : tie.Need-answer-change-requires
+answer-change-requires c κs = search needs
+
+same-length-2 : tie.Need-same-length-2
+same-length-2 c = search needs
+
+same-length-3 : tie.Need-same-length-3
+same-length-3 c = search needs
+
+-- antt refused `returns-2` as it was built: the module's report says why
+returns-2 : tie.Need-returns-2
+returns-2 c = let g = c .before .before .before .before .before .before .before .before .before .before .before .before .before .before .pre in
+    let a = c .before .before .before .before .before .before .before .before .before .before .before .before .before .before .args in
+    let s = a .state .now in
+    let t = a .table .now in
+    let k = a .done .now in
+    let text = doneText (a .selected) (marked (count t) k) in
+    made-at (insert-done (a .place) k (a .m) (a .tree .now) t _ (c .before .before .before .before .before .before .before .turned-down .ensures) text s s (length (a .area .now)) (c .before .before .before .before .before .before .if1 .left))
+    (made-kept text (a .area .now) _ s t s (changed t (placed (a .place) (a .m) (a .tree .now) k (records t))) _ (c .before .before .before .answer-change .ensures) (c .if2 .taken))
+
+-- antt refused `insert-marked-requires` as it was built: the module's report says why
+insert-marked-requires : tie.Need-insert-marked-requires
+insert-marked-requires c κs = let g = c .before .before .before .before .before .before .before .before .before .before .before .before .before .before .before .pre in
+    let a = c .before .before .before .before .before .before .before .before .before .before .before .before .before .before .before .args in
+    let t = a .table .now in
+    let k = a .done .now in
+    ((g .0, g .1, g .2), (insert-shallow (a .place) k (a .m) (a .tree .now) t _ (c .before .before .before .before .before .before .before .before .turned-down .ensures) (c .before .before .before .before .before .before .before .if1 .left), insert-fits (a .place) k (a .m) (a .tree .now) t _ (c .before .before .before .before .before .before .before .before .turned-down .ensures) (c .before .before .before .before .before .before .before .if1 .left)))
+
+same-length-4 : tie.Need-same-length-4
+same-length-4 c = search needs
+
+same-length-5 : tie.Need-same-length-5
+same-length-5 c = search needs
+
+-- antt refused `returns-3` as it was built: the module's report says why
+returns-3 : tie.Need-returns-3
+returns-3 c = let g = c .before .before .before .before .before .before .before .before .before .before .before .before .before .before .before .before .before .before .pre in
+    let a = c .before .before .before .before .before .before .before .before .before .before .before .before .before .before .before .before .before .before .args in
+    let s = a .state .now in
+    let t = a .table .now in
+    let k = a .done .now in
+    let text = doneText (a .selected) (marked (count t) k) in
+    made-at (insert-done (a .place) k (a .m) (a .tree .now) t _ (c .before .before .before .before .before .before .before .before .before .before .before .turned-down .ensures) text s s (length (a .area .now)) (c .before .before .before .before .before .before .before .before .before .before .if1 .left))
+    (made-table text (a .area .now) _ s t (changed t (placed (a .place) (a .m) (a .tree .now) k (records t))) _ _ (c .before .before .insert-marked .ensures) (c .before .before .before .before .before .before .before .answer-change .ensures) (c .before .before .before .before .if2 .left))
+
+-- antt refused `insert-done-spec` as it was built: the module's report says why
+pub insert-done-spec : {M : Type 1} → statement M
+insert-done-spec =
+    tie.close
+    (tie.spec
+    turned-down-requires
+    same-length
+    returns
+    answer-change-requires
+    same-length-2
+    same-length-3
+    returns-2
+    insert-marked-requires
+    same-length-4
+    same-length-5
+    returns-3)

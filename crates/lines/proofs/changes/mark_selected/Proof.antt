@@ -1,0 +1,79 @@
+use native.Mathlib.Omega.{arith}
+use Rattle.lines.proofs.StateLaws.{store-held}
+use Rattle.rights.proofs.Facts.{table-long, table-few}
+use Rattle.lines.proofs.StepLaws.{shown-long, marks-long-enough}
+use Rattle.lines.proofs.ChangeLaws.{selected-count, selected-records}
+use borrow.Author.Needs.{needs}
+use Rattle.lines.proofs.changes.mark_selected.Statement.{statement}
+use Rattle.lines.proofs.changes.mark_selected.Tie as tie
+
+select-user-requires : tie.Need-select-user-requires
+select-user-requires c κs = search needs
+
+count-of-requires : tie.Need-count-of-requires
+count-of-requires c κs = table-long _ (store-held _ _ (c .before .before .before .before .before .before .before .before .before .before .before .before .before .before .before .before .before .pre .0) .table)
+
+sub-mark-records : tie.Need-sub-mark-records
+sub-mark-records c = search needs
+
+part-mark-records-start : tie.Need-part-mark-records-start
+part-mark-records-start c = search needs
+
+part-mark-records-end : tie.Need-part-mark-records-end
+part-mark-records-end c = let g = c .before .before .before .before .before .before .before .before .before .before .before .before .before .before .before .before .before .before .before .before .pre in
+    let a = c .before .before .before .before .before .before .before .before .before .before .before .before .before .before .before .before .before .before .before .before .args in
+    let r = c .before .before .before .before .before .before .before .before .before .select-user .ensures .0 in
+    marks-long-enough (a .state .now) (a .table .now) (a .path .now) _ _ _ (g .0) (r .size) (r .picked)
+
+mark-records-requires : tie.Need-mark-records-requires
+mark-records-requires c κs = let g = c .before .before .before .before .before .before .before .before .before .before .before .before .before .before .before .before .before .before .before .before .before .before .pre in
+    let a = c .before .before .before .before .before .before .before .before .before .before .before .before .before .before .before .before .before .before .before .before .before .before .args in
+    let r = c .before .before .before .before .before .before .before .before .before .before .before .select-user .ensures .0 in
+    (shown-long (a .state .now) (a .table .now) (g .0) _ _ _ (r .size) (r .numbers), omega (arith, c .before .before .before .before .count-of .ensures, table-few (a .table .now) (store-held _ _ (g .0) .table), g .6))
+
+count-marks-requires : tie.Need-count-marks-requires
+count-marks-requires c κs = let g = c .before .before .before .before .before .before .before .before .before .before .before .before .before .before .before .before .before .before .before .before .before .before .before .before .before .before .pre in
+    let a = c .before .before .before .before .before .before .before .before .before .before .before .before .before .before .before .before .before .before .before .before .before .before .before .before .before .before .args in
+    let r = c .before .before .before .before .before .before .before .before .before .before .before .before .before .before .before .select-user .ensures .0 in
+    marks-long-enough (a .state .now) (a .table .now) (a .path .now) _ _ _ (g .0) (r .size) (r .picked)
+
+same-length : tie.Need-same-length
+same-length c = search needs
+
+same-length-2 : tie.Need-same-length-2
+same-length-2 c = search needs
+
+same-length-3 : tie.Need-same-length-3
+same-length-3 c = search needs
+
+same-length-4 : tie.Need-same-length-4
+same-length-4 c = search needs
+
+returns : tie.Need-returns
+returns c = let g = c .before .before .before .before .before .before .before .before .before .before .before .before .before .before .before .before .before .before .before .before .before .before .before .before .before .before .before .pre in
+    let a = c .before .before .before .before .before .before .before .before .before .before .before .before .before .before .before .before .before .before .before .before .before .before .before .before .before .before .before .args in
+    let r = c .before .before .before .before .before .before .before .before .before .before .before .before .before .before .before .before .select-user .ensures in
+    let s = a .state .now in
+    let t = a .table .now in
+    record {
+      size = selected-count s t (a .path .now) (g .0) (a .shown .now) (a .marks .now) _ _ _ (r .0) _ (c .count-marks .ensures .0);
+      held = r .1;
+      picked = selected-records s t (a .path .now) (g .0) (a .shown .now) (a .marks .now) _ _ _ (r .0) (a .selected .now) _ _ (c .before .before .before .before .before .before .before .before .before .count-of .ensures) (c .before .before .before .before .mark-records .ensures);
+    }
+
+pub mark-selected-spec : {M : Type 1} → statement M
+mark-selected-spec =
+    tie.close
+    (tie.spec
+    select-user-requires
+    count-of-requires
+    sub-mark-records
+    part-mark-records-start
+    part-mark-records-end
+    mark-records-requires
+    count-marks-requires
+    same-length
+    same-length-2
+    same-length-3
+    same-length-4
+    returns)

@@ -1,0 +1,26 @@
+-- What a change decides before anything changes, in the areas that the caller lends (document 01, "Changes").
+use Prim.Native.Nat.{ℕ}
+use mathlib.Core.Path.{_≡_}
+use mathlib.Core.List.{List, _++_, map}
+use lib.ListN.{drop}
+use Rattle.rights.specs.Automaton.{bit}
+use Rattle.rights.specs.Table.{count}
+use Rattle.views.specs.Marks.{marksOf, markCount}
+use Rattle.views.specs.declared.done.Change.{Change}
+use Rattle.lines.specs.Step.{rightsIn, marksIn}
+use Rattle.lines.specs.StepTree.{selectedIn, doneIn}
+
+-- the user's rights on each record; the rest of the area is as it was
+abbrev pub RightsHeld : List ℕ → List ℕ → List ℕ → List ℕ → Type 0
+RightsHeld s t rights rights' = rights' ≡ rightsIn s t ++ drop (count t) rights
+
+-- the records that a path selects, and k, how many nodes are selected; the rest of each area is as it was
+pub record Selected (s t path rights selected : List ℕ) (k : ℕ) (rights' selected' : List ℕ) : Type 0 where
+  pub size : k ≡ markCount (marksOf (marksIn s t path))
+  pub held : RightsHeld s t rights rights'
+  pub picked : selected' ≡ map bit (selectedIn s t path) ++ drop (count t) selected
+
+-- the records that a change does, and k, how many nodes are selected
+pub record Decided (c : Change) (s t path done : List ℕ) (k : ℕ) (done' : List ℕ) : Type 0 where
+  pub size : k ≡ markCount (marksOf (marksIn s t path))
+  pub marks : done' ≡ doneIn c s t path ++ drop (count t) done

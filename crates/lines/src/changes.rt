@@ -1,0 +1,362 @@
+// The six changes (document 01, stage E and "Changes"). Everything is decided, and the answer put, before a byte of the table is written.
+use crate::answer::answer_done;
+use crate::limits::POLICY_AT;
+use crate::line::Answer;
+use crate::queries::select_user;
+use crate::tree_lines::tree_restricted;
+use crate::tree_lines::turned_down;
+use rights::labels::is_restricted;
+use rights::limits::RECORDS_MAX;
+use rights::path::Read;
+use rights::path::check_path;
+use rights::policy::is_policy_word;
+use rights::table::count_of;
+use views::done::Change;
+use views::done::mark_done;
+use views::done::mark_records;
+use views::insert::Place;
+use views::insert::insert_marked;
+use views::marks::count_marks;
+use views::remove::remove_marked;
+use views::rename::rename_marked;
+ghost use mathlib.Core.Path.{_≡_};
+ghost use mathlib.Core.Bool.{true, false, _||_};
+ghost use Prim.Native.Nat.{_*_, _≤_};
+ghost use lib.ListN.{length};
+ghost use Rattle.rights.specs.Labels.{sameLabel, restricted};
+ghost use Rattle.rights.specs.PathReader.{pathOf};
+ghost use Rattle.rights.specs.Policy.{policyWord};
+ghost use Rattle.rights.specs.Table.{count, records, tableOk};
+ghost use Rattle.views.specs.Marks.{marked};
+ghost use Rattle.lines.specs.Answer.{doneText};
+ghost use Rattle.views.specs.Change.{changed, renamed, removed};
+ghost use Rattle.views.specs.declared.done.Change.the-variants as change;
+ghost use Rattle.lines.specs.AnswerArea.{Answered};
+ghost use Rattle.lines.specs.ChangeRoom.{Selected, Decided};
+ghost use Rattle.lines.specs.State.{policyIn, storeOk};
+ghost use Rattle.lines.specs.Step.{Made, finish, noUser, notPath};
+ghost use Rattle.lines.specs.StepTree.{doneIn, countText, inserting, changeAt, stepRename, stepInsert, stepRemove};
+
+// Writes the user's rights on each record and the marks of the records that a path selects, and returns how many are selected.
+fn mark_selected(
+    state: &[u8],
+    table: &[u8],
+    path: &[u8],
+    rights: &mut [u8],
+    shown: &mut [u16],
+    marks: &mut [u8],
+    selected: &mut [u8],
+) -> usize
+    requires { ⌜ (storeOk (now state) (now table) ≡ true) × (noUser (now state) ≡ false) × (notPath (pathOf (now path)) ≡ false) × (length (now rights) ≡ 16384) × (length (now shown) ≡ 16384) × (length (now marks) ≡ 16384) × (length (now selected) ≡ 16384) ⌝ }
+    ensures { λ r. ⌜ Selected (now (state .entry)) (now (table .entry)) (now (path .entry)) (now (rights .entry)) (now (selected .entry)) r (now (rights .exit)) (now (selected .exit)) ⌝ }
+{
+    let k = select_user(state, table, path, rights, shown, marks);
+    let n = count_of(table);
+    mark_records(shown, k, &marks[0..k], n, selected);
+    count_marks(marks, k)
+}
+
+// Writes the marks of the records that the change does, and returns how many nodes are selected.
+fn mark_change(
+    state: &[u8],
+    table: &[u8],
+    change: Change,
+    path: &[u8],
+    rights: &mut [u8],
+    shown: &mut [u16],
+    marks: &mut [u8],
+    selected: &mut [u8],
+    done: &mut [u8],
+) -> usize
+    requires { ⌜ (storeOk (now state) (now table) ≡ true) × (noUser (now state) ≡ false) × (notPath (pathOf (now path)) ≡ false) × (length (now rights) ≡ 16384) × (length (now shown) ≡ 16384) × (length (now marks) ≡ 16384) × (length (now selected) ≡ 16384) × (length (now done) ≡ 16384) ⌝ }
+    ensures { λ r. ⌜ Decided change (now (state .entry)) (now (table .entry)) (now (path .entry)) (now (done .entry)) r (now (done .exit)) ⌝ }
+{
+    let k = mark_selected(state, table, path, rights, shown, marks, selected);
+    let n = count_of(table);
+    mark_done(
+        change,
+        &state[POLICY_AT..],
+        table,
+        &rights[0..n],
+        &selected[0..n],
+        done,
+    );
+    k
+}
+
+// Answers a change of which `selected` nodes are selected and the marked records done.
+fn answer_change(table: &[u8], selected: usize, done: &[u8], area: &mut [u8]) -> usize
+    requires { ⌜ (tableOk (now table) ≡ true) × (count (now table) ≤ length (now done)) ⌝ }
+    ensures { λ r. ⌜ Answered (doneText selected (marked (count (now (table .entry))) (now (done .entry)))) (now (area .entry)) (now (area .exit)) r ⌝ }
+{
+    let n = count_of(table);
+    let d = count_marks(done, n);
+    answer_done(selected, d, area)
+}
+
+// Whether a label is none that a node may get by rename or update: RESTRICTED, or a policy word.
+fn is_barred(state: &[u8], table: &[u8], label: &[u8]) -> bool
+    requires { ⌜ storeOk (now state) (now table) ≡ true ⌝ }
+    ensures { λ r. ⌜ r ≡ (sameLabel (now (label .entry)) restricted || policyWord (policyIn (now (state .entry))) (now (label .entry))) ⌝ }
+{
+    if is_restricted(label, 0, label.len()) {
+        return true;
+    }
+    is_policy_word(&state[POLICY_AT..], label, 0, label.len())
+}
+
+// `(rename P L)` and `(update P L)`, with room for rights, numbers and marks.
+fn rename_with(
+    state: &[u8],
+    table: &mut [u8],
+    change: Change,
+    path: &[u8],
+    label: &[u8],
+    rights: &mut [u8],
+    shown: &mut [u16],
+    marks: &mut [u8],
+    selected: &mut [u8],
+    done: &mut [u8],
+    area: &mut [u8],
+) -> Answer
+    requires { ⌜ (storeOk (now state) (now table) ≡ true) × (noUser (now state) ≡ false) × (notPath (pathOf (now path)) ≡ false) × (length (now rights) ≡ 16384) × (length (now shown) ≡ 16384) × (length (now marks) ≡ 16384) × (length (now selected) ≡ 16384) × (length (now done) ≡ 16384) × (length (now label) ≤ 24) ⌝ }
+    ensures { λ r. ⌜ Made (finish (length (now (area .entry))) (countText change (now (state .entry)) (now (table .entry)) (now (path .entry))) (now (state .entry)) (changed (now (table .entry)) (renamed (now (label .entry)) (doneIn change (now (state .entry)) (now (table .entry)) (now (path .entry))) (records (now (table .entry))))) (now (state .entry)) (now (table .entry))) (now (area .entry)) r (now (state .entry)) (now (table .exit)) (now (area .exit)) ⌝ }
+{
+    let k = mark_change(
+        state,
+        table,
+        change,
+        path,
+        rights,
+        shown,
+        marks,
+        selected,
+        done,
+    );
+    let n = count_of(table);
+    let need = answer_change(table, k, &done[0..n], area);
+    if area.len() < need {
+        return Answer::Refused(12);
+    }
+    rename_marked(table, &done[0..n], label, 0, label.len());
+    Answer::Accepted(need)
+}
+
+// `(rename P L)` and `(update P L)`.
+pub fn rename(
+    state: &[u8],
+    table: &mut [u8],
+    change: Change,
+    path: &[u8],
+    label: &[u8],
+    area: &mut [u8],
+) -> Answer
+    requires { ⌜ (storeOk (now state) (now table) ≡ true) × (length (now label) ≤ 24) ⌝ }
+    ensures { λ r. ⌜ Made (stepRename change (now (state .entry)) (now (table .entry)) (length (now (area .entry))) (now (path .entry)) (now (label .entry))) (now (area .entry)) r (now (state .entry)) (now (table .exit)) (now (area .exit)) ⌝ }
+{
+    let Read::At(_) = check_path(path) else {
+        return Answer::Refused(4);
+    };
+    if state[1] == 0 {
+        return Answer::Refused(8);
+    }
+    if is_barred(state, table, label) {
+        return Answer::Refused(9);
+    }
+    let mut rights = [0u8; RECORDS_MAX];
+    let mut shown = [0u16; RECORDS_MAX];
+    let mut marks = [0u8; RECORDS_MAX];
+    let mut selected = [0u8; RECORDS_MAX];
+    let mut done = [0u8; RECORDS_MAX];
+    rename_with(
+        state,
+        table,
+        change,
+        path,
+        label,
+        &mut rights,
+        &mut shown,
+        &mut marks,
+        &mut selected,
+        &mut done,
+        area,
+    )
+}
+
+// `(remove P)`, with room for rights, numbers and marks.
+fn remove_with(
+    state: &[u8],
+    table: &mut [u8],
+    path: &[u8],
+    rights: &mut [u8],
+    shown: &mut [u16],
+    marks: &mut [u8],
+    selected: &mut [u8],
+    done: &mut [u8],
+    area: &mut [u8],
+) -> Answer
+    requires { ⌜ (storeOk (now state) (now table) ≡ true) × (noUser (now state) ≡ false) × (notPath (pathOf (now path)) ≡ false) × (length (now rights) ≡ 16384) × (length (now shown) ≡ 16384) × (length (now marks) ≡ 16384) × (length (now selected) ≡ 16384) × (length (now done) ≡ 16384) ⌝ }
+    ensures { λ r. ⌜ Made (finish (length (now (area .entry))) (countText change.Remove (now (state .entry)) (now (table .entry)) (now (path .entry))) (now (state .entry)) (changed (now (table .entry)) (removed (doneIn change.Remove (now (state .entry)) (now (table .entry)) (now (path .entry))) (records (now (table .entry))))) (now (state .entry)) (now (table .entry))) (now (area .entry)) r (now (state .entry)) (now (table .exit)) (now (area .exit)) ⌝ }
+{
+    let k = mark_change(
+        state,
+        table,
+        Change::Remove,
+        path,
+        rights,
+        shown,
+        marks,
+        selected,
+        done,
+    );
+    let n = count_of(table);
+    let need = answer_change(table, k, &done[0..n], area);
+    if area.len() < need {
+        return Answer::Refused(12);
+    }
+    remove_marked(table, &done[0..n]);
+    Answer::Accepted(need)
+}
+
+// `(remove P)`.
+pub fn remove(state: &[u8], table: &mut [u8], path: &[u8], area: &mut [u8]) -> Answer
+    requires { ⌜ storeOk (now state) (now table) ≡ true ⌝ }
+    ensures { λ r. ⌜ Made (stepRemove (now (state .entry)) (now (table .entry)) (length (now (area .entry))) (now (path .entry))) (now (area .entry)) r (now (state .entry)) (now (table .exit)) (now (area .exit)) ⌝ }
+{
+    let Read::At(_) = check_path(path) else {
+        return Answer::Refused(4);
+    };
+    if state[1] == 0 {
+        return Answer::Refused(8);
+    }
+    let mut rights = [0u8; RECORDS_MAX];
+    let mut shown = [0u16; RECORDS_MAX];
+    let mut marks = [0u8; RECORDS_MAX];
+    let mut selected = [0u8; RECORDS_MAX];
+    let mut done = [0u8; RECORDS_MAX];
+    remove_with(
+        state,
+        table,
+        path,
+        &mut rights,
+        &mut shown,
+        &mut marks,
+        &mut selected,
+        &mut done,
+        area,
+    )
+}
+
+// The change that inserts at a place.
+fn change_at(place: Place) -> Change
+    ensures { λ r. ⌜ r ≡ changeAt place ⌝ }
+{
+    match place {
+        Place::Append => Change::Append,
+        Place::After => Change::After,
+        Place::Before => Change::Before,
+    }
+}
+
+// Inserts the tree at the places that are done, of `selected` nodes selected, if nothing refuses it.
+fn insert_done(
+    state: &[u8],
+    table: &mut [u8],
+    place: Place,
+    selected: usize,
+    done: &[u8],
+    tree: &[u8],
+    m: usize,
+    area: &mut [u8],
+) -> Answer
+    requires { ⌜ (tableOk (now table) ≡ true) × (count (now table) ≤ length (now done)) × (m * 32 ≤ length (now tree)) × (m ≤ 16384) ⌝ }
+    ensures { λ r. ⌜ Made (inserting place (now (done .entry)) m (now (tree .entry)) (doneText selected (marked (count (now (table .entry))) (now (done .entry)))) (now (state .entry)) (now (state .entry)) (now (table .entry)) (length (now (area .entry)))) (now (area .entry)) r (now (state .entry)) (now (table .exit)) (now (area .exit)) ⌝ }
+{
+    let down = turned_down(table, done, tree, m, place);
+    if down != 0 {
+        return Answer::Refused(down);
+    }
+    let need = answer_change(table, selected, done, area);
+    if area.len() < need {
+        return Answer::Refused(12);
+    }
+    insert_marked(table, done, tree, m, place);
+    Answer::Accepted(need)
+}
+
+// `(append P TREE)`, `(before P TREE)` and `(after P TREE)`, with room for rights, numbers and marks.
+fn insert_with(
+    state: &[u8],
+    table: &mut [u8],
+    place: Place,
+    path: &[u8],
+    tree: &[u8],
+    m: usize,
+    rights: &mut [u8],
+    shown: &mut [u16],
+    marks: &mut [u8],
+    selected: &mut [u8],
+    done: &mut [u8],
+    area: &mut [u8],
+) -> Answer
+    requires { ⌜ (storeOk (now state) (now table) ≡ true) × (noUser (now state) ≡ false) × (notPath (pathOf (now path)) ≡ false) × (length (now rights) ≡ 16384) × (length (now shown) ≡ 16384) × (length (now marks) ≡ 16384) × (length (now selected) ≡ 16384) × (length (now done) ≡ 16384) × (m * 32 ≤ length (now tree)) × (m ≤ 16384) ⌝ }
+    ensures { λ r. ⌜ Made (inserting place (doneIn (changeAt place) (now (state .entry)) (now (table .entry)) (now (path .entry))) m (now (tree .entry)) (countText (changeAt place) (now (state .entry)) (now (table .entry)) (now (path .entry))) (now (state .entry)) (now (state .entry)) (now (table .entry)) (length (now (area .entry)))) (now (area .entry)) r (now (state .entry)) (now (table .exit)) (now (area .exit)) ⌝ }
+{
+    let change = change_at(place);
+    let k = mark_change(
+        state,
+        table,
+        change,
+        path,
+        rights,
+        shown,
+        marks,
+        selected,
+        done,
+    );
+    let n = count_of(table);
+    insert_done(state, table, place, k, &done[0..n], tree, m, area)
+}
+
+// `(append P TREE)`, `(before P TREE)` and `(after P TREE)`: a tree of m records.
+pub fn insert(
+    state: &[u8],
+    table: &mut [u8],
+    place: Place,
+    path: &[u8],
+    tree: &[u8],
+    m: usize,
+    area: &mut [u8],
+) -> Answer
+    requires { ⌜ (storeOk (now state) (now table) ≡ true) × (m * 32 ≤ length (now tree)) × (m ≤ 16384) ⌝ }
+    ensures { λ r. ⌜ Made (stepInsert place (now (state .entry)) (now (table .entry)) (length (now (area .entry))) (now (path .entry)) m (now (tree .entry))) (now (area .entry)) r (now (state .entry)) (now (table .exit)) (now (area .exit)) ⌝ }
+{
+    let Read::At(_) = check_path(path) else {
+        return Answer::Refused(4);
+    };
+    if state[1] == 0 {
+        return Answer::Refused(8);
+    }
+    if tree_restricted(tree, m) {
+        return Answer::Refused(9);
+    }
+    let mut rights = [0u8; RECORDS_MAX];
+    let mut shown = [0u16; RECORDS_MAX];
+    let mut marks = [0u8; RECORDS_MAX];
+    let mut selected = [0u8; RECORDS_MAX];
+    let mut done = [0u8; RECORDS_MAX];
+    insert_with(
+        state,
+        table,
+        place,
+        path,
+        tree,
+        m,
+        &mut rights,
+        &mut shown,
+        &mut marks,
+        &mut selected,
+        &mut done,
+        area,
+    )
+}
