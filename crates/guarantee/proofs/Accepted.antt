@@ -22,18 +22,18 @@ use Rattle.views.specs.declared.done.Change.{Change}
 use Rattle.views.specs.declared.done.Change.the-variants as change
 use Rattle.views.specs.declared.insert.Place.{Place}
 use Rattle.views.specs.declared.insert.Place.the-variants as place
-use Rattle.lines.specs.Answer.{okText, viewText, queryText, hitsOf}
-use Rattle.lines.specs.AnswerChoice.{Choice, findText}
+use Rattle.answers.specs.Answer.{okText, viewText, queryText, hitsOf}
+use Rattle.answers.specs.AnswerChoice.{Choice, findText}
 use Rattle.lines.specs.PolicyEdit.{subjectNamed, isaHeld, hasBracket, pathRestricted, stepsIn, withSubject, withIsa, withRule}
-use Rattle.lines.specs.Form.{readForm, treeIn}
-use Rattle.lines.specs.Text.{lineOk}
-use Rattle.lines.specs.Tree.{recordsOf}
+use Rattle.forms.specs.Form.{readForm, treeIn}
+use Rattle.forms.specs.Text.{lineOk}
+use Rattle.forms.specs.Tree.{recordsOf}
 use Rattle.lines.specs.State.{stageB, stageC, stageD, stageE, stage, withStage, withSession, withPolicy, policyBytes, policyIn, storeOk}
 use Rattle.lines.specs.Step.{says, Outcome, refusal, refuse, finish, noUser, viewIn, marksIn, notPath, isFound, isaLine, ruleLine, loggedIn, stepView, stepQuery, stepFind, stepUser, stepSubject, stepIsa, stepRule}
 use Rattle.lines.specs.StepTree.{treeRestricted, inserting, rootAlone, doneIn, countText, changeAt, stepRoot, stepChild, stepRename, stepInsert, stepRemove}
 use Rattle.lines.specs.Line.{stageOf, inStage, isNoForm, bytesOf, acceptByte, stepForm, stepRead, step}
-use Rattle.lines.specs.declared.form.Form.{Form}
-use Rattle.lines.specs.declared.form.Form.the-variants.{Subject, Isa, Rule, Root, Child, User, View, Query, Find, Rename, Update, Append, Before, After, Remove, NoForm}
+use Rattle.forms.specs.declared.form.Form.{Form}
+use Rattle.forms.specs.declared.form.Form.the-variants.{Subject, Isa, Rule, Root, Child, User, View, Query, Find, Rename, Update, Append, Before, After, Remove, NoForm}
 use Rattle.lines.specs.declared.policy_edit.Found.{Found}
 use Rattle.lines.specs.declared.policy_edit.Found.the-variants as found
 

@@ -7,16 +7,16 @@ use native.Mathlib.Omega.{arith}
 use lib.ListN.{length, drop}
 use lib.Seq.{take-append-seam}
 use Rattle.rights.specs.Policy.{Right, bitOf}
-use Rattle.lines.specs.TreeText as text
-use Rattle.lines.specs.TreeText.{GoodLabel, GoodTree, nodesOf}
-use Rattle.lines.specs.Form.{part, readForm, treeIn}
-use Rattle.lines.specs.FormText.{Said, subject, isa, rule, root, child, user, view, query, find, rename, update-children, append, before, after, remove, writePiece, GoodPiece, write, Good}
+use Rattle.forms.specs.TreeText as text
+use Rattle.forms.specs.TreeText.{GoodLabel, GoodTree, nodesOf}
+use Rattle.forms.specs.Form.{part, readForm, treeIn}
+use Rattle.forms.specs.FormText.{Said, subject, isa, rule, root, child, user, view, query, find, rename, update-children, append, before, after, remove, writePiece, GoodPiece, write, Good}
 use Rattle.lines.specs.Line.{isNoForm, bytesOf}
-use Rattle.lines.specs.declared.form.Form.{Form}
-use Rattle.lines.specs.declared.form.Form.the-variants.{Subject, Isa, Rule, Root, Child, User, View, Query, Find, Rename, Update, Append, Before, After, Remove, NoForm}
-use Rattle.lines.proofs.TreeWritten.{drop-over}
-use Rattle.lines.proofs.FormWritten.{placed, written-form, read-said}
-use Rattle.lines.proofs.FormPlaces.{written-tree, written-rule}
+use Rattle.forms.specs.declared.form.Form.{Form}
+use Rattle.forms.specs.declared.form.Form.the-variants.{Subject, Isa, Rule, Root, Child, User, View, Query, Find, Rename, Update, Append, Before, After, Remove, NoForm}
+use Rattle.forms.proofs.TreeWritten.{drop-over}
+use Rattle.forms.proofs.FormWritten.{placed, written-form, read-said}
+use Rattle.forms.proofs.FormPlaces.{written-tree, written-rule}
 
 -- the tree of a line, which has m nodes
 pub record TreeSaid (line : List ℕ) (m : ℕ) : Type 0 where

@@ -17,16 +17,16 @@ use Rattle.views.specs.declared.insert.Place.the-variants as place
 use Rattle.views.proofs.KeptLaws.{tags-remove, tags-insertBehind, tags-insertInFront, tags-rename}
 use Rattle.views.proofs.Mapped.{map-remove, map-insertBehind, map-insertInFront, map-rename}
 use Rattle.views.proofs.NodeLaws.{remove-only}
-use Rattle.lines.specs.AnswerChoice.{Choice}
-use Rattle.lines.specs.Form.{readForm, treeIn}
+use Rattle.answers.specs.AnswerChoice.{Choice}
+use Rattle.forms.specs.Form.{readForm, treeIn}
 use Rattle.lines.specs.Step.{Reply, says, refuses}
 use Rattle.lines.specs.StepTree.{rootAlone, doneIn}
-use Rattle.lines.specs.Tree.{recordsOf}
+use Rattle.forms.specs.Tree.{recordsOf}
 use Rattle.lines.specs.Line.{stageOf, inStage, bytesOf}
 use Rattle.lines.specs.State.{stageC, stage}
-use Rattle.lines.specs.declared.form.Part.{Part}
-use Rattle.lines.specs.declared.form.Form.{Form}
-use Rattle.lines.specs.declared.form.Form.the-variants.{Subject, Isa, Rule, Root, Child, User, View, Query, Find, Rename, Update, Append, Before, After, Remove, NoForm}
+use Rattle.forms.specs.declared.form.Part.{Part}
+use Rattle.forms.specs.declared.form.Form.{Form}
+use Rattle.forms.specs.declared.form.Form.the-variants.{Subject, Isa, Rule, Root, Child, User, View, Query, Find, Rename, Update, Append, Before, After, Remove, NoForm}
 use Rattle.guarantee.specs.Alike.{Input, outcome}
 use Rattle.guarantee.specs.Identity.{Tagged, taggedLevel, new, newTree, afterInsert, afterRename, afterRemove, afterForm, afterReply, follow, followAll, tableAfter, Follows, numbered, tagAt, NodesKept, NodesRemoved, NoneBack, OrderKept}
 use Rattle.guarantee.proofs.Accepted.{Refused, Accepted, line-cases}

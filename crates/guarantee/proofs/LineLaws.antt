@@ -8,14 +8,14 @@ use borrow.Author.Tests.{eqb-true, le-leb}
 use lib.Dec.{leb, eqb}
 use Rattle.rights.specs.PolicyBytes.{policyOf}
 use Rattle.rights.specs.Table.{records}
-use Rattle.lines.specs.AnswerChoice.{Choice}
-use Rattle.lines.specs.Form.{readForm, treeIn}
-use Rattle.lines.specs.Text.{lineOk}
-use Rattle.lines.specs.Tree.{recordsOf}
+use Rattle.answers.specs.AnswerChoice.{Choice}
+use Rattle.forms.specs.Form.{readForm, treeIn}
+use Rattle.forms.specs.Text.{lineOk}
+use Rattle.forms.specs.Tree.{recordsOf}
 use Rattle.lines.specs.State.{stageC, stageE, stage, userByte, policyIn, storeOk}
 use Rattle.lines.specs.Step.{says, refuses, refuse}
 use Rattle.lines.specs.Line.{stepRead, step}
-use Rattle.lines.specs.declared.form.Form.{Form}
+use Rattle.forms.specs.declared.form.Form.{Form}
 use Rattle.lines.proofs.StateLaws.{store-held}
 use Rattle.guarantee.specs.Alike.{UserIs}
 use Rattle.guarantee.proofs.Accepted.{Taken}

@@ -12,17 +12,17 @@ use lib.Dec.{leb, ltb}
 use lib.ListN.{length, getD, take, List·getD-append}
 use lib.Seq.{getD-take, getD-drop, drop-drop, length-take-le}
 use Rattle.rights.proofs.Facts.{both}
-use Rattle.lines.specs.Answer.{okText}
-use Rattle.lines.specs.AnswerChoice.{Choice}
-use Rattle.lines.specs.Form.{readForm, treeIn}
+use Rattle.answers.specs.Answer.{okText}
+use Rattle.answers.specs.AnswerChoice.{Choice}
+use Rattle.forms.specs.Form.{readForm, treeIn}
 use Rattle.lines.specs.PolicyEdit.{stepsIn, withRule, subjectNamed}
-use Rattle.lines.specs.Tree.{recordsOf}
+use Rattle.forms.specs.Tree.{recordsOf}
 use Rattle.lines.specs.State.{stageC, stageE, stage, userByte, withStage, withSession, withPolicy, policyBytes, policyIn}
 use Rattle.lines.specs.Step.{says, refuses, Outcome}
 use Rattle.lines.specs.Line.{stageOf, inStage, bytesOf, acceptByte, step}
-use Rattle.lines.specs.declared.form.Part.{Part}
-use Rattle.lines.specs.declared.form.Form.{Form}
-use Rattle.lines.specs.declared.form.Form.the-variants.{Subject, Isa, Rule, Root, Child, User, View, Query, Find, Rename, Update, Append, Before, After, Remove, NoForm}
+use Rattle.forms.specs.declared.form.Part.{Part}
+use Rattle.forms.specs.declared.form.Form.{Form}
+use Rattle.forms.specs.declared.form.Form.the-variants.{Subject, Isa, Rule, Root, Child, User, View, Query, Find, Rename, Update, Append, Before, After, Remove, NoForm}
 use Rattle.lines.specs.declared.policy_edit.Found.the-variants as found
 use Rattle.lines.proofs.StateLaws.{store-held}
 use Rattle.guarantee.specs.Alike.{UserIs, LogsIn}

@@ -19,16 +19,16 @@ use Rattle.rights.specs.Table.{count, tableOk}
 use Rattle.rights.proofs.Facts.{both}
 use Rattle.rights.proofs.RecordLaws.{length-record}
 use Rattle.views.proofs.TableKept.{length-records}
-use Rattle.lines.specs.AnswerChoice.{Choice}
+use Rattle.answers.specs.AnswerChoice.{Choice}
 use Rattle.lines.specs.PolicyEdit.{hasBracket, Plain, stepsIn, withSubject, withIsa, withRule}
-use Rattle.lines.specs.Form.{readForm, treeIn}
-use Rattle.lines.specs.Tree.{recordsOf}
-use Rattle.lines.specs.TreeText.{GoodLabel}
+use Rattle.forms.specs.Form.{readForm, treeIn}
+use Rattle.forms.specs.Tree.{recordsOf}
+use Rattle.forms.specs.TreeText.{GoodLabel}
 use Rattle.lines.specs.State.{stage, userByte, withStage, withSession, withPolicy, policyBytes, policyIn, sessionOk, storeOk}
 use Rattle.lines.specs.Step.{notPath}
 use Rattle.lines.specs.Line.{stageOf, inStage, bytesOf, acceptByte, step}
-use Rattle.lines.specs.declared.form.Form.{Form}
-use Rattle.lines.specs.declared.form.Form.the-variants.{Subject, Isa, Rule, Root, Child, User, View, Query, Find, Rename, Update, Append, Before, After, Remove, NoForm}
+use Rattle.forms.specs.declared.form.Form.{Form}
+use Rattle.forms.specs.declared.form.Form.the-variants.{Subject, Isa, Rule, Root, Child, User, View, Query, Find, Rename, Update, Append, Before, After, Remove, NoForm}
 use Rattle.lines.proofs.EditBytes.{part-in, line-byte}
 use Rattle.lines.proofs.EditKept.{parts}
 use Rattle.lines.proofs.EditTests.{unknown-new}

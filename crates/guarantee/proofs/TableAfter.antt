@@ -25,16 +25,16 @@ use Rattle.views.proofs.MarkLaws.{marks-bits}
 use Rattle.views.proofs.TableFacts.{facts}
 use Rattle.views.proofs.TableKept.{Full, Stored, removed-stored, renamed-stored, placed-stored, changed-ok, length-changed, records-changed, count-changed, loosen, length-records, length-placed}
 use Rattle.views.proofs.Waiting.{length-rename}
-use Rattle.lines.specs.AnswerChoice.{Choice}
+use Rattle.answers.specs.AnswerChoice.{Choice}
 use Rattle.lines.specs.State.{policyIn}
 use Rattle.lines.specs.Step.{rightsIn}
 use Rattle.lines.specs.StepTree.{rootAlone, selectedIn, doneIn}
-use Rattle.lines.specs.Tree.{recordsOf}
-use Rattle.lines.specs.TreeText.{GoodLabel}
-use Rattle.lines.specs.Form.{readForm, treeIn}
+use Rattle.forms.specs.Tree.{recordsOf}
+use Rattle.forms.specs.TreeText.{GoodLabel}
+use Rattle.forms.specs.Form.{readForm, treeIn}
 use Rattle.lines.specs.Line.{bytesOf}
-use Rattle.lines.specs.declared.form.Form.{Form}
-use Rattle.lines.specs.declared.form.Form.the-variants.{Subject, Isa, Rule, Root, Child, User, View, Query, Find, Rename, Update, Append, Before, After, Remove, NoForm}
+use Rattle.forms.specs.declared.form.Form.{Form}
+use Rattle.forms.specs.declared.form.Form.the-variants.{Subject, Isa, Rule, Root, Child, User, View, Query, Find, Rename, Update, Append, Before, After, Remove, NoForm}
 use Rattle.lines.proofs.StateLaws.{store-held}
 use Rattle.lines.proofs.StoredSteps.{or-none}
 use Rattle.guarantee.proofs.Accepted.{RootTaken, Inserted, RenameTaken, RemoveTaken, Taken, LineTaken}

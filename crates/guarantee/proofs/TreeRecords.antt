@@ -15,9 +15,9 @@ use Rattle.rights.proofs.RecordMade.{made-ok, level-made, label-made}
 use Rattle.views.specs.Change.{chunks}
 use Rattle.views.specs.Nodes.{All, Nested, TreeOk}
 use Rattle.lines.specs.StepTree.{treeRestricted}
-use Rattle.lines.specs.Tree.{Node, node, held, recordsOf}
-use Rattle.lines.specs.TreeText.{Tree, tree, Trees, none, more, GoodLabel, GoodTree, GoodTrees, nodesOf, nodesIn}
-use Rattle.lines.specs.Form.{treeIn}
+use Rattle.forms.specs.Tree.{Node, node, held, recordsOf}
+use Rattle.forms.specs.TreeText.{Tree, tree, Trees, none, more, GoodLabel, GoodTree, GoodTrees, nodesOf, nodesIn}
+use Rattle.forms.specs.Form.{treeIn}
 use Rattle.lines.proofs.StoredSteps.{or-none}
 use Rattle.guarantee.proofs.FormParts.{TreeSaid}
 

@@ -11,15 +11,15 @@ use Rattle.rights.specs.Policy.{Policy, Rule, policyWord}
 use Rattle.rights.specs.Rights.{rightsOn}
 use Rattle.rights.specs.Table.{records, label}
 use Rattle.views.specs.Shown.{Stored, stored, shown, keep, carried, view}
-use Rattle.lines.specs.Answer.{okText}
-use Rattle.lines.specs.AnswerChoice.{Choice}
+use Rattle.answers.specs.Answer.{okText}
+use Rattle.answers.specs.AnswerChoice.{Choice}
 use Rattle.lines.specs.PolicyEdit.{isaHeld, subjectNamed}
-use Rattle.lines.specs.Form.{readForm}
+use Rattle.forms.specs.Form.{readForm}
 use Rattle.lines.specs.State.{stageC, stage, userByte, policyIn, storeOk}
 use Rattle.lines.specs.Step.{Reply, says, refuses, Outcome}
 use Rattle.lines.specs.Line.{bytesOf, step}
-use Rattle.lines.specs.declared.form.Part.{Part}
-use Rattle.lines.specs.declared.form.Form.the-variants.{User}
+use Rattle.forms.specs.declared.form.Part.{Part}
+use Rattle.forms.specs.declared.form.Form.the-variants.{User}
 use Rattle.lines.specs.declared.policy_edit.Found.the-variants.{Subject}
 
 -- "A policy is the subjects in order, the set of isa lines and the rules in order that a state holds."

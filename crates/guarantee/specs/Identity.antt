@@ -16,16 +16,16 @@ use Rattle.views.specs.Change.{chunks, raise, relabel, remove, append, insertAf
 use Rattle.views.specs.declared.done.Change.the-variants as change
 use Rattle.views.specs.declared.insert.Place.{Place}
 use Rattle.views.specs.declared.insert.Place.the-variants as place
-use Rattle.lines.specs.AnswerChoice.{Choice}
-use Rattle.lines.specs.Form.{readForm, treeIn}
+use Rattle.answers.specs.AnswerChoice.{Choice}
+use Rattle.forms.specs.Form.{readForm, treeIn}
 use Rattle.lines.specs.State.{stageC, stage, policyIn}
 use Rattle.lines.specs.Step.{Reply, says, refuses}
 use Rattle.lines.specs.StepTree.{rootAlone, doneIn}
-use Rattle.lines.specs.Tree.{recordsOf}
+use Rattle.forms.specs.Tree.{recordsOf}
 use Rattle.lines.specs.Line.{bytesOf}
-use Rattle.lines.specs.declared.form.Part.{Part}
-use Rattle.lines.specs.declared.form.Form.{Form}
-use Rattle.lines.specs.declared.form.Form.the-variants.{Subject, Isa, Rule, Root, Child, User, View, Query, Find, Rename, Update, Append, Before, After, Remove, NoForm}
+use Rattle.forms.specs.declared.form.Part.{Part}
+use Rattle.forms.specs.declared.form.Form.{Form}
+use Rattle.forms.specs.declared.form.Form.the-variants.{Subject, Isa, Rule, Root, Child, User, View, Query, Find, Rename, Update, Append, Before, After, Remove, NoForm}
 use Rattle.guarantee.specs.Alike.{Input, outcome}
 
 -- a record and the tag of its node, a number

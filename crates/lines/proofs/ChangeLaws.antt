@@ -24,8 +24,8 @@ use Rattle.views.specs.declared.done.Change.the-variants as change
 use Rattle.views.specs.declared.insert.Place.{Place}
 use Rattle.views.proofs.DoneLaws.{numbers-in-table, done-length}
 use Rattle.views.proofs.MarkLaws.{marks-bits}
-use Rattle.lines.specs.Answer.{doneText}
-use Rattle.lines.specs.AnswerArea.{Answered, written}
+use Rattle.answers.specs.Answer.{doneText}
+use Rattle.answers.specs.AnswerArea.{Answered, written}
 use Rattle.lines.specs.ChangeRoom.{Selected, Decided}
 use Rattle.lines.specs.State.{policyIn, storeOk}
 use Rattle.lines.specs.Step.{Made, Chosen, refusal, finish, noUser, notPath, rightsIn, storedIn, marksIn}

@@ -9,20 +9,20 @@ use lib.ListN.{length, take, drop, length-append, length-drop}
 use lib.Seq.{take-at}
 use Rattle.rights.specs.Policy.{Right, bitOf}
 use Rattle.rights.proofs.Lists.{byCase}
-use Rattle.lines.specs.declared.word.Word.the-variants as word
-use Rattle.lines.specs.declared.form.Part.{Part}
-use Rattle.lines.specs.declared.form.Form.{Form}
-use Rattle.lines.specs.declared.form.Form.the-variants.{Subject, Isa, Rule, Root, Child, User, View, Query, Find, Rename, Update, Append, Before, After, Remove, NoForm}
-use Rattle.lines.specs.Word.{letters, accept, deny}
-use Rattle.lines.specs.Tree.{Node, node}
-use Rattle.lines.specs.TreeText as text
-use Rattle.lines.specs.TreeText.{writeTree, writeTrees, GoodTree, GoodTrees, GoodLabel, nodesOf, nodesIn}
-use Rattle.lines.specs.Form.{part, readForm, treeIn}
-use Rattle.lines.specs.FormText.{Said, subject, isa, rule, root, child, user, view, query, find, rename, update-children, append, before, after, remove, Piece, writeRight, writePiece, writePieces, GoodPiece, wordIn, piecesIn, write, Good}
+use Rattle.forms.specs.declared.word.Word.the-variants as word
+use Rattle.forms.specs.declared.form.Part.{Part}
+use Rattle.forms.specs.declared.form.Form.{Form}
+use Rattle.forms.specs.declared.form.Form.the-variants.{Subject, Isa, Rule, Root, Child, User, View, Query, Find, Rename, Update, Append, Before, After, Remove, NoForm}
+use Rattle.forms.specs.Word.{letters, accept, deny}
+use Rattle.forms.specs.Tree.{Node, node}
+use Rattle.forms.specs.TreeText as text
+use Rattle.forms.specs.TreeText.{writeTree, writeTrees, GoodTree, GoodTrees, GoodLabel, nodesOf, nodesIn}
+use Rattle.forms.specs.Form.{part, readForm, treeIn}
+use Rattle.forms.specs.FormText.{Said, subject, isa, rule, root, child, user, view, query, find, rename, update-children, append, before, after, remove, Piece, writeRight, writePiece, writePieces, GoodPiece, wordIn, piecesIn, write, Good}
 use Rattle.lines.specs.Line.{bytesOf, isNoForm}
-use Rattle.lines.proofs.TreeWritten.{drop-over}
-use Rattle.lines.proofs.FormWritten.{written-form, read-said, endOf, end1, end2, end3}
-use Rattle.lines.proofs.FormPlaces.{nodesSaid, written-tree, written-rule}
+use Rattle.forms.proofs.TreeWritten.{drop-over}
+use Rattle.forms.proofs.FormWritten.{written-form, read-said, endOf, end1, end2, end3}
+use Rattle.forms.proofs.FormPlaces.{nodesSaid, written-tree, written-rule}
 
 -- a part that stands within the line
 pub record Within (s : List ℕ) (p : Part) : Type 0 where

@@ -1,15 +1,3 @@
-pub mod WordLaws
-pub mod PartLaws
-pub mod TreeLaws
-pub mod FormLaws
-pub mod TreeWritten
-pub mod FormWritten
-pub mod FormPlaces
-pub mod AnswerLaws
-pub mod AnswerNodes
-pub mod NodeLaws
-pub mod AnswerTreeLaws
-pub mod AnswerNumbers
 pub mod StateLaws
 pub mod StepLaws
 pub mod StoredPaths

@@ -13,15 +13,15 @@ use Rattle.rights.proofs.Lists.{byCase}
 use Rattle.rights.proofs.RecordLaws.{length-record}
 use Rattle.views.specs.declared.done.Change.the-variants as change
 use Rattle.views.specs.declared.insert.Place.the-variants as place
-use Rattle.lines.specs.declared.form.Part.{Part}
-use Rattle.lines.specs.declared.form.Form.{Form}
-use Rattle.lines.specs.declared.form.Form.the-variants.{Subject, Isa, Rule, Root, Child, User, View, Query, Find, Rename, Update, Append, Before, After, Remove, NoForm}
-use Rattle.lines.specs.Text.{lineOk}
-use Rattle.lines.specs.Tree.{Node, node, held, recordsOf}
-use Rattle.lines.specs.TreeText as text
-use Rattle.lines.specs.TreeText.{GoodTree, GoodTrees, GoodLabel, nodesOf, nodesIn}
-use Rattle.lines.specs.Form.{readForm, treeIn}
-use Rattle.lines.specs.AnswerChoice.{Choice}
+use Rattle.forms.specs.declared.form.Part.{Part}
+use Rattle.forms.specs.declared.form.Form.{Form}
+use Rattle.forms.specs.declared.form.Form.the-variants.{Subject, Isa, Rule, Root, Child, User, View, Query, Find, Rename, Update, Append, Before, After, Remove, NoForm}
+use Rattle.forms.specs.Text.{lineOk}
+use Rattle.forms.specs.Tree.{Node, node, held, recordsOf}
+use Rattle.forms.specs.TreeText as text
+use Rattle.forms.specs.TreeText.{GoodTree, GoodTrees, GoodLabel, nodesOf, nodesIn}
+use Rattle.forms.specs.Form.{readForm, treeIn}
+use Rattle.answers.specs.AnswerChoice.{Choice}
 use Rattle.lines.specs.State.{stage, storeOk}
 use Rattle.lines.specs.Step.{Outcome, refusal, stepSubject, stepIsa, stepRule, stepUser, stepView, stepQuery, stepFind}
 use Rattle.lines.specs.StepTree.{stepRoot, stepChild, stepRename, stepInsert, stepRemove}

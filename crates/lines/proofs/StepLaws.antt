@@ -23,11 +23,11 @@ use Rattle.rights.specs.Policy.{passesOwn}
 use Rattle.rights.specs.Selection.{selection, marksAfter}
 use Rattle.rights.proofs.PassLaws.{marks-length, view-length}
 use Rattle.rights.proofs.Sounds.{policy-sound}
-use Rattle.lines.specs.AnswerChoice.{Choice, findText}
+use Rattle.answers.specs.AnswerChoice.{Choice, findText}
 use Rattle.views.specs.Shown.{Stored, storedFrom, stored, shownNumbers}
 use Rattle.views.proofs.ViewLaws.{view-fits, view-by-numbers}
-use Rattle.lines.specs.Answer.{okText, viewText, queryText, hitsOf}
-use Rattle.lines.specs.AnswerArea.{Answered, written}
+use Rattle.answers.specs.Answer.{okText, viewText, queryText, hitsOf}
+use Rattle.answers.specs.AnswerArea.{Answered, written}
 use Rattle.lines.specs.PolicyEdit.{subjectNamed}
 use Rattle.lines.specs.declared.policy_edit.Found.{Found}
 use Rattle.lines.specs.declared.policy_edit.Found.the-variants as FoundIs

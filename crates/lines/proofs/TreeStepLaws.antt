@@ -24,8 +24,8 @@ use Rattle.views.specs.declared.insert.Place.the-variants.{Append}
 use Rattle.views.proofs.Chunks.{drop-take}
 use Rattle.views.proofs.TableFacts.{facts, zero-replicate}
 use Rattle.views.proofs.TableKept.{length-records, loosen}
-use Rattle.lines.specs.Answer.{okText}
-use Rattle.lines.specs.AnswerArea.{Answered}
+use Rattle.answers.specs.Answer.{okText}
+use Rattle.answers.specs.AnswerArea.{Answered}
 use Rattle.lines.specs.State.{stage, withStage, storeOk}
 use Rattle.lines.specs.Step.{Made, refusal, refuse, finish}
 use Rattle.lines.specs.StepTree.{treeRestricted, stepRoot, inserting, rootAlone, stepChild}

@@ -1,15 +1,3 @@
-pub mod Text
-pub mod Word
-pub mod Part
-pub mod Tree
-pub mod Form
-pub mod TreeText
-pub mod FormText
-pub mod Answer
-pub mod AnswerChoice
-pub mod AnswerTree
-pub mod AnswerArea
-pub mod AnswerParts
 pub mod State
 pub mod Step
 pub mod PolicyEdit

@@ -13,8 +13,8 @@ use Rattle.rights.specs.Rights.{rightsOn}
 use Rattle.rights.specs.Selection.{selection}
 use Rattle.rights.specs.Table.{records}
 use Rattle.views.specs.Shown.{Stored, stored, view, shownNumbers}
-use Rattle.lines.specs.Answer.{okText, hitsOf, queryText, viewText}
-use Rattle.lines.specs.AnswerChoice.{Choice, chosen, findText}
+use Rattle.answers.specs.Answer.{okText, hitsOf, queryText, viewText}
+use Rattle.answers.specs.AnswerChoice.{Choice, chosen, findText}
 use Rattle.rights.specs.Labels.{sameLabel, restricted}
 use Rattle.rights.specs.PolicyBytes.{subjectCount, isaCount, ruleCount}
 use Rattle.lines.specs.State.{stageB, stageE, withStage, withSession, withPolicy, userByte, userOf, policyBytes, policyIn}

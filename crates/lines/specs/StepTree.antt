@@ -18,7 +18,7 @@ use Rattle.views.specs.declared.done.Change.{Change}
 use Rattle.views.specs.declared.done.Change.the-variants as change
 use Rattle.views.specs.declared.insert.Place.{Place}
 use Rattle.views.specs.declared.insert.Place.the-variants.{Append, After, Before}
-use Rattle.lines.specs.Answer.{okText, doneText}
+use Rattle.answers.specs.Answer.{okText, doneText}
 use Rattle.lines.specs.State.{stageC, stageD, withStage, policyIn}
 use Rattle.lines.specs.Step.{Outcome, refuse, finish, notPath, noUser, rightsIn, storedIn, marksIn}
 

@@ -1,10 +1,10 @@
 // The six changes (document 01, stage E and "Changes"). Everything is decided, and the answer put, before a byte of the table is written.
-use crate::answer::answer_done;
 use crate::limits::POLICY_AT;
 use crate::line::Answer;
 use crate::queries::select_user;
 use crate::tree_lines::tree_restricted;
 use crate::tree_lines::turned_down;
+use answers::answer::answer_done;
 use rights::labels::is_restricted;
 use rights::limits::RECORDS_MAX;
 use rights::path::Read;
@@ -28,10 +28,10 @@ ghost use Rattle.rights.specs.PathReader.{pathOf};
 ghost use Rattle.rights.specs.Policy.{policyWord};
 ghost use Rattle.rights.specs.Table.{count, records, tableOk};
 ghost use Rattle.views.specs.Marks.{marked};
-ghost use Rattle.lines.specs.Answer.{doneText};
+ghost use Rattle.answers.specs.Answer.{doneText};
 ghost use Rattle.views.specs.Change.{changed, renamed, removed};
 ghost use Rattle.views.specs.declared.done.Change.the-variants as change;
-ghost use Rattle.lines.specs.AnswerArea.{Answered};
+ghost use Rattle.answers.specs.AnswerArea.{Answered};
 ghost use Rattle.lines.specs.ChangeRoom.{Selected, Decided};
 ghost use Rattle.lines.specs.State.{policyIn, storeOk};
 ghost use Rattle.lines.specs.Step.{Made, finish, noUser, notPath};

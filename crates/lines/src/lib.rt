@@ -1,17 +1,10 @@
-// Lines (document 01): reading them, the session, stages, refusals and answers.
-pub mod answer;
+// Lines (document 01): the state, stages and refusals, and one call for every line.
 pub mod changes;
-pub mod form;
 pub mod limits;
 pub mod line;
-pub mod part;
 pub mod policy_edit;
 pub mod policy_lines;
 pub mod queries;
 pub mod session;
 pub mod state;
-pub mod stubs;
-pub mod text;
-pub mod tree;
 pub mod tree_lines;
-pub mod word;

@@ -1,5 +1,4 @@
 // The lines that write the policy (document 01, stages A and B).
-use crate::answer::answer_ok;
 use crate::limits::POLICY_AT;
 use crate::limits::STAGE_B;
 use crate::line::Answer;
@@ -11,6 +10,7 @@ use crate::policy_edit::find_name;
 use crate::policy_edit::has_bracket;
 use crate::policy_edit::isa_held;
 use crate::policy_edit::path_restricted;
+use answers::answer::answer_ok;
 use rights::bytes::wide;
 use rights::labels::is_restricted;
 use rights::limits::ISA_MAX;

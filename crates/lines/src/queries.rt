@@ -1,9 +1,9 @@
 // The lines that only look (document 01, stage E): view, query, find. Each is answered from the user's view alone.
-use crate::answer::answer_find;
-use crate::answer::answer_query;
-use crate::answer::answer_view;
 use crate::limits::POLICY_AT;
 use crate::line::Answer;
+use answers::answer::answer_find;
+use answers::answer::answer_query;
+use answers::answer::answer_view;
 use rights::bytes::wide;
 use rights::limits::RECORDS_MAX;
 use rights::path::Read;
@@ -18,7 +18,7 @@ ghost use Prim.Native.Nat.{_<_, _≤_};
 ghost use lib.ListN.{length, drop};
 ghost use Rattle.rights.specs.PathReader.{pathOf};
 ghost use Rattle.views.specs.Shown.{shownNumbers};
-ghost use Rattle.lines.specs.AnswerChoice.{chosen};
+ghost use Rattle.answers.specs.AnswerChoice.{chosen};
 ghost use Rattle.lines.specs.ChangeRoom.{RightsHeld};
 ghost use Rattle.lines.specs.State.{userByte, storeOk};
 ghost use Rattle.lines.specs.Step.{Made, fitted, noUser, notPath, storedIn, marksIn, stepView, stepQuery, stepFind, Chosen};

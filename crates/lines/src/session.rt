@@ -1,10 +1,10 @@
 // The line that logs a subject in (document 01, stage E).
-use crate::answer::answer_ok;
 use crate::limits::POLICY_AT;
 use crate::limits::STAGE_E;
 use crate::line::Answer;
 use crate::policy_edit::Found;
 use crate::policy_edit::find_name;
+use answers::answer::answer_ok;
 ghost use mathlib.Core.Path.{_≡_};
 ghost use mathlib.Core.Bool.{true};
 ghost use lib.ListN.{length};

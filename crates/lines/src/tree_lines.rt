@@ -1,8 +1,8 @@
 // The lines that write the tree before anybody logs in (document 01, stages C and D), and what all lines that insert a tree have in common.
-use crate::answer::answer_ok;
 use crate::limits::STAGE_C;
 use crate::limits::STAGE_D;
 use crate::line::Answer;
+use answers::answer::answer_ok;
 use rights::bytes::wide;
 use rights::labels::is_restricted;
 use rights::limits::COUNT_BYTES;

@@ -1,7 +1,7 @@
 use Rattle.rights.specs.Table.{count, records}
 use Rattle.views.specs.Change.{changed, placed}
 use Rattle.views.specs.Marks.{marked}
-use Rattle.lines.specs.Answer.{doneText}
+use Rattle.answers.specs.Answer.{doneText}
 use lib.ListN.{length}
 use Rattle.lines.proofs.StepLaws.{made-at, refused}
 use Rattle.lines.proofs.TreeStepLaws.{made-kept, insert-refused, insert-shallow, insert-fits, insert-done}

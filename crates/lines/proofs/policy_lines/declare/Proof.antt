@@ -6,7 +6,7 @@ use lib.ListN.{length, getD, take, drop}
 use lib.Seq.{take-length}
 use Rattle.rights.specs.Labels.{sameLabel, restricted}
 use Rattle.rights.proofs.Lists.{rest-of}
-use Rattle.lines.specs.Answer.{okText}
+use Rattle.answers.specs.Answer.{okText}
 use Rattle.lines.specs.PolicyEdit.{subjectNamed, withSubject}
 use Rattle.lines.specs.State.{policyIn, policyBytes, withPolicy}
 use Rattle.lines.specs.declared.policy_edit.Found.the-variants.{Unknown}

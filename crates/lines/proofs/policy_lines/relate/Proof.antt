@@ -4,7 +4,7 @@ use mathlib.Core.Bool.{true, false}
 use native.Mathlib.Omega.{arith}
 use lib.ListN.{length, getD}
 use Rattle.rights.proofs.Lists.{rest-of}
-use Rattle.lines.specs.Answer.{okText}
+use Rattle.answers.specs.Answer.{okText}
 use Rattle.lines.specs.PolicyEdit.{subjectNamed, isaHeld, withIsa}
 use Rattle.lines.specs.State.{policyIn, policyBytes, withPolicy}
 use Rattle.lines.specs.declared.policy_edit.Found.the-variants.{Subject, Unknown}

@@ -5,7 +5,7 @@ use native.Mathlib.Omega.{arith}
 use lib.ListN.{length, getD}
 use Rattle.rights.specs.PathReader.{pathOf}
 use Rattle.rights.proofs.Lists.{rest-of}
-use Rattle.lines.specs.Answer.{okText}
+use Rattle.answers.specs.Answer.{okText}
 use Rattle.lines.specs.PolicyEdit.{subjectNamed, stepsIn, withRule}
 use Rattle.lines.specs.State.{policyIn, policyBytes, withPolicy, withStage}
 use Rattle.lines.specs.declared.policy_edit.Found.the-variants.{Subject, Unknown}

@@ -1,7 +1,7 @@
 use mathlib.Core.Path.{_≡_, sym, ap, ap₂, _∙_}
 use native.Mathlib.Omega.{arith}
 use lib.ListN.{length}
-use Rattle.lines.specs.AnswerArea.{Answered}
+use Rattle.answers.specs.AnswerArea.{Answered}
 use Rattle.lines.proofs.StepLaws.{made-at, made-finish, shown-fits, shown-long, shown-view, marks-part, marks-long-enough, marks-cover, find-seen}
 use borrow.Author.Needs.{needs}
 use Rattle.lines.proofs.queries.find_with.Statement.{statement}

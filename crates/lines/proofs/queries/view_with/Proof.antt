@@ -1,7 +1,7 @@
 use mathlib.Core.Path.{_≡_, sym, ap, _∙_}
 use native.Mathlib.Omega.{arith}
-use Rattle.lines.specs.Answer.{viewText}
-use Rattle.lines.specs.AnswerArea.{Answered}
+use Rattle.answers.specs.Answer.{viewText}
+use Rattle.answers.specs.AnswerArea.{Answered}
 use Rattle.lines.proofs.StepLaws.{made-at, made-finish, shown-fits, shown-long, shown-view, view-seen}
 use borrow.Author.Needs.{needs}
 use Rattle.lines.proofs.queries.view_with.Statement.{statement}

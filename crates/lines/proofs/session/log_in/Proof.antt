@@ -3,7 +3,7 @@ use Prim.Native.Nat.{_+_, _<_}
 use mathlib.Core.Path.{_≡_, refl, sym, ap, _∙_}
 use native.Mathlib.Omega.{arith}
 use lib.ListN.{length}
-use Rattle.lines.specs.Answer.{okText}
+use Rattle.answers.specs.Answer.{okText}
 use Rattle.lines.specs.PolicyEdit.{subjectNamed}
 use Rattle.lines.specs.State.{policyIn, withSession}
 use Rattle.lines.specs.declared.policy_edit.Found.the-variants.{Subject}

@@ -5,7 +5,7 @@ use Rattle.rights.specs.Table.{records}
 use Rattle.rights.proofs.Facts.{table-few}
 use Rattle.views.specs.Change.{changed, placed}
 use Rattle.views.specs.declared.insert.Place.the-variants.{Append}
-use Rattle.lines.specs.Answer.{okText}
+use Rattle.answers.specs.Answer.{okText}
 use Rattle.lines.specs.State.{withStage}
 use Rattle.lines.proofs.StateLaws.{store-held}
 use Rattle.lines.proofs.StepLaws.{made-at, refused}

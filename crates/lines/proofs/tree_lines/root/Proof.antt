@@ -10,7 +10,7 @@ use Rattle.rights.specs.Record.{recordOf}
 use Rattle.rights.specs.Table.{capacity}
 use Rattle.views.specs.Change.{changed}
 use Rattle.views.proofs.TableFacts.{facts}
-use Rattle.lines.specs.Answer.{okText}
+use Rattle.answers.specs.Answer.{okText}
 use Rattle.lines.specs.State.{withStage}
 use Rattle.lines.proofs.StateLaws.{store-held}
 use Rattle.lines.proofs.StepLaws.{made-at, refused}

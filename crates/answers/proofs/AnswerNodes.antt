@@ -1,0 +1,128 @@
+-- The parts of an answer, node by node. Assumes nothing.
+use Prim.Native.Nat.{ℕ, zero, suc, _+_, _≤_, _<_}
+use mathlib.Core.Path.{_≡_, refl, sym, ap, _∙_}
+use mathlib.Core.Bool.{Bool, true, false, cond}
+use mathlib.Core.List.{List, [], _∷_, _++_, append-assoc}
+use native.Mathlib.Omega.{arith}
+use native.Mathlib.Nat.{zero-add, not-suc-le-zero}
+use native.Mathlib.Numerals.{add-one}
+use lib.Dec.{eqb}
+use lib.ListN.{length, getD, take, drop, replicate, drop-of-length-le}
+use lib.Seq.{drop-cons}
+use borrow.Author.Tests.{eq-eqb, ne-eqb}
+use Rattle.rights.specs.Nodes.{Node, node, levelOf, labelOf, levelAt, labelAt}
+use Rattle.answers.specs.AnswerChoice.{chosen, chosen-lawful, findText}
+use Rattle.answers.specs.AnswerChoice.First.{chosen-first}
+use Rattle.answers.specs.Answer.{noneLine, hitLine, hitsOf, hitLines, childLines, viewText, nextLevel, opening, rootLine, endLine}
+use Rattle.answers.specs.AnswerParts.{nodeAt, hitLineAt, nodeText, setMark, markedCount}
+
+-- Hits
+
+pub hit-none : (ms : List ℕ) (vs : List Node) (i : ℕ) → getD ms i 0 ≡ 0 → hitLineAt ms vs i ≡ []
+unfolding hitLineAt
+hit-none ms vs i e = rw (eq-eqb (getD ms i 0) 0 e)
+
+pub hit-some : (ms : List ℕ) (vs : List Node) (i : ℕ) → (getD ms i 0 ≡ 0 → ⊥) → hitLineAt ms vs i ≡ hitLine (nodeAt vs i)
+unfolding hitLineAt
+hit-some ms vs i h = rw (ne-eqb (getD ms i 0) 0 h)
+
+module _ (ms : List ℕ) (vs : List Node) (i : ℕ) (h : i < length ms) (k : i < length vs) where
+  pub hits-pass : getD ms i 0 ≡ 0 → hitsOf (drop i ms) (drop i vs) ≡ hitsOf (drop (i + 1) ms) (drop (i + 1) vs)
+  unfolding hitsOf
+  hits-pass e = rw (add-one i, drop-cons ms i 0, drop-cons vs i (node 0 []), eq-eqb (getD ms i 0) 0 e)
+
+  pub hits-take : (getD ms i 0 ≡ 0 → ⊥) → hitsOf (drop i ms) (drop i vs) ≡ nodeAt vs i ∷ hitsOf (drop (i + 1) ms) (drop (i + 1) vs)
+  unfolding hitsOf
+  hits-take e = rw (add-one i, drop-cons ms i 0, drop-cons vs i (node 0 []), ne-eqb (getD ms i 0) 0 e)
+
+  pub hits-step : hitLines (hitsOf (drop i ms) (drop i vs)) ≡ hitLineAt ms vs i ++ hitLines (hitsOf (drop (i + 1) ms) (drop (i + 1) vs))
+  unfolding hitsOf hitLines hitLineAt
+  hits-step = rw (add-one i, drop-cons ms i 0, drop-cons vs i (node 0 [])) (go (eqb (getD ms i 0) 0))
+    where
+      go : (b : Bool) → hitLines (cond b (hitsOf (drop (suc i) ms) (drop (suc i) vs)) (nodeAt vs i ∷ hitsOf (drop (suc i) ms) (drop (suc i) vs)))
+          ≡ cond b [] (hitLine (nodeAt vs i)) ++ hitLines (hitsOf (drop (suc i) ms) (drop (suc i) vs))
+      go true = refl
+      go false = refl
+
+hits-of-none : (ms : List ℕ) → hitsOf ms [] ≡ []
+unfolding hitsOf
+hits-of-none [] = refl
+hits-of-none (m ∷ ms) = refl
+
+pub hits-end : (ms : List ℕ) (vs : List Node) (i : ℕ) → length vs ≤ i → hitsOf (drop i ms) (drop i vs) ≡ []
+hits-end ms vs i h = rw (drop-of-length-le vs h) (hits-of-none (drop i ms))
+
+pub hit-lines-end : (ms : List ℕ) (vs : List Node) (i : ℕ) → length vs ≤ i → hitLines (hitsOf (drop i ms) (drop i vs)) ≡ []
+unfolding hitLines
+hit-lines-end ms vs i h = rw (hits-end ms vs i h)
+
+-- Counts
+
+pub count-step : (ms : List ℕ) (i : ℕ) → i < length ms → markedCount (drop i ms) ≡ setMark (getD ms i 0) + markedCount (drop (i + 1) ms)
+unfolding markedCount
+count-step ms i h = rw (add-one i, drop-cons ms i 0)
+
+pub count-end : (ms : List ℕ) (i : ℕ) → length ms ≤ i → markedCount (drop i ms) ≡ 0
+unfolding markedCount
+count-end ms i h = rw drop-of-length-le
+
+-- as many marks are set as there are hits
+pub count-hits : (ms : List ℕ) (vs : List Node) → markedCount (take (length vs) ms) ≡ length (hitsOf ms vs)
+unfolding markedCount hitsOf
+count-hits [] [] = refl
+count-hits [] (v ∷ vs) = refl
+count-hits (m ∷ ms) [] = refl
+count-hits (m ∷ ms) (v ∷ vs) = rw (count-hits ms vs) (go (eqb m 0))
+  where
+    go : (b : Bool) → cond b 0 1 + length (hitsOf ms vs) ≡ length (cond b (hitsOf ms vs) (v ∷ hitsOf ms vs))
+    go true = zero-add _
+    go false = omega arith
+
+pub count-shown : (ms : List ℕ) (vs : List Node) (n : ℕ) → n ≡ length vs → markedCount (take n ms) ≡ length (hitsOf ms vs)
+count-shown ms vs n e = rw e (count-hits ms vs)
+
+-- Views
+
+pub children-step : (vs : List Node) (i : ℕ) → i < length vs → childLines (drop i vs) ≡ nodeText vs i ++ childLines (drop (i + 1) vs)
+unfolding childLines nodeText
+children-step vs i h =
+    rw (drop-cons vs i (node 0 []), add-one i, add-one (levelOf (nodeAt vs i)))
+    (sym (append-assoc (opening (levelOf (nodeAt vs i))) _ _ ∙ ap (opening (levelOf (nodeAt vs i)) ++_) (append-assoc (labelOf (nodeAt vs i)) _ _)))
+
+pub children-end : (vs : List Node) (i : ℕ) → length vs ≤ i → childLines (drop i vs) ≡ []
+unfolding childLines
+children-end vs i h = rw drop-of-length-le
+
+pub view-none : (vs : List Node) → length vs ≡ 0 → viewText vs ≡ endLine 0
+unfolding viewText
+view-none [] e = refl
+view-none (v ∷ vs) e = absurd (omega arith)
+
+pub view-some : (vs : List Node) (k : ℕ) → 0 < length vs → k ≡ length vs → viewText vs ≡ rootLine (labelAt vs 0) ++ (childLines (drop 1 vs) ++ endLine k)
+unfolding viewText labelAt
+view-some [] k h e = absurd (not-suc-le-zero h)
+view-some (v ∷ vs) k h e = rw e
+
+pub next-some : (vs : List Node) (j : ℕ) → j < length vs → nextLevel (drop j vs) ≡ levelAt vs j
+unfolding levelAt
+next-some vs j h = rw (drop-cons vs j (node 0 []))
+
+pub next-none : (vs : List Node) (j : ℕ) → length vs ≤ j → nextLevel (drop j vs) ≡ 1
+next-none vs j h = rw drop-of-length-le
+
+-- `)` once more
+pub closed-more : (k : ℕ) → replicate {A = ℕ} (k + 1) 41 ≡ replicate k 41 ++ (41 ∷ [])
+closed-more k = rw add-one (go k)
+  where
+    go : (k : ℕ) → replicate {A = ℕ} (suc k) 41 ≡ replicate k 41 ++ (41 ∷ [])
+    go zero = refl
+    go (suc k) = ap (41 ∷_) (go k)
+
+-- The choice of `find`
+
+module _ (ms : List ℕ) (vs : List Node) (i : ℕ) (same : hitsOf (drop i ms) (drop i vs) ≡ hitsOf ms vs) where
+  pub found-hit : i < length ms → i < length vs → (getD ms i 0 ≡ 0 → ⊥) → findText (chosen ms vs) ≡ hitLine (nodeAt vs i)
+  found-hit h k e = rw (chosen-first ms vs (nodeAt vs i) _ (sym same ∙ hits-take ms vs i h k e))
+
+  pub found-none : length vs ≤ i → findText (chosen ms vs) ≡ noneLine
+  found-none h = rw (chosen-lawful .none-if ms vs (sym same ∙ hits-end ms vs i h))

@@ -1,0 +1,5 @@
+pub mod AnswerLaws
+pub mod AnswerNodes
+pub mod NodeLaws
+pub mod AnswerTreeLaws
+pub mod AnswerNumbers

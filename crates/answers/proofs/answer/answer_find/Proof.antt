@@ -1,0 +1,43 @@
+use Rattle.answers.proofs.AnswerLaws.{answered-not, answered-fits}
+use Rattle.answers.specs.AnswerChoice.{findText, chosen}
+use Rattle.rights.specs.Nodes.{viewOf}
+use native.Mathlib.Omega.{arith}
+use mathlib.Core.Path.{refl}
+use borrow.Author.Needs.{needs}
+use Rattle.answers.proofs.answer.answer_find.Statement.{statement}
+use Rattle.answers.proofs.answer.answer_find.Tie as tie
+
+slice-aggregate-put-found : tie.Need-slice-aggregate-put-found
+slice-aggregate-put-found c = search needs
+
+put-found-requires : tie.Need-put-found-requires
+put-found-requires c κs = search needs
+
+returns : tie.Need-returns
+returns c =
+    let a = c .before .before .before .before .before .before .before .before .args in
+    answered-not (findText (chosen (a .marks .now) (viewOf (a .table .now) (a .shown .now)))) (a .area .now) _ (omega (arith, c .before .before .put-found .ensures .next)) (c .if1 .taken)
+
+put-found-requires-2 : tie.Need-put-found-requires-2
+put-found-requires-2 c κs = search needs
+
+same-length : tie.Need-same-length
+same-length c = search needs
+
+returns-2 : tie.Need-returns-2
+returns-2 c =
+    let a = c .before .before .before .before .before .before .before .before .before .before .before .before .args in
+    let p = c .before .before .before .before .before .before .put-found .ensures in
+    let q = c .before .before .put-found2 .ensures in
+    answered-fits (findText (chosen (a .marks .now) (viewOf (a .table .now) (a .shown .now)))) (a .area .now) (c .before .before .put-found2 .last .0) _ _ q refl (omega (arith, p .next, q .next))
+
+pub answer-find-spec : {M : Type 1} → statement M
+answer-find-spec =
+    tie.close
+    (tie.spec
+    slice-aggregate-put-found
+    put-found-requires
+    returns
+    put-found-requires-2
+    same-length
+    returns-2)

@@ -1,0 +1,55 @@
+use Rattle.answers.proofs.AnswerNodes.{closed-more}
+use Rattle.answers.proofs.AnswerLaws.{puts-none, puts-more}
+use Rattle.answers.specs.AnswerArea.{Puts}
+use native.Mathlib.Omega.{arith}
+use lib.ListN.{length, replicate}
+use mathlib.Core.Path.{_≡_, refl}
+use Prim.Native.Nat.{_≤_, _-_, _+_}
+use borrow.Author.Needs.{needs}
+use Rattle.answers.proofs.answer.put_closed.Statement.{statement}
+use Rattle.answers.proofs.answer.put_closed.Tie as tie
+
+abbrev Inv-loop : tie.InvT-loop
+Inv-loop area₀ at k next₀ i₀ area next i = (i ≤ k) × (next ≡ at + i) × (length area ≡ length area₀) × (Puts (replicate i 41) at area₀ area next)
+
+abbrev μ-loop : tie.MeasureT-loop
+μ-loop area₀ at k next₀ i₀ area next i = k - i
+
+loop-holds : tie.Need-loop-holds Inv-loop μ-loop
+loop-holds c = (search needs, search needs, refl, puts-none (c .before .args .at) (c .before .args .area .now))
+
+put-byte-requires : tie.Need-put-byte-requires Inv-loop μ-loop
+put-byte-requires c κs = search needs
+
+add-i : tie.Need-add-i Inv-loop μ-loop
+add-i c = search needs
+
+loop-less : tie.Need-loop-less Inv-loop μ-loop
+loop-less c = search needs
+
+loop-again : tie.Need-loop-again Inv-loop μ-loop
+loop-again c =
+    let l = c .before .before .before .before .before .loop in
+    (search needs, omega (arith, c .before .before .put-byte .ensures .next), search needs, rw (closed-more (l .i)) (puts-more (l .inv .3) (c .before .before .put-byte .ensures)))
+
+same-length : tie.Need-same-length Inv-loop μ-loop
+same-length c = search needs
+
+returns : tie.Need-returns Inv-loop μ-loop
+returns c =
+    let e : c .before .loop .i ≡ c .before .before .before .args .k = omega arith in
+    (rw e at (c .before .loop .inv .3), omega arith)
+
+pub put-closed-spec : {M : Type 1} → statement M
+put-closed-spec =
+    tie.close
+    (tie.spec
+    Inv-loop
+    μ-loop
+    loop-holds
+    put-byte-requires
+    add-i
+    loop-less
+    loop-again
+    same-length
+    returns)

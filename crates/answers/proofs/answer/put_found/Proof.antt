@@ -1,0 +1,84 @@
+use Rattle.answers.proofs.AnswerNodes.{hits-pass, found-hit, found-none}
+use Rattle.answers.proofs.NodeLaws.{view-length}
+use Rattle.answers.specs.Answer.{hitsOf}
+use Rattle.rights.specs.Nodes.{viewOf}
+use native.Mathlib.Omega.{arith}
+use lib.ListN.{length, drop}
+use mathlib.Core.Path.{_≡_, refl, sym, _∙_}
+use Prim.Native.Nat.{_≤_, _-_}
+use borrow.Author.Needs.{needs}
+use Rattle.answers.proofs.answer.put_found.Statement.{statement}
+use Rattle.answers.proofs.answer.put_found.Tie as tie
+
+abbrev Inv-loop : tie.InvT-loop
+Inv-loop area₀ table shown marks i₀ t6 area i = (i ≤ length shown) × (area ≡ area₀) × (hitsOf (drop i marks) (drop i (viewOf table shown)) ≡ hitsOf marks (viewOf table shown))
+
+abbrev μ-loop : tie.MeasureT-loop
+μ-loop area₀ table shown marks i₀ t6 area i = length shown - i
+
+loop-holds : tie.Need-loop-holds Inv-loop μ-loop
+loop-holds c = (search needs, refl, refl)
+
+shared-slice-read-if1 : tie.Need-shared-slice-read-if1 Inv-loop μ-loop
+shared-slice-read-if1 c = search needs
+
+put-hit-requires : tie.Need-put-hit-requires Inv-loop μ-loop
+put-hit-requires c κs = search needs
+
+same-length : tie.Need-same-length Inv-loop μ-loop
+same-length c = search needs
+
+returns : tie.Need-returns Inv-loop μ-loop
+returns c =
+    let a = c .before .before .before .before .before .before .before .before .before .before .before .before .args in
+    let l = c .before .before .before .before .before .before .before .loop in
+    let n = view-length (a .table .now) (a .shown .now) in
+    rw (found-hit (a .marks .now) (viewOf (a .table .now) (a .shown .now)) (l .i) (l .inv .2) (omega arith) (omega arith) (c .before .before .before .before .if1 .taken), ← (l .inv .1)) (c .before .before .put-hit .ensures .0)
+
+add-i : tie.Need-add-i Inv-loop μ-loop
+add-i c = search needs
+
+loop-less : tie.Need-loop-less Inv-loop μ-loop
+loop-less c = search needs
+
+loop-again : tie.Need-loop-again Inv-loop μ-loop
+loop-again c =
+    let a = c .before .before .before .before .before .before .before .before .args in
+    let l = c .before .before .before .loop in
+    let n = view-length (a .table .now) (a .shown .now) in
+    (search needs, l .inv .1, sym (hits-pass (a .marks .now) (viewOf (a .table .now) (a .shown .now)) (l .i) (omega arith) (omega arith) (c .if1 .left)) ∙ l .inv .2)
+
+slice-aggregate-put-bytes : tie.Need-slice-aggregate-put-bytes Inv-loop μ-loop
+slice-aggregate-put-bytes c = search needs
+
+put-bytes-requires : tie.Need-put-bytes-requires Inv-loop μ-loop
+put-bytes-requires c κs = search needs
+
+same-length-2 : tie.Need-same-length-2 Inv-loop μ-loop
+same-length-2 c = search needs
+
+returns-2 : tie.Need-returns-2 Inv-loop μ-loop
+returns-2 c =
+    let a = c .before .before .before .before .before .before .before .before .before .before .before .args in
+    let l = c .before .before .before .before .before .before .loop in
+    let n = view-length (a .table .now) (a .shown .now) in
+    rw (found-none (a .marks .now) (viewOf (a .table .now) (a .shown .now)) (l .i) (l .inv .2) (omega arith), ← (l .inv .1)) (c .before .before .put-bytes .ensures)
+
+pub put-found-spec : {M : Type 1} → statement M
+put-found-spec =
+    tie.close
+    (tie.spec
+    Inv-loop
+    μ-loop
+    loop-holds
+    shared-slice-read-if1
+    put-hit-requires
+    same-length
+    returns
+    add-i
+    loop-less
+    loop-again
+    slice-aggregate-put-bytes
+    put-bytes-requires
+    same-length-2
+    returns-2)

@@ -1,0 +1,63 @@
+use Rattle.answers.proofs.AnswerNodes.{hits-step, hit-lines-end}
+use Rattle.answers.proofs.NodeLaws.{view-length}
+use Rattle.answers.proofs.AnswerLaws.{Toward, toward-start, toward-more, toward-end}
+use Rattle.answers.specs.Answer.{hitsOf, hitLines}
+use Rattle.rights.specs.Nodes.{viewOf}
+use native.Mathlib.Omega.{arith}
+use lib.ListN.{length, drop}
+use mathlib.Core.Path.{_≡_, refl}
+use Prim.Native.Nat.{_≤_, _-_, _*_}
+use borrow.Author.Needs.{needs}
+use Rattle.answers.proofs.answer.put_hits.Statement.{statement}
+use Rattle.answers.proofs.answer.put_hits.Tie as tie
+
+abbrev Inv-loop : tie.InvT-loop
+Inv-loop area₀ table shown marks at₀ i₀ area at i = (i ≤ length shown) × (at ≤ 64 * i) × (length area ≡ length area₀) × (Toward (hitLines (hitsOf marks (viewOf table shown))) (hitLines (hitsOf (drop i marks) (drop i (viewOf table shown)))) 0 area₀ area at)
+
+abbrev μ-loop : tie.MeasureT-loop
+μ-loop area₀ table shown marks at₀ i₀ area at i = length shown - i
+
+loop-holds : tie.Need-loop-holds Inv-loop μ-loop
+loop-holds c =
+    let a = c .before .before .before .before .args in
+    (search needs, search needs, refl, toward-start (hitLines (hitsOf (a .marks .now) (viewOf (a .table .now) (a .shown .now)))) 0 (a .area .now))
+
+put-marked-requires : tie.Need-put-marked-requires Inv-loop μ-loop
+put-marked-requires c κs = search needs
+
+add-i : tie.Need-add-i Inv-loop μ-loop
+add-i c = search needs
+
+loop-less : tie.Need-loop-less Inv-loop μ-loop
+loop-less c = search needs
+
+loop-again : tie.Need-loop-again Inv-loop μ-loop
+loop-again c =
+    let a = c .before .before .before .before .before .before .before .before .before .before .args in
+    let l = c .before .before .before .before .before .loop in
+    let n = view-length (a .table .now) (a .shown .now) in
+    (search needs, search needs, search needs, toward-more (l .inv .3) (c .before .before .put-marked .ensures .0) (hits-step (a .marks .now) (viewOf (a .table .now) (a .shown .now)) (l .i) (omega arith) (omega arith)))
+
+same-length : tie.Need-same-length Inv-loop μ-loop
+same-length c = search needs
+
+returns : tie.Need-returns Inv-loop μ-loop
+returns c =
+    let a = c .before .before .before .before .before .before .args in
+    let l = c .before .loop in
+    let n = view-length (a .table .now) (a .shown .now) in
+    (toward-end (l .inv .3) (hit-lines-end (a .marks .now) (viewOf (a .table .now) (a .shown .now)) (l .i) (omega arith)), omega (arith, c .before .before .before .before .before .before .pre .0 .few))
+
+pub put-hits-spec : {M : Type 1} → statement M
+put-hits-spec =
+    tie.close
+    (tie.spec
+    Inv-loop
+    μ-loop
+    loop-holds
+    put-marked-requires
+    add-i
+    loop-less
+    loop-again
+    same-length
+    returns)

@@ -1,0 +1,30 @@
+use Rattle.answers.proofs.AnswerNodes.{hit-none, hit-some}
+use Rattle.answers.proofs.AnswerLaws.{puts-none}
+use Rattle.rights.specs.Nodes.{viewOf}
+use native.Mathlib.Omega.{arith}
+use borrow.Author.Needs.{needs}
+use Rattle.answers.proofs.answer.put_marked.Statement.{statement}
+use Rattle.answers.proofs.answer.put_marked.Tie as tie
+
+shared-slice-read-if1 : tie.Need-shared-slice-read-if1
+shared-slice-read-if1 c = search needs
+
+returns : tie.Need-returns
+returns c =
+    let a = c .before .before .before .before .before .before .args in
+    (rw (hit-none (a .marks .now) (viewOf (a .table .now) (a .shown .now)) (a .i) (c .if1 .taken)) (puts-none (a .at) (a .area .now)), omega arith)
+
+put-hit-requires : tie.Need-put-hit-requires
+put-hit-requires c κs = search needs
+
+same-length : tie.Need-same-length
+same-length c = search needs
+
+returns-2 : tie.Need-returns-2
+returns-2 c =
+    let a = c .before .before .before .before .before .before .before .before .before .before .args in
+    (rw (hit-some (a .marks .now) (viewOf (a .table .now) (a .shown .now)) (a .i) (c .before .before .before .before .if1 .left)) (c .before .before .put-hit .ensures .0), c .before .before .put-hit .ensures .1)
+
+pub put-marked-spec : {M : Type 1} → statement M
+put-marked-spec =
+    tie.close (tie.spec shared-slice-read-if1 returns put-hit-requires same-length returns-2)

@@ -1,0 +1,5 @@
+pub mod Answer
+pub mod AnswerChoice
+pub mod AnswerTree
+pub mod AnswerArea
+pub mod AnswerParts

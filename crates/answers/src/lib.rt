@@ -1,0 +1,2 @@
+// Answers (document 01, "What is written"): the bytes of each answer, put into the lent area.
+pub mod answer;

@@ -1,0 +1,142 @@
+-- Words by their letters and by their numbers. Assumes nothing.
+use Prim.Native.Nat.{ℕ, zero, suc, _+_, _-_, _*_, _^_, _≤_, _<_}
+use mathlib.Core.Path.{_≡_, refl, sym, ap, _∙_}
+use mathlib.Core.List.{List, [], _∷_}
+use mathlib.Core.Bool.{Bool, true, false, cond, _&&_, _||_}
+use native.Mathlib.Nat.{pow-succ', pow-le-pow-right}
+use native.Mathlib.Numerals.{add-one}
+use native.Mathlib.Omega.{arith}
+use lib.Dec.{eqb, leb}
+use lib.ListN.{length, getD, take, drop}
+use lib.Seq.{drop-cons}
+use borrow.Author.Tests.{eqb-true, eqb-false, eq-eqb, ne-eqb, leb-true, leb-false, le-leb}
+use Rattle.rights.specs.Bytes.{within, all, run}
+use Rattle.rights.specs.Labels.{labelByte}
+use Rattle.rights.specs.PathReader.{runAt}
+use Rattle.rights.proofs.Lists.{byCase}
+use Rattle.rights.proofs.PathTexts.{and-left, and-right, run-all, run-length}
+use Rattle.forms.specs.Word.{number, numberAt, numbered, sameText, among, labelAt}
+
+-- The number of a text, from its end
+
+pub number-more : (s : List ℕ) (j e : ℕ) → j < e → e ≤ length s → number (take (e - j) (drop j s)) ≡ number (take (e - suc j) (drop (suc j) s)) * 256 + getD s j 0
+unfolding number
+number-more s j e h l = let z : e - j ≡ suc (e - suc j) = omega arith in rw (z, drop-cons s j 0 (omega arith))
+
+pub more-fits : (n k b : ℕ) → n < 256 ^ k → b < 256 → n * 256 + b < 256 ^ suc k
+more-fits n k b h l = rw (pow-succ' 256 k) (omega arith)
+
+pub few-fit : (n k : ℕ) → k ≤ 7 → n < 256 ^ k → n < 256 ^ 7
+few-fit n k h l = omega (arith, pow-le-pow-right {n = 256} (omega arith) {i = k} {j = 7} h)
+
+-- A label byte is 45 to 122
+
+or-case : {C : Type 0} (a b : Bool) → (a ≡ true → C) → (b ≡ true → C) → a || b ≡ true → C
+or-case true b f g e = f refl
+or-case false b f g e = g e
+
+pub label-range : (x : ℕ) → labelByte x ≡ true → (45 ≤ x) × (x ≤ 122)
+unfolding labelByte
+label-range x =
+    or-case (within 97 122 x) _ (between 97 122 (omega arith) (omega arith))
+    (or-case (within 65 90 x) _ (between 65 90 (omega arith) (omega arith))
+    (or-case (within 48 57 x) _ (between 48 57 (omega arith) (omega arith))
+    (or-case (eqb x 45) _ (λ e. let z = eqb-true x 45 e in (omega arith, omega arith))
+    (or-case (eqb x 46) _ (λ e. let z = eqb-true x 46 e in (omega arith, omega arith)) (λ e. let z = eqb-true x 95 e in (omega arith, omega arith))))))
+  where
+    between : (lo hi : ℕ) → 45 ≤ lo → hi ≤ 122 → within lo hi x ≡ true → (45 ≤ x) × (x ≤ 122)
+    between lo hi a b e =
+        let l = leb-true lo x (and-left (leb lo x) (leb x hi) e) in
+        let h = leb-true x hi (and-right (leb lo x) (leb x hi) e) in
+        (omega arith, omega arith)
+
+-- Two texts of label bytes have the same number exactly if they are equal
+
+same-number : (xs ys : List ℕ) → all labelByte xs ≡ true → all labelByte ys ≡ true → eqb (number xs) (number ys) ≡ sameText xs ys
+unfolding number sameText all
+same-number [] [] a b = refl
+same-number [] (y ∷ ys) a b =
+    let r = label-range y (and-left (labelByte y) (all labelByte ys) b) in
+    ne-eqb 0 (number ys * 256 + y) (λ z. omega arith)
+same-number (x ∷ xs) [] a b =
+    let r = label-range x (and-left (labelByte x) (all labelByte xs) a) in
+    ne-eqb (number xs * 256 + x) 0 (λ z. omega arith)
+same-number (x ∷ xs) (y ∷ ys) a b =
+    let r = label-range x (and-left (labelByte x) (all labelByte xs) a) in
+    let t = label-range y (and-left (labelByte y) (all labelByte ys) b) in
+    let ih = same-number xs ys (and-right (labelByte x) (all labelByte xs) a) (and-right (labelByte y) (all labelByte ys) b) in
+    byCase (eqb x y)
+    (λ e. rw (e, ← ih) (byCase (eqb (number xs) (number ys))
+    (λ q. rw q (eq-eqb (number xs * 256 + x) (number ys * 256 + y) (omega (arith, eqb-true x y e, eqb-true (number xs) (number ys) q))))
+    (λ q. rw q (ne-eqb (number xs * 256 + x) (number ys * 256 + y) (λ z. eqb-false (number xs) (number ys) q (omega (arith, eqb-true x y e)))))))
+    (λ e. rw e (ne-eqb (number xs * 256 + x) (number ys * 256 + y) (λ z. eqb-false x y e (omega arith))))
+
+pub same-equal : (xs ys : List ℕ) → sameText xs ys ≡ true → xs ≡ ys
+unfolding sameText
+same-equal [] [] e = refl
+same-equal [] (y ∷ ys) e = absurd (let z : _≡_ {A = ℕ} 0 1 = cc in omega arith)
+same-equal (x ∷ xs) [] e = absurd (let z : _≡_ {A = ℕ} 0 1 = cc in omega arith)
+same-equal (x ∷ xs) (y ∷ ys) e =
+    let p = eqb-true x y (and-left (eqb x y) (sameText xs ys) e) in
+    let q = same-equal xs ys (and-right (eqb x y) (sameText xs ys) e) in
+    cc
+
+pub same-self : (xs : List ℕ) → sameText xs xs ≡ true
+unfolding sameText
+same-self [] = refl
+same-self (x ∷ xs) = rw (eq-eqb x x refl, same-self xs)
+
+-- a text that the tables may hold: 1 to 8 label bytes
+abbrev pub wordText : List ℕ → Bool
+wordText w = leb 1 (length w) && (leb (length w) 8 && all labelByte w)
+
+abbrev pub wordTexts : {A : Type 0} → List (List ℕ × A) → Bool
+wordTexts [] = true
+wordTexts ((w, x) ∷ rest) = wordText w && wordTexts rest
+
+number-some : (v : List ℕ) → 1 ≤ length v → all labelByte v ≡ true → number v ≡ 0 → ⊥
+unfolding number all
+number-some [] l a z = omega arith
+number-some (y ∷ ys) l a z = let r = label-range y (and-left (labelByte y) (all labelByte ys) a) in omega arith
+
+same-at : (s : List ℕ) (at : ℕ) (w : List ℕ) → wordText w ≡ true → eqb (numberAt s at) (number w) ≡ sameText (labelAt s at) w
+unfolding numberAt
+same-at s at w g =
+    byCase (leb (runAt labelByte s at) 8)
+    (λ e. rw e (same-number (labelAt s at) w (run-all labelByte (drop at s)) good))
+    (λ e. rw e (ne-eqb 0 (number w) (λ z. number-some w some good (sym z)) ∙ sym (long (leb-false _ _ e))))
+  where
+    some : 1 ≤ length w
+    some = leb-true 1 (length w) (and-left (leb 1 (length w)) (leb (length w) 8 && all labelByte w) g)
+
+    rest : leb (length w) 8 && all labelByte w ≡ true
+    rest = and-right (leb 1 (length w)) (leb (length w) 8 && all labelByte w) g
+
+    good : all labelByte w ≡ true
+    good = and-right (leb (length w) 8) (all labelByte w) rest
+
+    short : length w ≤ 8
+    short = leb-true (length w) 8 (and-left (leb (length w) 8) (all labelByte w) rest)
+
+    long : 8 < runAt labelByte s at → sameText (labelAt s at) w ≡ false
+    long h = byCase (sameText (labelAt s at) w)
+        (λ e. absurd (omega (arith, short, run-length labelByte (drop at s), ap length (same-equal (labelAt s at) w e))))
+        (λ e. e)
+
+-- So looking a word up by its number is looking it up by its letters
+pub numbered-among : {A : Type 0} (other : A) (t : List (List ℕ × A)) → wordTexts t ≡ true → (s : List ℕ) (at : ℕ) → numbered other t (numberAt s at) ≡ among other t (labelAt s at)
+unfolding numbered among
+numbered-among other [] g s at = refl
+numbered-among other ((w, x) ∷ rest) g s at =
+    rw (same-at s at w (and-left (wordText w) (wordTexts rest) g), numbered-among other rest (and-right (wordText w) (wordTexts rest) g) s at)
+
+-- What every entry of a table is to its text, what is looked up is to the text that it is looked up by
+abbrev pub Every : {A : Type 0} → (A → List ℕ → Type 0) → List (List ℕ × A) → Type 0
+Every R [] = Unit {0}
+Every R ((w, x) ∷ rest) = R x w × Every R rest
+
+pub among-is : {A : Type 0} (R : A → List ℕ → Type 0) (other : A) (t : List (List ℕ × A)) (s : List ℕ) → Every R t → R other s → R (among other t s) s
+unfolding among
+among-is R other [] s g o = o
+among-is R other ((w, x) ∷ rest) s g o =
+    byCase (sameText s w) (λ e. rw (e, same-equal s w e) (g .0)) (λ e. rw e (among-is R other rest s (g .1) o))

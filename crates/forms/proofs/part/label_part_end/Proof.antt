@@ -1,0 +1,40 @@
+-- `lines::part::label_part_end` meets its contract.
+use mathlib.Core.Path.{_≡_, refl, sym, ap, _∙_}
+use mathlib.Core.List.{List}
+use native.Mathlib.Omega.{arith}
+use Rattle.rights.specs.declared.path.Read.the-variants.{At}
+use Prim.Native.Nat.{ℕ, _+_, _-_}
+use Rattle.rights.proofs.PathLaws.{bad-onward, at-onward}
+use Rattle.forms.proofs.PartLaws.{label-none, label-long, label-good}
+use borrow.Author.Needs.{needs}
+use Rattle.forms.proofs.part.label_part_end.Statement.{statement}
+use Rattle.forms.proofs.part.label_part_end.Tie as tie
+
+label-end-requires : tie.Need-label-end-requires
+label-end-requires c κs = search needs
+
+sub-n : tie.Need-sub-n
+sub-n c = search needs
+
+returns : tie.Need-returns
+returns c =
+    let s : List ℕ = c .before .before .before .args .s .now in
+    let at : ℕ = c .before .before .before .args .at in
+    bad-onward _ _ (label-none s at (c .before .label-end .result - at) (omega arith) (omega arith))
+
+returns-2 : tie.Need-returns-2
+returns-2 c =
+    let s : List ℕ = c .before .before .before .before .args .s .now in
+    let at : ℕ = c .before .before .before .before .args .at in
+    bad-onward _ _ (label-long s at (c .before .before .label-end .result - at) (omega arith) (omega arith))
+
+returns-3 : tie.Need-returns-3
+returns-3 c =
+    let s : List ℕ = c .before .before .before .before .args .s .now in
+    let at : ℕ = c .before .before .before .before .args .at in
+    let e : ℕ = c .before .before .label-end .result in
+    let z : at + (e - at) ≡ e = omega arith in
+    at-onward _ _ e (label-good s at (e - at) (omega arith) (omega arith) (omega arith) ∙ ap At z) (omega arith) (omega arith)
+
+pub label-part-end-spec : {M : Type 1} → statement M
+label-part-end-spec = tie.close (tie.spec label-end-requires sub-n returns returns-2 returns-3)

@@ -1,0 +1,59 @@
+-- `lines::part::path_run_end` meets its contract: what is left of the run from i on is what is left of it from `at` on.
+use Prim.Native.Nat.{ℕ, _+_, _-_, _≤_}
+use mathlib.Core.Path.{_≡_, _∙_, sym, refl}
+use mathlib.Core.List.{List}
+use mathlib.Core.Bool.{true, false}
+use native.Mathlib.Omega.{arith}
+use borrow.Author.Needs.{needs}
+use borrow.Author.Tests.{not-true, not-false}
+use lib.ListN.{length, getD}
+use Rattle.rights.specs.PathReader.{runAt}
+use Rattle.rights.proofs.Runs.{run-end, run-yes, run-no}
+use Rattle.forms.proofs.part.path_run_end.Statement.{statement}
+use Rattle.forms.proofs.part.path_run_end.Tie as tie
+use Rattle.forms.specs.Part.{pathByte}
+
+abbrev Inv-loop : tie.InvT-loop
+Inv-loop s at i₀ i = (at ≤ i) × (i ≤ length s) × (i + runAt pathByte s i ≡ at + runAt pathByte s at)
+
+abbrev μ-loop : tie.MeasureT-loop
+μ-loop s at i₀ i = length s - i
+
+loop-holds : tie.Need-loop-holds Inv-loop μ-loop
+loop-holds c = search needs
+
+shared-slice-read-path-byte : tie.Need-shared-slice-read-path-byte Inv-loop μ-loop
+shared-slice-read-path-byte c = omega arith
+
+path-byte-requires : tie.Need-path-byte-requires Inv-loop μ-loop
+path-byte-requires c κs = search needs
+
+returns : tie.Need-returns Inv-loop μ-loop
+returns c =
+    let s : List ℕ = c .before .before .before .before .before .before .args .s .now in
+    let i : ℕ = c .before .before .before .before .loop .i in
+    let stop : runAt pathByte s i ≡ 0 = run-no pathByte s i (omega arith) (sym (c .before .path-byte .ensures) ∙ not-true _ (c .if1 .taken)) in
+    record { is = omega arith; from = omega arith; to = omega arith }
+
+add-i : tie.Need-add-i Inv-loop μ-loop
+add-i c = omega arith
+
+loop-less : tie.Need-loop-less Inv-loop μ-loop
+loop-less c = omega arith
+
+loop-again : tie.Need-loop-again Inv-loop μ-loop
+loop-again c =
+    let s : List ℕ = c .before .before .before .before .before .before .args .s .now in
+    let i : ℕ = c .before .before .before .before .loop .i in
+    let more = run-yes pathByte s i (omega arith) (sym (c .before .path-byte .ensures) ∙ not-false _ (c .if1 .left)) in
+    (omega arith, omega arith, omega arith)
+
+returns-2 : tie.Need-returns-2 Inv-loop μ-loop
+returns-2 c =
+    let stop = run-end pathByte (c .before .before .before .args .s .now) (c .before .loop .i) (omega arith) in
+    record { is = omega arith; from = omega arith; to = omega arith }
+
+pub path-run-end-spec : {M : Type 1} → statement M
+path-run-end-spec =
+    tie.close
+    (tie.spec Inv-loop μ-loop loop-holds shared-slice-read-path-byte path-byte-requires returns add-i loop-less loop-again returns-2)

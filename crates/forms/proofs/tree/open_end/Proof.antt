@@ -1,0 +1,49 @@
+-- `lines::tree::open_end` meets its contract.
+use mathlib.Core.Path.{_≡_, refl, sym, ap, _∙_}
+use mathlib.Core.List.{List}
+use native.Mathlib.Omega.{arith}
+use Rattle.rights.specs.declared.path.Read.the-variants.{At}
+use Prim.Native.Nat.{ℕ}
+use Rattle.rights.proofs.PathLaws.{bad-onward, earlier, past}
+use Rattle.forms.proofs.PartLaws.{open-not, open-label}
+use borrow.Author.Needs.{needs}
+use Rattle.forms.proofs.tree.open_end.Statement.{statement}
+use Rattle.forms.proofs.tree.open_end.Tie as tie
+
+returns : tie.Need-returns
+returns c =
+    let s : List ℕ = c .before .before .args .s .now in
+    let at : ℕ = c .before .before .args .at in
+    bad-onward _ _ (open-not s at (past s at 40 (c .if1 .taken) (omega arith)))
+
+shared-slice-read-if2 : tie.Need-shared-slice-read-if2
+shared-slice-read-if2 c = search needs
+
+returns-2 : tie.Need-returns-2
+returns-2 c =
+    let s : List ℕ = c .before .before .before .before .args .s .now in
+    let at : ℕ = c .before .before .before .before .args .at in
+    bad-onward _ _ (open-not s at (c .if2 .taken))
+
+add-label-part-end : tie.Need-add-label-part-end
+add-label-part-end c = search needs
+
+label-part-end-requires : tie.Need-label-part-end-requires
+label-part-end-requires c κs = search needs
+
+returns-3 : tie.Need-returns-3
+returns-3 c =
+    let s : List ℕ = c .before .before .before .before .before .args .s .now in
+    let at : ℕ = c .before .before .before .before .before .args .at in
+    earlier _ _ _ (open-label s at (c .before .if2 .left)) (omega arith) (c .label-part-end .ensures)
+
+pub open-end-spec : {M : Type 1} → statement M
+open-end-spec =
+    tie.close
+    (tie.spec
+    returns
+    shared-slice-read-if2
+    returns-2
+    add-label-part-end
+    label-part-end-requires
+    returns-3)

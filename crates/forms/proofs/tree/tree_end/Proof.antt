@@ -1,0 +1,71 @@
+-- `lines::tree::tree_end` meets its contract.
+use Prim.Native.Nat.{ℕ}
+use mathlib.Core.Path.{_≡_, refl, sym, ap, _∙_}
+use mathlib.Core.List.{List}
+use native.Mathlib.Omega.{arith}
+use Rattle.rights.proofs.Lists.{rest-of}
+use Rattle.rights.proofs.PathLaws.{bad-onward}
+use Rattle.forms.proofs.TreeLaws.{rest-length, tree-unopened, tree-opened}
+use borrow.Author.Needs.{needs}
+use Rattle.forms.proofs.tree.tree_end.Statement.{statement}
+use Rattle.forms.proofs.tree.tree_end.Tie as tie
+
+open-end-requires : tie.Need-open-end-requires
+open-end-requires c κs = search needs
+
+enum-known-e : tie.Need-enum-known-e
+enum-known-e c = search needs
+
+enum-told : tie.Need-enum-told
+enum-told c = search needs
+
+returns : tie.Need-returns
+returns c =
+    let s : List ℕ = c .before .before .before .before .args .s .now in
+    let at : ℕ = c .before .before .before .before .args .at in
+    bad-onward _ _ (tree-unopened s at (sym (c .before .before .open-end .ensures .is) ∙ c .enum-told .given .1))
+
+sub-tail-end : tie.Need-sub-tail-end
+sub-tail-end c =
+    let e : ℕ = c .before .e .given .0 .0 in
+    let hi = c .before .before .before .open-end .ensures .on e (c .before .e .given .1) in
+    omega arith
+
+part-tail-end-start : tie.Need-part-tail-end-start
+part-tail-end-start c =
+    let e : ℕ = c .before .e .given .0 .0 in
+    let hi = c .before .before .before .open-end .ensures .on e (c .before .e .given .1) in
+    omega arith
+
+part-tail-end-end : tie.Need-part-tail-end-end
+part-tail-end-end c = search needs
+
+tail-end-requires : tie.Need-tail-end-requires
+tail-end-requires c κs =
+    let s : List ℕ = c .before .before .before .before .before .before .args .s .now in
+    let e : ℕ = c .before .before .e .given .0 .0 in
+    let hi = c .before .before .before .before .open-end .ensures .on e (c .before .before .e .given .1) in
+    let len = rest-length s e in
+    omega arith
+
+returns-2 : tie.Need-returns-2
+returns-2 c =
+    let s : List ℕ = c .before .before .before .before .before .before .before .args .s .now in
+    let at : ℕ = c .before .before .before .before .before .before .before .args .at in
+    let e : ℕ = c .before .before .before .e .given .0 .0 in
+    let hi = c .before .before .before .before .before .open-end .ensures .on e (c .before .before .before .e .given .1) in
+    tree-opened s at _ _ e (sym (c .before .before .before .before .before .open-end .ensures .is) ∙ c .before .before .before .e .given .1) (omega arith) (omega arith) (rest-of s e) (c .tail-end .ensures)
+
+pub tree-end-spec : {M : Type 1} → statement M
+tree-end-spec =
+    tie.close
+    (tie.spec
+    open-end-requires
+    enum-known-e
+    enum-told
+    returns
+    sub-tail-end
+    part-tail-end-start
+    part-tail-end-end
+    tail-end-requires
+    returns-2)

@@ -1,0 +1,22 @@
+-- `lines::word::right_at` meets its contract: what the number finds, the letters find.
+use mathlib.Core.Path.{refl, sym, ap, _∙_}
+use Rattle.forms.specs.Word.{numbered, rights, rightAt}
+use Rattle.forms.proofs.WordLaws.{numbered-among}
+use Rattle.rights.specs.Labels.{labelByte}
+use Rattle.rights.specs.Bytes.{all}
+use borrow.Author.Needs.{needs}
+use Rattle.forms.proofs.word.right_at.Statement.{statement}
+use Rattle.forms.proofs.word.right_at.Tie as tie
+
+number-at-requires : tie.Need-number-at-requires
+number-at-requires c κs = search needs
+
+numbered-right-requires : tie.Need-numbered-right-requires
+numbered-right-requires c κs = search needs
+
+returns : tie.Need-returns
+unfolding rightAt labelByte all
+returns c = c .numbered-right .ensures ∙ ap (numbered 0 rights) (c .before .number-at .ensures) ∙ numbered-among 0 rights refl (c .before .before .before .args .s .now) (c .before .before .before .args .at)
+
+pub right-at-spec : {M : Type 1} → statement M
+right-at-spec = tie.close (tie.spec number-at-requires numbered-right-requires returns)

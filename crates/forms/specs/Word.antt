@@ -1,0 +1,109 @@
+-- The words of a line: those that begin a form, accept and deny, and the rights (document 01, "Lines").
+use Prim.Native.Nat.{ℕ, _+_, _*_}
+use mathlib.Core.Bool.{Bool, true, false, cond, _&&_}
+use mathlib.Core.List.{List, [], _∷_}
+use lib.Dec.{eqb, leb}
+use lib.ListN.{take, drop}
+use Rattle.rights.specs.Labels.{labelByte}
+use Rattle.rights.specs.PathReader.{runAt}
+use Rattle.rights.specs.Policy.{bitOf, position, read, insert, update, delete}
+use Rattle.forms.specs.declared.word.Word.{Word}
+use Rattle.forms.specs.declared.word.Word.the-variants.{Subject, Isa, Rule, Root, Child, User, View, Query, Find, Rename, Update, Append, Before, After, Remove, Other}
+use Rattle.forms.specs.declared.word.Sign.{Sign}
+use Rattle.forms.specs.declared.word.Sign.the-variants.{Accept, Deny, NoSign}
+
+-- how each form's word is written
+abbrev pub letters : Word → List ℕ
+letters Subject = 115 ∷ 117 ∷ 98 ∷ 106 ∷ 101 ∷ 99 ∷ 116 ∷ []
+letters Isa = 105 ∷ 115 ∷ 97 ∷ []
+letters Rule = 114 ∷ 117 ∷ 108 ∷ 101 ∷ []
+letters Root = 114 ∷ 111 ∷ 111 ∷ 116 ∷ []
+letters Child = 99 ∷ 104 ∷ 105 ∷ 108 ∷ 100 ∷ []
+letters User = 117 ∷ 115 ∷ 101 ∷ 114 ∷ []
+letters View = 118 ∷ 105 ∷ 101 ∷ 119 ∷ []
+letters Query = 113 ∷ 117 ∷ 101 ∷ 114 ∷ 121 ∷ []
+letters Find = 102 ∷ 105 ∷ 110 ∷ 100 ∷ []
+letters Rename = 114 ∷ 101 ∷ 110 ∷ 97 ∷ 109 ∷ 101 ∷ []
+letters Update = 117 ∷ 112 ∷ 100 ∷ 97 ∷ 116 ∷ 101 ∷ []
+letters Append = 97 ∷ 112 ∷ 112 ∷ 101 ∷ 110 ∷ 100 ∷ []
+letters Before = 98 ∷ 101 ∷ 102 ∷ 111 ∷ 114 ∷ 101 ∷ []
+letters After = 97 ∷ 102 ∷ 116 ∷ 101 ∷ 114 ∷ []
+letters Remove = 114 ∷ 101 ∷ 109 ∷ 111 ∷ 118 ∷ 101 ∷ []
+letters Other = []
+
+abbrev pub accept : List ℕ
+accept = 97 ∷ 99 ∷ 99 ∷ 101 ∷ 112 ∷ 116 ∷ []
+
+abbrev pub deny : List ℕ
+deny = 100 ∷ 101 ∷ 110 ∷ 121 ∷ []
+
+-- tables of texts and what each stands for
+abbrev pub words : List (List ℕ × Word)
+words =
+    (letters Subject, Subject)
+    ∷ (letters Isa, Isa)
+    ∷ (letters Rule, Rule)
+    ∷ (letters Root, Root)
+    ∷ (letters Child, Child)
+    ∷ (letters User, User)
+    ∷ (letters View, View)
+    ∷ (letters Query, Query)
+    ∷ (letters Find, Find)
+    ∷ (letters Rename, Rename)
+    ∷ (letters Update, Update)
+    ∷ (letters Append, Append)
+    ∷ (letters Before, Before)
+    ∷ (letters After, After)
+    ∷ (letters Remove, Remove)
+    ∷ []
+
+abbrev pub signs : List (List ℕ × Sign)
+signs = (accept, Accept) ∷ (deny, Deny) ∷ []
+
+-- position, read, insert, update, delete
+abbrev pub rights : List (List ℕ × ℕ)
+rights =
+    (112 ∷ 111 ∷ 115 ∷ 105 ∷ 116 ∷ 105 ∷ 111 ∷ 110 ∷ [], bitOf position)
+    ∷ (114 ∷ 101 ∷ 97 ∷ 100 ∷ [], bitOf read)
+    ∷ (105 ∷ 110 ∷ 115 ∷ 101 ∷ 114 ∷ 116 ∷ [], bitOf insert)
+    ∷ (117 ∷ 112 ∷ 100 ∷ 97 ∷ 116 ∷ 101 ∷ [], bitOf update)
+    ∷ (100 ∷ 101 ∷ 108 ∷ 101 ∷ 116 ∷ 101 ∷ [], bitOf delete)
+    ∷ []
+
+-- two texts are equal, byte by byte
+unfoldable pub sameText : List ℕ → List ℕ → Bool
+sameText [] [] = true
+sameText [] (y ∷ ys) = false
+sameText (x ∷ xs) [] = false
+sameText (x ∷ xs) (y ∷ ys) = eqb x y && sameText xs ys
+
+-- what a table has for a text, and other if it has nothing
+unfoldable pub among : {A : Type 0} → A → List (List ℕ × A) → List ℕ → A
+among other [] s = other
+among other ((w, x) ∷ rest) s = cond (sameText s w) x (among other rest s)
+
+-- the label bytes that stand at a place
+abbrev pub labelAt : List ℕ → ℕ → List ℕ
+labelAt s at = take (runAt labelByte s at) (drop at s)
+
+-- the word, the sign and the right's bit that they write
+unfoldable pub wordAt : List ℕ → ℕ → Word
+wordAt s at = among Other words (labelAt s at)
+
+unfoldable pub signAt : List ℕ → ℕ → Sign
+signAt s at = among NoSign signs (labelAt s at)
+
+unfoldable pub rightAt : List ℕ → ℕ → ℕ
+rightAt s at = among 0 rights (labelAt s at)
+
+-- The code compares words by number: a text as a number, its first byte lowest. Law numbered-among says that this comes to the same.
+unfoldable pub number : List ℕ → ℕ
+number [] = 0
+number (x ∷ xs) = number xs * 256 + x
+
+unfoldable pub numberAt : List ℕ → ℕ → ℕ
+numberAt s at = cond (leb (runAt labelByte s at) 8) (number (labelAt s at)) 0
+
+unfoldable pub numbered : {A : Type 0} → A → List (List ℕ × A) → ℕ → A
+numbered other [] n = other
+numbered other ((w, x) ∷ rest) n = cond (eqb n (number w)) x (numbered other rest n)

@@ -1,0 +1,7 @@
+// Forms (document 01, "Lines"): the bytes of a line, its word and its parts, trees, and what the line says.
+pub mod form;
+pub mod limits;
+pub mod part;
+pub mod text;
+pub mod tree;
+pub mod word;

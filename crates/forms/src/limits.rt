@@ -1,0 +1,14 @@
+// The numbers of document 01, "Lines", in one place.
+
+// A line holds at most 1,024 bytes, each from 32 to 126.
+pub const LINE_MAX: usize = 1024;
+
+pub const BYTE_MIN: u8 = 32;
+
+pub const BYTE_MAX: u8 = 126;
+// The longest word of a line, `position`, has 8 letters.
+pub const WORD_MAX: usize = 8;
+// A level is held in one byte.
+pub const BYTE: usize = 255;
+// Each byte of a line needs room for at most 16 bytes of records: a tree's root takes 2 bytes or more of the line, each further node 3, and a record 32.
+pub const TREE_BYTES: usize = 16384;

@@ -1,0 +1,128 @@
+// The words of a line: those that begin a form, accept and deny, and the rights (document 01, "Lines").
+use lines::limits::WORD_MAX;
+use rights::path::label_end;
+ghost use mathlib.Core.Path.{_≡_};
+ghost use Prim.Native.Nat.{_+_, _-_, _≤_};
+ghost use lib.ListN.{length, take, drop};
+ghost use Rattle.forms.specs.Word.{number, numberAt, numbered, words, signs, rights, wordAt, signAt, rightAt};
+
+pub enum Word {
+    Subject,
+    Isa,
+    Rule,
+    Root,
+    Child,
+    User,
+    View,
+    Query,
+    Find,
+    Rename,
+    Update,
+    Append,
+    Before,
+    After,
+    Remove,
+    Other,
+}
+
+pub enum Sign {
+    Accept,
+    Deny,
+    NoSign,
+}
+
+// The bytes from a up to e as a number, the first lowest.
+fn word_number(s: &[u8], a: usize, e: usize) -> u64
+    requires { ⌜ (a ≤ e) × (e ≤ a + 8) × (e ≤ length (now s)) ⌝ }
+    ensures { λ r. ⌜ r ≡ number (take (e - a) (drop a (now (s .entry)))) ⌝ }
+{
+    let mut n = 0;
+    let mut i = e;
+    while a < i {
+        i -= 1;
+        n = n * 256 + s[i] as u64;
+    }
+    n
+}
+
+// The label bytes at `at` as a number; 0, which no word has, if they are too many for a word.
+fn number_at(s: &[u8], at: usize) -> u64
+    requires { ⌜ at ≤ length (now s) ⌝ }
+    ensures { λ r. ⌜ r ≡ numberAt (now (s .entry)) at ⌝ }
+{
+    let e = label_end(s, at);
+    if WORD_MAX < e - at {
+        return 0;
+    }
+    word_number(s, at, e)
+}
+
+fn numbered_word(n: u64) -> Word
+    ensures { λ r. ⌜ r ≡ numbered Word.Other words n ⌝ }
+{
+    match n {
+        32760384526120307 => Word::Subject,
+        6386537 => Word::Isa,
+        1701606770 => Word::Rule,
+        1953460082 => Word::Root,
+        431315576931 => Word::Child,
+        1919251317 => Word::User,
+        2003134838 => Word::View,
+        521610294641 => Word::Query,
+        1684957542 => Word::Find,
+        111520460465522 => Word::Rename,
+        111550524584053 => Word::Update,
+        110425311047777 => Word::Append,
+        111542169658722 => Word::Before,
+        491328398945 => Word::After,
+        111559349986674 => Word::Remove,
+        _ => Word::Other,
+    }
+}
+
+fn numbered_sign(n: u64) -> Sign
+    ensures { λ r. ⌜ r ≡ numbered Sign.NoSign signs n ⌝ }
+{
+    match n {
+        128026086171489 => Sign::Accept,
+        2037278052 => Sign::Deny,
+        _ => Sign::NoSign,
+    }
+}
+
+fn numbered_right(n: u64) -> u8
+    ensures { λ r. ⌜ r ≡ numbered 0 rights n ⌝ }
+{
+    match n {
+        7957695015293251440 => 1,
+        1684104562 => 2,
+        128034677157481 => 4,
+        111550524584053 => 8,
+        111550592214372 => 16,
+        _ => 0,
+    }
+}
+
+// The word of a form that stands at `at`.
+pub fn word_at(s: &[u8], at: usize) -> Word
+    requires { ⌜ at ≤ length (now s) ⌝ }
+    ensures { λ r. ⌜ r ≡ wordAt (now (s .entry)) at ⌝ }
+{
+    numbered_word(number_at(s, at))
+}
+
+// `accept` or `deny`, if it stands at `at`.
+pub fn sign_at(s: &[u8], at: usize) -> Sign
+    requires { ⌜ at ≤ length (now s) ⌝ }
+    ensures { λ r. ⌜ r ≡ signAt (now (s .entry)) at ⌝ }
+{
+    numbered_sign(number_at(s, at))
+}
+
+// The bit of the right whose name stands at `at`; 0 if none does.
+pub fn right_at(s: &[u8], at: usize) -> u8
+    requires { ⌜ at ≤ length (now s) ⌝ }
+    ensures { λ r. ⌜ r ≡ rightAt (now (s .entry)) at ⌝ }
+{
+    numbered_right(number_at(s, at))
+}
