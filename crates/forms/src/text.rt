@@ -1,7 +1,7 @@
 // The bytes of a line (document 01, "Lines").
-use lines::limits::BYTE_MAX;
-use lines::limits::BYTE_MIN;
-use lines::limits::LINE_MAX;
+use crate::limits::BYTE_MAX;
+use crate::limits::BYTE_MIN;
+use crate::limits::LINE_MAX;
 ghost use mathlib.Core.Path.{_≡_};
 ghost use Rattle.forms.specs.Text.{lineByte, lineOk};
 

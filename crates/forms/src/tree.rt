@@ -1,6 +1,6 @@
 // Reading a nested tree, `(label tree ...)`, into records (document 01, "Tree and table").
+use crate::limits::BYTE;
 use crate::part::label_part_end;
-use lines::limits::BYTE;
 use rights::limits::RECORD_BYTES;
 use rights::path::Read;
 use rights::record::put_record;

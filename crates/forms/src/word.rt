@@ -1,5 +1,5 @@
 // The words of a line: those that begin a form, accept and deny, and the rights (document 01, "Lines").
-use lines::limits::WORD_MAX;
+use crate::limits::WORD_MAX;
 use rights::path::label_end;
 ghost use mathlib.Core.Path.{_≡_};
 ghost use Prim.Native.Nat.{_+_, _-_, _≤_};

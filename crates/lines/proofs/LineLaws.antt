@@ -105,6 +105,9 @@ stage-late k g h = rw (lt-leb g k h)
 pub stage-even : (k g : ℕ) → g ≤ k → Bool·beq (ltb 2 k) (leb 2 g) ≡ inStage k g
 stage-even k g h = rw (le-leb g k h)
 
+pub stage-tested : (f : Form) (g k : ℕ) {b x : Bool} → k ≡ stageOf f → b ≡ inStage k g → b ≡ x → inStage (stageOf f) g ≡ x
+stage-tested f g k p q r = ap (λ j. inStage j g) (sym p) ∙ sym q ∙ r
+
 -- a line that is short enough finds room for its tree
 pub form-room : (line : List ℕ) → lineOk line ≡ true → 16 * length line ≤ length (replicate {A = ℕ} 16384 0)
 unfolding lineOk

@@ -1,10 +1,10 @@
-use mathlib.Core.Path.{_≡_, sym, ap, _∙_}
+use mathlib.Core.Path.{_≡_, sym, _∙_}
 use native.Mathlib.Omega.{arith}
 use borrow.Author.Tests.{not-true, not-false}
-use Rattle.lines.specs.Line.{inStage}
+use Rattle.lines.specs.State.{stage}
 use Rattle.lines.proofs.StateLaws.{store-held}
 use Rattle.lines.proofs.StepLaws.{made-at, refused}
-use Rattle.lines.proofs.LineLaws.{at-store, at-line, at-none, at-stage, at-form, form-room}
+use Rattle.lines.proofs.LineLaws.{at-store, at-line, at-none, at-stage, at-form, form-room, stage-tested}
 use borrow.Author.Needs.{needs}
 use Rattle.lines.proofs.line.line.Statement.{statement}
 use Rattle.lines.proofs.line.line.Tie as tie
@@ -67,13 +67,13 @@ same-length-8 : tie.Need-same-length-8
 same-length-8 c = search needs
 
 returns-4 : tie.Need-returns-4
-returns-4 c = made-at (at-stage _ _ _ _ _ (sym (c .before .before .before .before .before .before .before .before .before .before .before .before .store-ok .ensures) ∙ not-false _ (c .before .before .before .before .before .before .before .before .before .before .before .if1 .left)) (sym (c .before .before .before .before .before .before .before .before .before .before .line-ok .ensures) ∙ not-false _ (c .before .before .before .before .before .before .before .before .before .if2 .left)) _ (c .before .before .before .before .before .before .before .read-form .ensures .0) (sym (c .before .before .before .before .before .is-no-form .ensures) ∙ c .before .before .before .before .if3 .left) (ap (λ k. inStage k _) (sym (c .before .before .before .stage-of .ensures)) ∙ sym (c .before .in-stage .ensures) ∙ not-true _ (c .if4 .taken))) refused
+returns-4 c = made-at (at-stage _ _ _ _ _ (sym (c .before .before .before .before .before .before .before .before .before .before .before .before .store-ok .ensures) ∙ not-false _ (c .before .before .before .before .before .before .before .before .before .before .before .if1 .left)) (sym (c .before .before .before .before .before .before .before .before .before .before .line-ok .ensures) ∙ not-false _ (c .before .before .before .before .before .before .before .before .before .if2 .left)) _ (c .before .before .before .before .before .before .before .read-form .ensures .0) (sym (c .before .before .before .before .before .is-no-form .ensures) ∙ c .before .before .before .before .if3 .left) (stage-tested (c .before .before .before .before .before .before .before .read-form .result) (stage (c .before .before .before .before .before .before .before .before .before .before .before .before .before .before .before .before .before .before .before .args .state .now)) (c .before .before .before .stage-of .result) (c .before .before .before .stage-of .ensures) (c .before .in-stage .ensures) (not-true _ (c .if4 .taken)))) refused
 
 slice-aggregate-run : tie.Need-slice-aggregate-run
 slice-aggregate-run c = search needs
 
 run-requires : tie.Need-run-requires
-run-requires c κs = ((sym (c .before .before .before .before .before .before .before .before .before .before .before .before .before .before .before .before .store-ok .ensures) ∙ not-false _ (c .before .before .before .before .before .before .before .before .before .before .before .before .before .before .before .if1 .left)), (sym (c .before .before .before .before .before .before .before .before .before .before .before .before .before .before .line-ok .ensures) ∙ not-false _ (c .before .before .before .before .before .before .before .before .before .before .before .before .before .if2 .left)), c .before .before .before .before .before .before .before .before .before .before .before .read-form .ensures .0, (sym (c .before .before .before .before .before .before .before .before .before .is-no-form .ensures) ∙ c .before .before .before .before .before .before .before .before .if3 .left), (ap (λ k. inStage k _) (sym (c .before .before .before .before .before .before .before .stage-of .ensures)) ∙ sym (c .before .before .before .before .before .in-stage .ensures) ∙ not-false _ (c .before .before .before .before .if4 .left)), c .before .before .before .before .before .before .before .before .before .before .before .read-form .ensures .1)
+run-requires c κs = ((sym (c .before .before .before .before .before .before .before .before .before .before .before .before .before .before .before .before .store-ok .ensures) ∙ not-false _ (c .before .before .before .before .before .before .before .before .before .before .before .before .before .before .before .if1 .left)), (sym (c .before .before .before .before .before .before .before .before .before .before .before .before .before .before .line-ok .ensures) ∙ not-false _ (c .before .before .before .before .before .before .before .before .before .before .before .before .before .if2 .left)), c .before .before .before .before .before .before .before .before .before .before .before .read-form .ensures .0, (sym (c .before .before .before .before .before .before .before .before .before .is-no-form .ensures) ∙ c .before .before .before .before .before .before .before .before .if3 .left), (stage-tested (c .before .before .before .before .before .before .before .before .before .before .before .read-form .result) (stage (c .before .before .before .before .before .before .before .before .before .before .before .before .before .before .before .before .before .before .before .before .before .before .before .args .state .now)) (c .before .before .before .before .before .before .before .stage-of .result) (c .before .before .before .before .before .before .before .stage-of .ensures) (c .before .before .before .before .before .in-stage .ensures) (not-false _ (c .before .before .before .before .if4 .left))), c .before .before .before .before .before .before .before .before .before .before .before .read-form .ensures .1)
 
 same-length-9 : tie.Need-same-length-9
 same-length-9 c = search needs
@@ -85,7 +85,7 @@ same-length-11 : tie.Need-same-length-11
 same-length-11 c = search needs
 
 returns-5 : tie.Need-returns-5
-returns-5 c = made-at (at-form _ _ _ _ _ (sym (c .before .before .before .before .before .before .before .before .before .before .before .before .before .before .before .before .before .before .before .before .before .before .before .store-ok .ensures) ∙ not-false _ (c .before .before .before .before .before .before .before .before .before .before .before .before .before .before .before .before .before .before .before .before .before .before .if1 .left)) (sym (c .before .before .before .before .before .before .before .before .before .before .before .before .before .before .before .before .before .before .before .before .before .line-ok .ensures) ∙ not-false _ (c .before .before .before .before .before .before .before .before .before .before .before .before .before .before .before .before .before .before .before .before .if2 .left)) _ (c .before .before .before .before .before .before .before .before .before .before .before .before .before .before .before .before .before .before .read-form .ensures .0) (sym (c .before .before .before .before .before .before .before .before .before .before .before .before .before .before .before .before .is-no-form .ensures) ∙ c .before .before .before .before .before .before .before .before .before .before .before .before .before .before .before .if3 .left) (ap (λ k. inStage k _) (sym (c .before .before .before .before .before .before .before .before .before .before .before .before .before .before .stage-of .ensures)) ∙ sym (c .before .before .before .before .before .before .before .before .before .before .before .before .in-stage .ensures) ∙ not-false _ (c .before .before .before .before .before .before .before .before .before .before .before .if4 .left))) (c .before .before .before .before .before .before .run .ensures)
+returns-5 c = made-at (at-form _ _ _ _ _ (sym (c .before .before .before .before .before .before .before .before .before .before .before .before .before .before .before .before .before .before .before .before .before .before .before .store-ok .ensures) ∙ not-false _ (c .before .before .before .before .before .before .before .before .before .before .before .before .before .before .before .before .before .before .before .before .before .before .if1 .left)) (sym (c .before .before .before .before .before .before .before .before .before .before .before .before .before .before .before .before .before .before .before .before .before .line-ok .ensures) ∙ not-false _ (c .before .before .before .before .before .before .before .before .before .before .before .before .before .before .before .before .before .before .before .before .if2 .left)) _ (c .before .before .before .before .before .before .before .before .before .before .before .before .before .before .before .before .before .before .read-form .ensures .0) (sym (c .before .before .before .before .before .before .before .before .before .before .before .before .before .before .before .before .is-no-form .ensures) ∙ c .before .before .before .before .before .before .before .before .before .before .before .before .before .before .before .if3 .left) (stage-tested (c .before .before .before .before .before .before .before .before .before .before .before .before .before .before .before .before .before .before .read-form .result) (stage (c .before .before .before .before .before .before .before .before .before .before .before .before .before .before .before .before .before .before .before .before .before .before .before .before .before .before .before .before .before .before .args .state .now)) (c .before .before .before .before .before .before .before .before .before .before .before .before .before .before .stage-of .result) (c .before .before .before .before .before .before .before .before .before .before .before .before .before .before .stage-of .ensures) (c .before .before .before .before .before .before .before .before .before .before .before .before .in-stage .ensures) (not-false _ (c .before .before .before .before .before .before .before .before .before .before .before .if4 .left)))) (c .before .before .before .before .before .before .run .ensures)
 
 pub line-spec : {M : Type 1} → statement M
 line-spec =
