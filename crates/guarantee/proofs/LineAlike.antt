@@ -1,9 +1,9 @@
 -- One line on two stores with the same user, the same policy and the same low projection: the same reply, and the same low projection afterwards, unless one of the
 -- two is refused for want of free records. Assumes nothing.
-use Prim.Native.Nat.{ℕ, zero, suc, _+_, _-_, _≤_, _<_}
+use Prim.Native.Nat.{ℕ, zero, suc, _+_, _-_, _<_}
 use mathlib.Core.Path.{_≡_, refl, ap, ap₂, sym, _∙_, subst}
-use mathlib.Core.Bool.{Bool, true, false, cond, not, _&&_, _||_, Bool·beq, false≢true, true≢false}
-use mathlib.Core.List.{List, [], _∷_}
+use mathlib.Core.Bool.{Bool, true, false, cond, not, _||_, Bool·beq, false≢true, true≢false}
+use mathlib.Core.List.{List}
 use native.Mathlib.Omega.{arith}
 use borrow.Author.Tests.{eqb-true, le-leb}
 use lib.Dec.{leb, eqb}
@@ -13,7 +13,7 @@ use Rattle.rights.specs.PathReader.{pathOf}
 use Rattle.rights.specs.Policy.{Policy, policyWord}
 use Rattle.rights.specs.PolicyBytes.{policyOf, subjectCount, namesFrom}
 use Rattle.rights.specs.Table.{records, tableOk}
-use Rattle.views.specs.Change.{chunks, placed, removed, renamed, changed, lower, deepest, tooDeep, hasRoom}
+use Rattle.views.specs.Change.{chunks, lower, deepest, tooDeep, hasRoom}
 use Rattle.views.specs.Marks.{marksOf}
 use Rattle.views.specs.Nodes.{LabelOk}
 use Rattle.views.specs.declared.done.Change.{Change}
@@ -26,8 +26,8 @@ use Rattle.lines.specs.TreeText.{GoodLabel}
 use Rattle.lines.specs.Form.{readForm, treeIn}
 use Rattle.lines.specs.PolicyEdit.{subjectNamed}
 use Rattle.lines.specs.State.{stageE, stage, userByte, withSession, policyBytes, policyIn, storeOk}
-use Rattle.lines.specs.Step.{Reply, says, refuses, Outcome, refusal, refuse, finish, noUser, viewIn, marksIn, notPath, loggedIn, stepView, stepQuery, stepFind, stepUser}
-use Rattle.lines.specs.StepTree.{treeRestricted, inserting, doneIn, countText, changeAt, stepRename, stepInsert, stepRemove}
+use Rattle.lines.specs.Step.{says, refuses, Outcome, refusal, refuse, finish, noUser, viewIn, marksIn, notPath, loggedIn, stepView, stepQuery, stepFind, stepUser}
+use Rattle.lines.specs.StepTree.{treeRestricted, doneIn, countText, changeAt, stepRename, stepInsert, stepRemove}
 use Rattle.lines.specs.Text.{lineOk}
 use Rattle.lines.specs.Tree.{recordsOf}
 use Rattle.lines.specs.Line.{stageOf, inStage, isNoForm, bytesOf, stepForm, stepRead, step}
@@ -35,7 +35,7 @@ use Rattle.lines.specs.declared.form.Form.{Form}
 use Rattle.lines.specs.declared.form.Form.the-variants.{Subject, Isa, Rule, Root, Child, User, View, Query, Find, Rename, Update, Append, Before, After, Remove, NoForm}
 use Rattle.lines.specs.declared.policy_edit.Found.{Found}
 use Rattle.lines.specs.declared.policy_edit.Found.the-variants as found
-use Rattle.lines.proofs.StateLaws.{Held, store-held}
+use Rattle.lines.proofs.StateLaws.{store-held}
 use Rattle.guarantee.specs.Alike.{SamePolicy, UserIs}
 use Rattle.guarantee.proofs.SamePolicy.{same-named, same-word}
 use Rattle.guarantee.proofs.FormParts.{TreeSaid, PartsGood, parts-good}

@@ -1,14 +1,14 @@
 -- The low projection of a tree of records, for a declared subject: the view is read off it, two trees have the same exactly if they look the same and no policy word
 -- differs behind RESTRICTED, and it decides which nodes a change does. Assumes nothing.
-use Prim.Native.Nat.{ℕ, zero, suc, _+_, _≤_, _<_, min}
-use mathlib.Core.Path.{_≡_, refl, ap, ap₂, sym, _∙_, subst}
-use mathlib.Core.Bool.{Bool, true, false, cond, not, _&&_}
+use Prim.Native.Nat.{ℕ, zero, suc, _+_, _<_, min}
+use mathlib.Core.Path.{_≡_, refl, ap, ap₂, sym, _∙_}
+use mathlib.Core.Bool.{Bool, true, false, cond}
 use mathlib.Core.List.{List, [], _∷_, _++_, map}
 use mathlib.Core.Logic.{_⊎_, inl, inr}
-use mathlib.Core.Option.{Option, none, some}
+use mathlib.Core.Option.{none, some}
 use native.Mathlib.Omega.{arith}
 use native.Mathlib.Numerals.{add-one}
-use lib.ListN.{length, getD, take, drop}
+use lib.ListN.{length, take}
 use Rattle.rights.specs.Labels.{restricted}
 use Rattle.rights.specs.Nodes.{Node, node, Nodes, levelOf, labelOf}
 use Rattle.rights.specs.Policy.{Policy, read, policyWord}
@@ -18,15 +18,15 @@ use Rattle.rights.proofs.Lists.{byCase}
 use Rattle.views.specs.Change.{isDone, later}
 use Rattle.views.specs.Done.{doneMarks, inTable}
 use Rattle.views.specs.Nodes.{Nested}
-use Rattle.views.specs.Shown.{Stored, storedFrom, stored, storedLevel, grants, granted, isShown, isShownAt, depthAfter, shownAfter, shownBy, shownFrom, shown, keep, carried, view}
+use Rattle.views.specs.Shown.{Stored, storedFrom, stored, storedLevel, grants, granted, isShown, isShownAt, shownAfter, shownFrom, shown, keep, view}
 use Rattle.views.specs.declared.done.Change.{Change}
-use Rattle.views.proofs.ShownDepth.{Steps, shown-by-depth}
+use Rattle.views.proofs.ShownDepth.{shown-by-depth}
 use Rattle.guarantee.specs.Alike.{NoWordDiffers, Behind}
 use Rattle.guarantee.proofs.Keys.{Key, keyOf, rightsByKeys, rights-by-keys}
-use Rattle.guarantee.proofs.Chains.{Cell, cellLevel, chain, cells, cells-nested}
-use Rattle.guarantee.proofs.Scan.{seen, spread, nested-steps, first-mark, later-marks}
+use Rattle.guarantee.proofs.Chains.{Cell, cellLevel, chain, cells}
+use Rattle.guarantee.proofs.Scan.{nested-steps, first-mark, later-marks}
 use Rattle.guarantee.proofs.Low.{Public, publicLevel, publicGrant, cellGrant, publicOf, publics, lowBelow, low, marks, shownCells, low-shown, shown-cells, look, KeysBehind, low-alike, alike-low}
-use Rattle.guarantee.proofs.DoneSeen.{Item, doneFrom, items, done-items, allItems, seenItems, doneSeen, done-seen}
+use Rattle.guarantee.proofs.DoneSeen.{doneFrom, items, done-items, allItems, doneSeen, done-seen}
 
 -- Lists
 
