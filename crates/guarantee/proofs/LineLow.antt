@@ -16,7 +16,8 @@ use Rattle.rights.specs.Table.{records, level, label, count, recordsOk, recordO
 use Rattle.rights.proofs.Facts.{both, table-records}
 use Rattle.rights.proofs.Lists.{byCase}
 use Rattle.rights.proofs.RecordMade.{level-made, label-made}
-use Rattle.views.specs.Change.{isDone, later, remove, insertBehind, insertInFront, rename, chunks, raise, relabel, placed, removed, renamed, changed, lower, deepest, tooDeep, hasRoom}
+use Rattle.views.specs.Change.{isDone, later, remove, insertBehind, insertInFront, rename, chunks, raise, relabel}
+use Rattle.views.specs.Change.{placed, removed, renamed, changed, lower, deepest, tooDeep, hasRoom}
 use Rattle.views.specs.Done.{Asked, does, renamable, askedOf, doneMarks, inTable}
 use Rattle.views.specs.Marks.{marksOf, markCount, marked, eachFrom}
 use Rattle.views.specs.Nodes.{Nested, TreeOk, LabelOk}
@@ -40,7 +41,8 @@ use Rattle.guarantee.proofs.SamePolicy.{same-own, same-word, same-right
 use Rattle.guarantee.proofs.Keys.{Key, rightsByKeys}
 use Rattle.guarantee.proofs.Chains.{chain, cells}
 use Rattle.guarantee.proofs.Scan.{seen, spread}
-use Rattle.guarantee.proofs.Low.{Public, publicLevel, publicGrant, publicOf, publics, lowBelow, low, marks, recarried, Renames, low-remove, low-append, low-insertAfter, low-insertInFront, low-rename}
+use Rattle.guarantee.proofs.Low.{Public, publicLevel, publicGrant, publicOf, publics, lowBelow, low, marks}
+use Rattle.guarantee.proofs.Low.{recarried, Renames, low-remove, low-append, low-insertAfter, low-insertInFront, low-rename}
 use Rattle.guarantee.proofs.DoneSeen.{Item, asked, doneFrom, items, done-items, seenItems, doneSeen}
 use Rattle.guarantee.proofs.LowTable.{PublicRecord, keyIn, labelBy, grantBy, lowOf, nodesOf, view-low, doneLow, publicSet, publicWord, done-low}
 
