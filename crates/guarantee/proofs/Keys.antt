@@ -9,8 +9,8 @@ use native.Mathlib.Omega.{arith}
 use lib.ListN.{length, getD}
 use Rattle.rights.specs.Labels.{sameLabel}
 use Rattle.rights.specs.Path.{Test, label, any, own, Axis, far, passes}
-use Rattle.rights.specs.Policy.{Rule, Policy, nameOf, passesOwn, some as anyOf, uses, policyWord}
-use Rattle.rights.specs.Rights.{is, stepFor, finds, pathFor, withRule, tried, decide, rightsBy}
+use Rattle.rights.specs.Policy.{Rule, Policy, passesOwn, some as anyOf, uses, policyWord}
+use Rattle.rights.specs.Rights.{is, stepFor, finds, withRule, decide, rightsBy}
 use Rattle.rights.proofs.Lists.{byCase}
 
 abbrev pub Key : Type 0

@@ -5,7 +5,10 @@ pub mod Scan
 pub mod DoneSeen
 pub mod LowTable
 pub mod Low
+pub mod KeptNodes
 pub mod Accepted
+pub mod Identity
+pub mod RightsKept
 pub mod SessionKept
 pub mod LineLow
 pub mod FormParts

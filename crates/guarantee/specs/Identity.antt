@@ -1,28 +1,29 @@
 -- Which node is which (document 01, "What demand 3 compares"): "A change keeps every node that it does not remove, renamed or not, and kept nodes keep their
 -- order. Inserted nodes are new. A removed node never comes back, whatever uses its record." And the sentence on rights.
 -- A node is followed by a tag that its record carries; a node that came later has none.
-use Prim.Native.Nat.{ℕ, suc, _≤_, _<_}
+use Prim.Native.Nat.{ℕ, zero, suc, _≤_, _<_}
 use mathlib.Core.Path.{_≡_}
-use mathlib.Core.Bool.{Bool, true, false}
+use mathlib.Core.Bool.{not}
 use mathlib.Core.List.{List, [], _∷_, map, Sublistᴰ}
 use mathlib.Core.Option.{Option, none, some}
-use lib.ListN.{length}
+use lib.ListN.{length, getD}
 use Rattle.rights.specs.Policy.{Policy}
 use Rattle.rights.specs.Rights.{rightsOn}
 use Rattle.rights.specs.Table.{records, level}
 use Rattle.views.specs.Marks.{marksOf}
-use Rattle.views.specs.Nodes.{tags}
+use Rattle.views.specs.Nodes.{goes, only, tags}
 use Rattle.views.specs.Change.{chunks, raise, relabel, remove, append, insertAfter, insertBefore, rename}
 use Rattle.views.specs.declared.done.Change.the-variants as change
 use Rattle.views.specs.declared.insert.Place.{Place}
 use Rattle.views.specs.declared.insert.Place.the-variants as place
 use Rattle.lines.specs.AnswerChoice.{Choice}
 use Rattle.lines.specs.Form.{readForm, treeIn}
-use Rattle.lines.specs.State.{stageC, stage, policyIn, storeOk}
+use Rattle.lines.specs.State.{stageC, stage, policyIn}
 use Rattle.lines.specs.Step.{Reply, says, refuses}
-use Rattle.lines.specs.StepTree.{rootAlone, doneIn, changeAt}
+use Rattle.lines.specs.StepTree.{rootAlone, doneIn}
 use Rattle.lines.specs.Tree.{recordsOf}
 use Rattle.lines.specs.Line.{bytesOf}
+use Rattle.lines.specs.declared.form.Part.{Part}
 use Rattle.lines.specs.declared.form.Form.{Form}
 use Rattle.lines.specs.declared.form.Form.the-variants.{Subject, Isa, Rule, Root, Child, User, View, Query, Find, Rename, Update, Append, Before, After, Remove, NoForm}
 use Rattle.guarantee.specs.Alike.{Input, outcome}
@@ -111,16 +112,62 @@ unfoldable pub tableAfter : Choice → List ℕ → List ℕ → List Input → 
 tableAfter choice s t [] = t
 tableAfter choice s t (i ∷ is) = tableAfter choice (outcome choice s t i .state) (outcome choice s t i .table) is
 
+-- "A change keeps every node that it does not remove": from the root line on, only `(remove P)` takes nodes away;
+abbrev pub NodesKept : Type 0
+NodesKept =
+    (choice : Choice) (s t : List ℕ) → stageC ≤ stage s → (i : Input) (ns : List Tagged) → ((p : Part) → readForm (i .line) ≡ Remove p → ⊥)
+    → tags (λ n. n .1) (follow choice s t i ns) ≡ tags (λ n. n .1) ns
+
+-- and it takes those that are done, and those below them (`goes`, views/specs/Nodes.antt), no others.
+abbrev pub NodesRemoved : Type 0
+NodesRemoved =
+    (choice : Choice) (s t : List ℕ) (i : Input) (ns : List Tagged) (p : Part) (text : List ℕ) → readForm (i .line) ≡ Remove p
+    → outcome choice s t i .reply ≡ says text
+    → follow choice s t i ns ≡ only (λ k. not (goes taggedLevel (marksOf (doneIn change.Remove s t (bytesOf (i .line) p))) ns k)) ns
+
+-- "A removed node never comes back, whatever uses its record": after any lines the nodes that carry a tag are some of those that did before, in order.
+abbrev pub NoneBack : Type 0
+NoneBack =
+    (choice : Choice) (s t : List ℕ) (is : List Input) (ns : List Tagged) → Sublistᴰ (tags (λ n. n .1) (followAll choice s t is ns)) (tags (λ n. n .1) ns)
+
 -- The nodes that are followed are those of the table: nothing else decides which node is which.
 abbrev pub Follows : Type 0
 Follows =
-    (choice : Choice) (s t : List ℕ) → storeOk s t ≡ true → (is : List Input) (ns : List Tagged)
+    (choice : Choice) (s t : List ℕ) (is : List Input) (ns : List Tagged)
     → map (λ n. n .0) ns ≡ records t → map (λ n. n .0) (followAll choice s t is ns) ≡ records (tableAfter choice s t is)
 
--- Demand 3, its sentence on rights: from every store with the root line taken, for every list of lines, whoever works and whatever is refused: what every declared
--- subject may do on the kept nodes afterwards is a part, in order, of what it could do on them before. So no right on a kept node has changed.
+-- Demand 3, its sentence on rights: from every start with the root line taken (one that 13 does not let pass stays as it is), for every list of lines, whoever works
+-- and whatever is refused: what every declared subject may do on the kept nodes afterwards is a part, in order, of what it could do on them before. So no right on a
+-- kept node has changed.
 abbrev pub RightsKept : Type 0
 RightsKept =
-    (choice : Choice) (s t : List ℕ) → storeOk s t ≡ true → stageC ≤ stage s → (is : List Input) (ns : List Tagged)
+    (choice : Choice) (s t : List ℕ) → stageC ≤ stage s → (is : List Input) (ns : List Tagged)
     → map (λ n. n .0) ns ≡ records t → (u : ℕ) → u < length (policyIn s .names)
     → Sublistᴰ (keptRights (policyIn (stateAfter choice s t is)) u (followAll choice s t is ns)) (keptRights (policyIn s) u ns)
+
+-- The same in plain words, with the nodes of the first table numbered 0, 1, 2, ..
+
+abbrev pub numbered : ℕ → List (List ℕ) → List Tagged
+numbered i [] = []
+numbered i (r ∷ rs) = (r, some i) ∷ numbered (suc i) rs
+
+abbrev pub tagAt : List Tagged → ℕ → Option ℕ
+tagAt [] k = none
+tagAt (n ∷ ns) zero = n .1
+tagAt (n ∷ ns) (suc k) = tagAt ns k
+
+-- node k of the last table was node i of the first
+abbrev pub Was : Choice → List ℕ → List ℕ → List Input → ℕ → ℕ → Type 0
+Was choice s t is k i = tagAt (followAll choice s t is (numbered 0 (records t))) k ≡ some i
+
+-- "kept nodes keep their order", and no two nodes of the last table were one node of the first
+abbrev pub OrderKept : Type 0
+OrderKept =
+    (choice : Choice) (s t : List ℕ) (is : List Input) (k k' i i' : ℕ) → Was choice s t is k i → Was choice s t is k' i' → k < k' → i < i'
+
+-- a node of the last table that was in the first: every declared subject has the rights on it that it had then
+abbrev pub SameRights : Type 0
+SameRights =
+    (choice : Choice) (s t : List ℕ) → stageC ≤ stage s → (is : List Input) (u : ℕ) → u < length (policyIn s .names)
+    → (k i : ℕ) → Was choice s t is k i
+    → getD (rightsOn (policyIn (stateAfter choice s t is)) u (records (tableAfter choice s t is))) k 0 ≡ getD (rightsOn (policyIn s) u (records t)) i 0

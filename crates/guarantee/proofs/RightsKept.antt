@@ -1,0 +1,152 @@
+-- Demand 3's sentence on rights: over any lines, what every declared subject may do on the kept nodes stays as it was. Assumes nothing.
+use Prim.Native.Nat.{ℕ, zero, suc, _+_, _≤_, _<_}
+use mathlib.Core.Bool.{true}
+use mathlib.Core.Logic.{_⊎_, inl, inr}
+use mathlib.Core.Path.{_≡_, refl, sym, ap, _∙_}
+use mathlib.Core.List.{List, [], _∷_, map, Sublistᴰ, Sublistᴰ·refl, Sublistᴰ·trans}
+use mathlib.Core.Option.{none, some}
+use native.Mathlib.Omega.{arith}
+use lib.ListN.{length, getD, length-map}
+use Rattle.rights.specs.Labels.{sameLabel, restricted}
+use Rattle.rights.specs.Policy.{Policy, policyWord}
+use Rattle.rights.specs.PolicyBytes.{policyOf}
+use Rattle.rights.specs.Rights.{rightsBy, chains, rightsOn}
+use Rattle.rights.specs.Table.{records, level}
+use Rattle.views.specs.Nodes.{All, Nested, tags}
+use Rattle.views.specs.declared.done.Change.{Change}
+use Rattle.views.specs.declared.done.Change.the-variants as change
+use Rattle.views.specs.declared.insert.Place.{Place}
+use Rattle.views.specs.declared.insert.Place.the-variants as place
+use Rattle.lines.specs.AnswerChoice.{Choice}
+use Rattle.lines.specs.Form.{readForm, treeIn}
+use Rattle.lines.specs.State.{stageC, stage, policyIn, storeOk}
+use Rattle.lines.specs.StepTree.{rootAlone, doneIn}
+use Rattle.lines.specs.Tree.{recordsOf}
+use Rattle.lines.specs.Line.{stageOf, inStage, bytesOf}
+use Rattle.lines.specs.declared.form.Form.{Form}
+use Rattle.lines.specs.declared.form.Form.the-variants.{Subject, Isa, Rule, Root, Child, User, View, Query, Find, Rename, Update, Append, Before, After, Remove, NoForm}
+use Rattle.lines.proofs.StateLaws.{store-held}
+use Rattle.lines.proofs.StoredSteps.{or-none}
+use Rattle.guarantee.specs.Alike.{Input, outcome}
+use Rattle.guarantee.specs.Identity.{Tagged, afterInsert, afterRename, afterForm, afterReply, follow, followAll, kept, beside, keptRights, stateAfter, RightsKept, numbered, tagAt, SameRights}
+use Rattle.guarantee.proofs.Accepted.{RenameTaken, Inserted, Taken, Refused, Accepted, line-cases}
+use Rattle.guarantee.proofs.SessionKept.{before-root, policy-kept, rooted-kept}
+use Rattle.guarantee.proofs.FormParts.{TreeSaid, PartsGood, parts-good}
+use Rattle.guarantee.proofs.TreeRecords.{tree-ok}
+use Rattle.guarantee.proofs.Identity.{all-part, follows-line, follows}
+use Rattle.guarantee.proofs.KeptNodes.{Renames, rename-renames, update-renames, done-free, nodes-nested, kept-remove, kept-insert, kept-rename}
+
+same : {a b : List (ℕ × ℕ)} → a ≡ b → Sublistᴰ a b
+same {b = b} e = rw e (Sublistᴰ·refl b)
+
+-- the rights on the kept nodes after an accepted line, the root line taken before
+module _ (choice : Choice) (s t line text s' t' : List ℕ) (ok : storeOk s t ≡ true) (rooted : stageC ≤ stage s) (ns : List Tagged) (e : map (λ n. n .0) ns ≡ records t)
+    (u : ℕ) (d : u < length (policyIn s .names)) where
+  abbrev Part : List Tagged → Type 0
+  Part ns' = Sublistᴰ (keptRights (policyIn s) u ns') (keptRights (policyIn s) u ns)
+
+  nested : Nested (λ (n : Tagged). level (n .0)) 0 ns
+  nested = nodes-nested t ns (store-held s t ok .table) e
+
+  inserted-part : (at : Place) (m : ℕ) (ms : List ℕ) → TreeSaid line m → Inserted at ms m (recordsOf (treeIn line)) t t'
+      → Part (afterInsert at m (recordsOf (treeIn line)) ms ns)
+  inserted-part at m ms w x = same (kept-insert (policyIn s) u d at m (recordsOf (treeIn line)) ms ns (tree-ok line m w (x .free) .nested) nested)
+
+  renamed-part : (c : Change) → Renames c → (path l : List ℕ) → RenameTaken c s t path l text s' t' → Part (afterRename l (doneIn c s t path) ns)
+  renamed-part c r path l x =
+      same (kept-rename (policyIn s) u d l (doneIn c s t path) ns
+      (or-none (sameLabel l restricted) (policyWord (policyIn s) l) (x .free) .1)
+      (done-free c r s t path ns e))
+
+  rights-form : (f : Form) → inStage (stageOf f) (stage s) ≡ true → PartsGood f line → Taken choice f s t line (recordsOf (treeIn line)) text s' t'
+      → Part (afterForm f s t t' line ns)
+  rights-form (Subject n) i w x = Sublistᴰ·refl _
+  rights-form (Isa n r) i w x = Sublistᴰ·refl _
+  rights-form (Rule a b p n) i w x = Sublistᴰ·refl _
+  rights-form (Root l) i w x = absurd (omega (arith, before-root (stage s) i))
+  rights-form (Child m) i w x = inserted-part place.Append m rootAlone w (x .inserted)
+  rights-form (User n) i w x = Sublistᴰ·refl _
+  rights-form View i w x = Sublistᴰ·refl _
+  rights-form (Query p) i w x = Sublistᴰ·refl _
+  rights-form (Find p) i w x = Sublistᴰ·refl _
+  rights-form (Rename p l) i w x = renamed-part change.Rename rename-renames (bytesOf line p) (bytesOf line l) x
+  rights-form (Update p l) i w x = renamed-part change.Update update-renames (bytesOf line p) (bytesOf line l) x
+  rights-form (Append p m) i w x = inserted-part place.Append m (doneIn change.Append s t (bytesOf line p)) w (x .inserted)
+  rights-form (Before p m) i w x = inserted-part place.Before m (doneIn change.Before s t (bytesOf line p)) w (x .inserted)
+  rights-form (After p m) i w x = inserted-part place.After m (doneIn change.After s t (bytesOf line p)) w (x .inserted)
+  rights-form (Remove p) i w x = kept-remove (policyIn s) u d (doneIn change.Remove s t (bytesOf line p)) ns nested
+  rights-form NoForm i w x = Sublistᴰ·refl _
+
+-- With numbers as tags
+
+records-numbered : (i : ℕ) (rs : List (List ℕ)) → map (λ n. n .0) (numbered i rs) ≡ rs
+records-numbered i [] = refl
+records-numbered i (r ∷ rs) = ap (λ l. r ∷ l) (records-numbered (suc i) rs)
+
+numbered-sets : (sets : List ℕ) (j : ℕ) (rs : List (List ℕ)) (ss : List ℕ) → ((k : ℕ) → getD ss k 0 ≡ getD sets (j + k) 0)
+    → All (λ p. p .1 ≡ getD sets (p .0) 0) (tags kept (beside (numbered j rs) ss))
+unfolding tags
+numbered-sets sets j [] ss h = tt
+numbered-sets sets j (r ∷ rs) [] h = tt
+numbered-sets sets j (r ∷ rs) (x ∷ ss) h =
+    let z : j + 0 ≡ j = omega arith in
+    ((rw z at (h 0)), numbered-sets sets (suc j) rs ss (λ k. let y : j + suc k ≡ suc j + k = omega arith in rw y at (h (suc k))))
+
+tagged-set : (Q : ℕ × ℕ → Type 0) (ns : List Tagged) (ss : List ℕ) (k i : ℕ) → length ns ≤ length ss → All Q (tags kept (beside ns ss)) → tagAt ns k ≡ some i
+    → Q (i, getD ss k 0)
+unfolding tags
+tagged-set Q [] ss k i h a e = absurd (let z : _≡_ {A = ℕ} 0 1 = cc in omega arith)
+tagged-set Q (n ∷ ns) [] k i h a e = absurd (omega arith)
+tagged-set Q ((r, none) ∷ ns) (x ∷ ss) zero i h a e = absurd (let z : _≡_ {A = ℕ} 0 1 = cc in omega arith)
+tagged-set Q ((r, some j) ∷ ns) (x ∷ ss) zero i h a e = let z : j ≡ i = cc in rw (← z) (a .0)
+tagged-set Q ((r, none) ∷ ns) (x ∷ ss) (suc k) i h a e = tagged-set Q ns ss k i (omega arith) a e
+tagged-set Q ((r, some j) ∷ ns) (x ∷ ss) (suc k) i h a e = tagged-set Q ns ss k i (omega arith) (a .1) e
+
+chains-length : (c rs : List (List ℕ)) → length (chains c rs) ≡ length rs
+unfolding chains
+chains-length c [] = refl
+chains-length c (r ∷ rs) = ap suc (chains-length _ rs)
+
+sets-length : (P : Policy) (u : ℕ) (ns : List Tagged) → length (rightsOn P u (map (λ n. n .0) ns)) ≡ length ns
+sets-length P u ns = length-map (chains [] (map (λ n. n .0) ns)) (rightsBy P u) ∙ chains-length [] (map (λ n. n .0) ns) ∙ length-map ns (λ n. n .0)
+
+-- One line
+module _ (choice : Choice) (s t : List ℕ) (i : Input) (ns : List Tagged) (e : map (λ n. n .0) ns ≡ records t) where
+  pub rights-line : stageC ≤ stage s → (u : ℕ) → u < length (policyIn s .names)
+      → Sublistᴰ (keptRights (policyIn s) u (follow choice s t i ns)) (keptRights (policyIn s) u ns)
+  unfolding follow
+  rights-line rooted u d = go (line-cases choice s t (i .line) (i .room))
+    where
+      go : Refused s t (outcome choice s t i) ⊎ Accepted choice s t (i .line) (i .room)
+          → Sublistᴰ (keptRights (policyIn s) u (afterReply (outcome choice s t i .reply) (readForm (i .line)) s t (outcome choice s t i .table) (i .line) ns)) (keptRights (policyIn s) u ns)
+      go (inl x) = rw (x .is) (Sublistᴰ·refl _)
+      go (inr x) =
+          rw (x .reply) (rights-form choice s t (i .line) (x .text) (outcome choice s t i .state) (outcome choice s t i .table) (x .taken .passes) rooted ns e u d
+          (readForm (i .line)) (x .taken .in-stage) (parts-good (i .line) (x .taken .form)) (x .taken .taken))
+
+-- Any lines
+
+pub rights-kept : RightsKept
+unfolding followAll stateAfter
+rights-kept choice s t rooted [] ns e u d = Sublistᴰ·refl _
+rights-kept choice s t rooted (i ∷ is) ns e u d =
+    let s' : List ℕ = outcome choice s t i .state in
+    let t' : List ℕ = outcome choice s t i .table in
+    let p : policyIn s ≡ policyIn s' = ap policyOf (sym (policy-kept choice s t (i .line) (i .room) rooted)) in
+    Sublistᴰ·trans
+    (rights-kept choice s' t' (rooted-kept choice s t (i .line) (i .room) rooted) is
+    (follow choice s t i ns) (follows-line choice s t i ns e) u (rw (← p) d))
+    (rw (← p) (rights-line choice s t i ns e rooted u d))
+
+pub same-rights : SameRights
+same-rights choice s t rooted is u d k i w =
+    let ns : List Tagged = numbered 0 (records t) in
+    let ns' : List Tagged = followAll choice s t is ns in
+    let P' : Policy = policyIn (stateAfter choice s t is) in
+    let sets : List ℕ = rightsOn (policyIn s) u (records t) in
+    let n : map (λ x. x .0) ns ≡ records t = records-numbered 0 (records t) in
+    let z : (j : ℕ) → getD sets j 0 ≡ getD sets (0 + j) 0 = λ j. let y : 0 + j ≡ j = omega arith in rw y in
+    let a : All (λ p. p .1 ≡ getD sets (p .0) 0) (keptRights (policyIn s) u ns) = rw n (numbered-sets sets 0 (records t) sets z) in
+    let b : All (λ p. p .1 ≡ getD sets (p .0) 0) (keptRights P' u ns') = all-part (λ p. p .1 ≡ getD sets (p .0) 0) (rights-kept choice s t rooted is ns n u d) a in
+    ap (λ rs. getD (rightsOn P' u rs) k 0) (sym (follows choice s t is ns n))
+    ∙ tagged-set (λ p. p .1 ≡ getD sets (p .0) 0) ns' (rightsOn P' u (map (λ x. x .0) ns')) k i (omega (arith, sets-length P' u ns')) b w
