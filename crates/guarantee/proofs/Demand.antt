@@ -1,20 +1,18 @@
 -- Demand 3, its first sentence (document 01, "What demand 3 compares"; specs/Alike.antt): two stores that look the same to a reader give the same answers to every
 -- list of lines, and look the same after each. Assumes nothing.
-use Prim.Native.Nat.{ℕ, zero, suc, _+_, _-_, _≤_, _<_}
+use Prim.Native.Nat.{ℕ, _-_, _≤_, _<_}
 use mathlib.Core.Path.{_≡_, refl, ap, sym, _∙_, subst}
-use mathlib.Core.Bool.{Bool, true, false, not, _&&_, Bool·beq}
+use mathlib.Core.Bool.{Bool, true}
 use mathlib.Core.List.{List, [], _∷_}
-use mathlib.Core.Logic.{_⊎_, inl, inr}
-use native.Mathlib.Omega.{arith}
+use mathlib.Core.Logic.{inl, inr}
 use borrow.Author.Tests.{le-leb}
-use lib.Dec.{leb, ltb}
 use lib.ListN.{length}
 use Rattle.rights.specs.Policy.{Policy, policyWord}
 use Rattle.rights.specs.PolicyBytes.{policyOf}
-use Rattle.rights.specs.Rights.{rightsOn}
 use Rattle.rights.specs.Table.{records, level}
 use Rattle.views.specs.Nodes.{Nested}
 use Rattle.views.specs.Shown.{Stored, stored, shown, keep, view}
+<<<<<<< HEAD
 use Rattle.answers.specs.Answer.{okText}
 use Rattle.answers.specs.AnswerChoice.{Choice}
 use Rattle.forms.specs.Form.{readForm, treeIn}
@@ -28,16 +26,23 @@ use Rattle.forms.specs.declared.form.Part.{Part}
 use Rattle.forms.specs.declared.form.Form.{Form}
 use Rattle.forms.specs.declared.form.Form.the-variants.{User}
 use Rattle.lines.specs.declared.policy_edit.Found.{Found}
+=======
+use Rattle.answers.specs.Answer.{okText}
+use Rattle.answers.specs.AnswerChoice.{Choice}
+use Rattle.lines.specs.PolicyEdit.{subjectNamed}
+use Rattle.lines.specs.State.{stageC, stageE, stage, policyIn, storeOk}
+use Rattle.lines.specs.Step.{says, refuses, stepUser}
+use Rattle.lines.specs.Line.{inStage, bytesOf, stepForm, stepRead, step}
+>>>>>>> dem
 use Rattle.lines.specs.declared.policy_edit.Found.the-variants as found
-use Rattle.lines.proofs.StateLaws.{Held, store-held}
-use Rattle.guarantee.specs.Alike.{SamePolicy, storedFor, shownTo, look, Behind, Alike, UserIs, Input, outcome, LogsIn, BeginsWithLogin, Begins, RunAlike, AnswersAlike}
-use Rattle.guarantee.proofs.Accepted.{LineTaken}
+use Rattle.lines.proofs.StateLaws.{store-held}
+use Rattle.guarantee.specs.Alike.{SamePolicy, shownTo, look, Behind, Alike, UserIs, Input, outcome, LogsIn, Begins, AnswersAlike}
 use Rattle.guarantee.proofs.SamePolicy.{same-named, same-rights-on}
 use Rattle.guarantee.proofs.SessionKept.{policy-kept, rooted-kept, accepted-taken, logged-in, user-is-kept, user-is-logged}
 use Rattle.guarantee.proofs.StoreKept.{store-kept}
-use Rattle.guarantee.proofs.LowTable.{lowOf, shownOf, low-of-alike, alike-of-low}
+use Rattle.guarantee.proofs.LowTable.{lowOf, low-of-alike, alike-of-low}
 use Rattle.guarantee.proofs.LineLow.{table-nested}
-use Rattle.guarantee.proofs.LineAlike.{Agrees, Tied, user-declared, match-step}
+use Rattle.guarantee.proofs.LineAlike.{Tied, user-declared, same-self, match-step}
 
 store-nested : (s t : List ℕ) → storeOk s t ≡ true → Nested level 0 (records t)
 store-nested s t e = table-nested t (store-held s t e .table)
@@ -65,6 +70,22 @@ module _ (u : ℕ) (s t s' t' : List ℕ) (declared : u < length (policyIn s .na
         looks = b .0 ∙ ap (λ ss. view (stored t' ss)) r;
         behind = subst (λ ss. Behind (policyWord (policyIn s)) (shownTo u s t) (keep (shown (stored t' ss)) (stored t' ss))) r (b .1);
       }
+
+-- A store with the root line taken is alike to itself, for every reader.
+behind-self : (word : List ℕ → Bool) (xs : List Stored) → Behind word xs xs
+behind-self word [] = tt
+behind-self word (x ∷ xs) = ((λ a b. inl refl), behind-self word xs)
+
+pub alike-self : (u : ℕ) (s t : List ℕ) → storeOk s t ≡ true → stageC ≤ stage s → Alike u s t s t
+alike-self u s t ok g = record {
+  passes = ok;
+  passes' = ok;
+  rooted = g;
+  rooted' = g;
+  policy = same-self (policyIn s);
+  looks = refl;
+  behind = behind-self (policyWord (policyIn s)) (shownTo u s t);
+}
 
 -- what holds after a line
 module _ (choice : Choice) (u : ℕ) (s t s' t' : List ℕ) (a : Alike u s t s' t') (i : Input) where

@@ -1,20 +1,20 @@
 -- What a change does, from the shown nodes alone: a node that is not shown is never done, and the parent of a shown node is the nearest shown node before it at a
 -- smaller level. Assumes nothing.
-use Prim.Native.Nat.{ℕ, zero, suc, _+_, _≤_, _<_, min}
-use mathlib.Core.Path.{_≡_, refl, ap, ap₂, sym, _∙_}
-use mathlib.Core.Bool.{Bool, true, false, cond, not, _&&_}
-use mathlib.Core.List.{List, [], _∷_, map}
+use Prim.Native.Nat.{ℕ, zero, suc, _+_, _≤_, min}
+use mathlib.Core.Path.{_≡_, refl, ap, _∙_}
+use mathlib.Core.Bool.{Bool, true, false, cond, not}
+use mathlib.Core.List.{List, [], _∷_}
 use native.Mathlib.Omega.{arith}
 use lib.Dec.{ltb}
-use lib.ListN.{length, getD, drop}
+use lib.ListN.{getD, drop}
 use lib.Seq.{getD-drop, drop-drop}
-use borrow.Author.Tests.{ltb-true, ltb-false, le-ltb}
+use borrow.Author.Tests.{ltb-false, le-ltb}
 use Rattle.rights.specs.Policy.{insert}
 use Rattle.rights.specs.Rights.{holds}
 use Rattle.rights.specs.Table.{recordAt, recordsFrom, records, level, label, count}
 use Rattle.rights.proofs.Lists.{byCase}
 use Rattle.views.specs.Change.{isDone, later}
-use Rattle.views.specs.Done.{Asked, does, askedOf, doneMarks, inTable}
+use Rattle.views.specs.Done.{Asked, does, askedOf, doneMarks}
 use Rattle.views.specs.Marks.{eachFrom}
 use Rattle.views.specs.Shown.{atParent, nearestFirst, isShownAt, stored, shown}
 use Rattle.views.specs.declared.done.Change.{Change}

@@ -1,9 +1,9 @@
 -- One line on two stores with the same user, the same policy and the same low projection: the same reply, and the same low projection afterwards, unless one of the
 -- two is refused for want of free records. Assumes nothing.
-use Prim.Native.Nat.{ℕ, zero, suc, _+_, _-_, _≤_, _<_}
+use Prim.Native.Nat.{ℕ, zero, suc, _+_, _-_, _<_}
 use mathlib.Core.Path.{_≡_, refl, ap, ap₂, sym, _∙_, subst}
-use mathlib.Core.Bool.{Bool, true, false, cond, not, _&&_, _||_, Bool·beq, false≢true, true≢false}
-use mathlib.Core.List.{List, [], _∷_}
+use mathlib.Core.Bool.{Bool, true, false, cond, not, _||_, Bool·beq, false≢true, true≢false}
+use mathlib.Core.List.{List}
 use native.Mathlib.Omega.{arith}
 use borrow.Author.Tests.{eqb-true, le-leb}
 use lib.Dec.{leb, eqb}
@@ -13,9 +13,9 @@ use Rattle.rights.specs.PathReader.{pathOf}
 use Rattle.rights.specs.Policy.{Policy, policyWord}
 use Rattle.rights.specs.PolicyBytes.{policyOf, subjectCount, namesFrom}
 use Rattle.rights.specs.Table.{records, tableOk}
-use Rattle.views.specs.Change.{chunks, placed, removed, renamed, changed, lower, deepest, tooDeep, hasRoom}
+use Rattle.views.specs.Change.{chunks, lower, deepest, tooDeep, hasRoom}
 use Rattle.views.specs.Marks.{marksOf}
-use Rattle.views.specs.Nodes.{LabelOk}
+use Rattle.views.specs.Nodes.{TreeOk, LabelOk}
 use Rattle.views.specs.declared.done.Change.{Change}
 use Rattle.views.specs.declared.done.Change.the-variants as change
 use Rattle.views.specs.declared.insert.Place.{Place}
@@ -26,7 +26,7 @@ use Rattle.forms.specs.TreeText.{GoodLabel}
 use Rattle.forms.specs.Form.{readForm, treeIn}
 use Rattle.lines.specs.PolicyEdit.{subjectNamed}
 use Rattle.lines.specs.State.{stageE, stage, userByte, withSession, policyBytes, policyIn, storeOk}
-use Rattle.lines.specs.Step.{Reply, says, refuses, Outcome, refusal, refuse, finish, noUser, viewIn, marksIn, notPath, loggedIn, stepView, stepQuery, stepFind, stepUser}
+use Rattle.lines.specs.Step.{says, refuses, Outcome, refusal, refuse, finish, noUser, viewIn, marksIn, notPath, loggedIn, stepView, stepQuery, stepFind, stepUser}
 use Rattle.lines.specs.StepTree.{treeRestricted, inserting, doneIn, countText, changeAt, stepRename, stepInsert, stepRemove}
 use Rattle.forms.specs.Text.{lineOk}
 use Rattle.forms.specs.Tree.{recordsOf}
@@ -35,13 +35,14 @@ use Rattle.forms.specs.declared.form.Form.{Form}
 use Rattle.forms.specs.declared.form.Form.the-variants.{Subject, Isa, Rule, Root, Child, User, View, Query, Find, Rename, Update, Append, Before, After, Remove, NoForm}
 use Rattle.lines.specs.declared.policy_edit.Found.{Found}
 use Rattle.lines.specs.declared.policy_edit.Found.the-variants as found
-use Rattle.lines.proofs.StateLaws.{Held, store-held}
+use Rattle.lines.proofs.StateLaws.{store-held}
 use Rattle.guarantee.specs.Alike.{SamePolicy, UserIs}
 use Rattle.guarantee.proofs.SamePolicy.{same-named, same-word}
-use Rattle.guarantee.proofs.FormParts.{TreeSaid, PartsGood, parts-good}
+use Rattle.guarantee.proofs.FormParts.{PartsGood, parts-good}
 use Rattle.guarantee.proofs.TreeRecords.{tree-ok}
 use Rattle.guarantee.proofs.LowTable.{lowOf, nodesOf}
-use Rattle.guarantee.proofs.LineLow.{selectLow, deepLow, Frees, rename-frees, update-frees, doneBy, countLow, removeLow, renameLow, placeLow, view-in, marks-in, text-in, deep-in, removed-low, renamed-low, placed-low}
+use Rattle.guarantee.proofs.LineLow.{selectLow, deepLow, Frees, rename-frees, update-frees, doneBy, countLow, removeLow, renameLow}
+use Rattle.guarantee.proofs.LineLow.{placeLow, view-in, marks-in, text-in, deep-in, removed-low, renamed-low, placed-low}
 
 -- What is compared of two outcomes
 
@@ -224,25 +225,29 @@ module _ (choice : Choice) (u : ℕ) (s t s' t' : List ℕ) (h : Tied u s t s' t
       ∙ ap (λ ps. removeLow P u path ps) (h .low)
       ∙ sym (removed-low P u declared s' t' (h .policy) ok' (h .user') path)))
 
-  match-insert : (at : Place) (line path : List ℕ) (m : ℕ) → TreeSaid line m
-      → Matches (stepInsert at s t room path m (recordsOf (treeIn line))) (stepInsert at s' t' room path m (recordsOf (treeIn line)))
-  unfolding stepInsert
-  match-insert at line path m said =
-      let tree : List ℕ = recordsOf (treeIn line) in
-      let c : Change = changeAt at in
-      let k : ℕ = lower at + deepest (chunks m tree) in
-      refuse-same (notPath (pathOf path)) 4 _ _ λ a.
-      unless-user _ _
-      (refuse-same (treeRestricted m tree) 9 _ _ λ f.
-      let tok = tree-ok line m said f in
-      refuse-both P u s t s' t' (h .low) (tooDeep k (marksOf (doneIn c s t path)) (records t)) (tooDeep k (marksOf (doneIn c s' t' path)) (records t')) 10 _ _ (deep-both k c path)
+  -- the places are not too deep, and there is room in both
+  abbrev insertingIn : Place → List ℕ → ℕ → List ℕ → List ℕ → List ℕ → Outcome
+  insertingIn at path m tree s t = inserting at (doneIn (changeAt at) s t path) m tree (countText (changeAt at) s t path) s s t room
+
+  match-inserting : (at : Place) (path : List ℕ) (m : ℕ) (tree : List ℕ) → TreeOk (chunks m tree) → Matches (insertingIn at path m tree s t) (insertingIn at path m tree s' t')
+  match-inserting at path m tree good =
+      refuse-both P u s t s' t' (h .low) (tooDeep (lower at + deepest (chunks m tree)) (marksOf (doneIn (changeAt at) s t path)) (records t))
+      (tooDeep (lower at + deepest (chunks m tree)) (marksOf (doneIn (changeAt at) s' t' path)) (records t')) 10 _ _
+      (deep-both (lower at + deepest (chunks m tree)) (changeAt at) path)
       λ d d'.
-      room-both P u s t s' t' (h .low) (not (hasRoom t (doneIn c s t path) m)) (not (hasRoom t' (doneIn c s' t' path) m)) _ _
+      room-both P u s t s' t' (h .low) (not (hasRoom t (doneIn (changeAt at) s t path) m)) (not (hasRoom t' (doneIn (changeAt at) s' t' path) m)) _ _
       λ r r'.
-      finish-both P u s t s' t' (h .low) room _ _ s _ s' _ (text-both c path)
-      (placed-low P u declared s t (same-self P) ok (h .user) at path m tree tok d (has _ r)
+      finish-both P u s t s' t' (h .low) room _ _ s _ s' _ (text-both (changeAt at) path)
+      (placed-low P u declared s t (same-self P) ok (h .user) at path m tree good d (has _ r)
       ∙ ap (λ ps. placeLow P u at path m tree ps) (h .low)
-      ∙ sym (placed-low P u declared s' t' (h .policy) ok' (h .user') at path m tree tok d' (has _ r'))))
+      ∙ sym (placed-low P u declared s' t' (h .policy) ok' (h .user') at path m tree good d' (has _ r')))
+
+  match-insert : (at : Place) (path : List ℕ) (m : ℕ) (tree : List ℕ) → (treeRestricted m tree ≡ false → TreeOk (chunks m tree))
+      → Matches (stepInsert at s t room path m tree) (stepInsert at s' t' room path m tree)
+  unfolding stepInsert
+  match-insert at path m tree good =
+      refuse-same (notPath (pathOf path)) 4 _ _ λ a.
+      unless-user _ _ (refuse-same (treeRestricted m tree) 9 (insertingIn at path m tree s t) (insertingIn at path m tree s' t') λ f. match-inserting at path m tree (good f))
 
   match-form : (line : List ℕ) (f : Form) → inStage (stageOf f) 4 ≡ true → PartsGood f line
       → Matches (stepForm choice f s t room line (recordsOf (treeIn line))) (stepForm choice f s' t' room line (recordsOf (treeIn line)))
@@ -258,9 +263,9 @@ module _ (choice : Choice) (u : ℕ) (s t s' t' : List ℕ) (h : Tied u s t s' t
   match-form line (Find p) i g = match-find (bytesOf line p)
   match-form line (Rename p l) i g = match-rename change.Rename (bytesOf line p) (bytesOf line l) rename-frees g
   match-form line (Update p l) i g = match-rename change.Update (bytesOf line p) (bytesOf line l) update-frees g
-  match-form line (Append p m) i g = match-insert place.Append line (bytesOf line p) m g
-  match-form line (Before p m) i g = match-insert place.Before line (bytesOf line p) m g
-  match-form line (After p m) i g = match-insert place.After line (bytesOf line p) m g
+  match-form line (Append p m) i g = match-insert place.Append (bytesOf line p) m (recordsOf (treeIn line)) (tree-ok line m g)
+  match-form line (Before p m) i g = match-insert place.Before (bytesOf line p) m (recordsOf (treeIn line)) (tree-ok line m g)
+  match-form line (After p m) i g = match-insert place.After (bytesOf line p) m (recordsOf (treeIn line)) (tree-ok line m g)
   match-form line (Remove p) i g = match-remove (bytesOf line p)
   match-form line NoForm i g = refused-both P u s t s' t' (h .low) 2
 

@@ -1,29 +1,27 @@
 -- A line of a logged-in user on one store, by the low projection: the view, the selection, the counts, the depth at the places that would be done, and the low
 -- projection of what a change leaves. Assumes nothing.
-use Prim.Native.Nat.{ℕ, zero, suc, _+_, _-_, _≤_, _<_, min}
-use mathlib.Core.Path.{_≡_, refl, ap, ap₂, sym, _∙_, subst}
+use Prim.Native.Nat.{ℕ, zero, suc, _+_, _-_, _<_, min}
+use mathlib.Core.Path.{_≡_, refl, ap, ap₂, sym, _∙_}
 use mathlib.Core.Bool.{Bool, true, false, cond, not, _&&_, _||_, false≢true, and-false}
-use mathlib.Core.List.{List, [], _∷_, _++_, map, append-nil}
+use mathlib.Core.List.{List, [], _∷_, append-nil}
 use native.Mathlib.Omega.{arith}
 use native.Mathlib.Numerals.{add-one}
-use borrow.Author.Tests.{leb-true}
-use lib.Dec.{leb, ltb}
+use lib.Dec.{ltb}
 use lib.ListN.{length, getD, drop}
-use Rattle.rights.specs.Automaton.{bit}
 use Rattle.rights.specs.Labels.{restricted}
 use Rattle.rights.specs.Policy.{Policy, read, update, policyWord, passesOwn}
-use Rattle.rights.specs.Record.{recordOf}
 use Rattle.rights.specs.Rights.{holds, rightsOn}
 use Rattle.rights.specs.Selection.{selection}
 use Rattle.rights.specs.Table.{records, level, label, count, recordsOk, recordOk, tableOk}
 use Rattle.rights.proofs.Facts.{both, table-records}
 use Rattle.rights.proofs.Lists.{byCase}
 use Rattle.rights.proofs.RecordMade.{level-made, label-made}
-use Rattle.views.specs.Change.{isDone, later, remove, insertBehind, insertInFront, rename, chunks, raise, relabel, placed, removed, renamed, changed, lower, deepest, tooDeep, hasRoom}
+use Rattle.views.specs.Change.{isDone, later, remove, insertBehind, insertInFront, rename, chunks, raise, relabel}
+use Rattle.views.specs.Change.{placed, removed, renamed, changed, lower, deepest, tooDeep, hasRoom}
 use Rattle.views.specs.Done.{Asked, does, renamable, askedOf, doneMarks, inTable}
 use Rattle.views.specs.Marks.{marksOf, markCount, marked, eachFrom}
 use Rattle.views.specs.Nodes.{Nested, TreeOk, LabelOk}
-use Rattle.views.specs.Pass.{Above, Front, AtDone}
+use Rattle.views.specs.Pass.{Front, AtDone}
 use Rattle.views.specs.Shown.{isShownAt, stored, shown, view, atParent, nearestFirst}
 use Rattle.views.specs.declared.done.Change.{Change}
 use Rattle.views.specs.declared.done.Change.the-variants as change
@@ -34,18 +32,24 @@ use Rattle.views.proofs.MarkLaws.{marks-bits}
 use Rattle.views.proofs.NestedLaws.{done-from}
 use Rattle.views.proofs.RecordBytes.{above-raise}
 use Rattle.views.proofs.TableKept.{loosen, removed-stored, renamed-stored, placed-stored}
+<<<<<<< HEAD
 use Rattle.answers.specs.Answer.{doneText}
 use Rattle.lines.specs.State.{userByte, userOf, policyIn}
+=======
+use Rattle.answers.specs.Answer.{doneText}
+use Rattle.lines.specs.State.{userOf, policyIn}
+>>>>>>> dem
 use Rattle.lines.specs.Step.{rightsIn, storedIn, viewIn, marksIn}
 use Rattle.lines.specs.StepTree.{selectedIn, doneIn, countText, changeAt}
 use Rattle.guarantee.specs.Alike.{SamePolicy, UserIs}
 use Rattle.guarantee.proofs.SamePolicy.{same-own, same-word, same-rights-on}
-use Rattle.guarantee.proofs.Keys.{Key, keyOf, rightsByKeys}
-use Rattle.guarantee.proofs.Chains.{Cell, Keeps, chain, cells}
+use Rattle.guarantee.proofs.Keys.{Key, rightsByKeys}
+use Rattle.guarantee.proofs.Chains.{chain, cells}
 use Rattle.guarantee.proofs.Scan.{seen, spread}
-use Rattle.guarantee.proofs.Low.{Public, publicLevel, publicGrant, publicOf, publics, lowBelow, low, marks, recarried, Renames, low-remove, low-append, low-insertAfter, low-insertInFront, low-rename}
+use Rattle.guarantee.proofs.Low.{Public, publicLevel, publicGrant, publicOf, publics, lowBelow, low, marks}
+use Rattle.guarantee.proofs.Low.{recarried, Renames, low-remove, low-append, low-insertAfter, low-insertInFront, low-rename}
 use Rattle.guarantee.proofs.DoneSeen.{Item, asked, doneFrom, items, done-items, seenItems, doneSeen}
-use Rattle.guarantee.proofs.LowTable.{PublicRecord, keyIn, labelBy, grantBy, lowOf, storedBy, nodesOf, view-low, doneLow, publicSet, publicWord, done-low}
+use Rattle.guarantee.proofs.LowTable.{PublicRecord, keyIn, labelBy, grantBy, lowOf, nodesOf, view-low, doneLow, publicSet, publicWord, done-low}
 
 -- Levels of a table's records
 

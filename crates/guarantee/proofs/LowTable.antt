@@ -1,14 +1,14 @@
 -- The low projection of a tree of records, for a declared subject: the view is read off it, two trees have the same exactly if they look the same and no policy word
 -- differs behind RESTRICTED, and it decides which nodes a change does. Assumes nothing.
-use Prim.Native.Nat.{ℕ, zero, suc, _+_, _≤_, _<_, min}
-use mathlib.Core.Path.{_≡_, refl, ap, ap₂, sym, _∙_, subst}
-use mathlib.Core.Bool.{Bool, true, false, cond, not, _&&_}
+use Prim.Native.Nat.{ℕ, zero, suc, _+_, _<_, min}
+use mathlib.Core.Path.{_≡_, refl, ap, ap₂, sym, _∙_}
+use mathlib.Core.Bool.{Bool, true, false, cond}
 use mathlib.Core.List.{List, [], _∷_, _++_, map}
 use mathlib.Core.Logic.{_⊎_, inl, inr}
-use mathlib.Core.Option.{Option, none, some}
+use mathlib.Core.Option.{none, some}
 use native.Mathlib.Omega.{arith}
 use native.Mathlib.Numerals.{add-one}
-use lib.ListN.{length, getD, take, drop}
+use lib.ListN.{length, take}
 use Rattle.rights.specs.Labels.{restricted}
 use Rattle.rights.specs.Nodes.{Node, node, Nodes, levelOf, labelOf}
 use Rattle.rights.specs.Policy.{Policy, read, policyWord}
@@ -18,15 +18,16 @@ use Rattle.rights.proofs.Lists.{byCase}
 use Rattle.views.specs.Change.{isDone, later}
 use Rattle.views.specs.Done.{doneMarks, inTable}
 use Rattle.views.specs.Nodes.{Nested}
-use Rattle.views.specs.Shown.{Stored, storedFrom, stored, storedLevel, grants, granted, isShown, isShownAt, depthAfter, shownAfter, shownBy, shownFrom, shown, keep, carried, view}
+use Rattle.views.specs.Shown.{Stored, storedFrom, stored, storedLevel, grants, granted, isShown, isShownAt, depthAfter, shownAfter, shownFrom, shown, keep, view}
 use Rattle.views.specs.declared.done.Change.{Change}
-use Rattle.views.proofs.ShownDepth.{Steps, shown-by-depth}
+use Rattle.views.proofs.ShownDepth.{shown-by-depth}
 use Rattle.guarantee.specs.Alike.{NoWordDiffers, Behind}
 use Rattle.guarantee.proofs.Keys.{Key, keyOf, rightsByKeys, rights-by-keys}
-use Rattle.guarantee.proofs.Chains.{Cell, cellLevel, chain, cells, cells-nested}
-use Rattle.guarantee.proofs.Scan.{seen, spread, nested-steps, first-mark, later-marks}
-use Rattle.guarantee.proofs.Low.{Public, publicLevel, publicGrant, cellGrant, publicOf, publics, lowBelow, low, marks, shownCells, low-shown, shown-cells, look, KeysBehind, low-alike, alike-low}
-use Rattle.guarantee.proofs.DoneSeen.{Item, doneFrom, items, done-items, allItems, seenItems, doneSeen, done-seen}
+use Rattle.guarantee.proofs.Chains.{Cell, cellLevel, chain, cells}
+use Rattle.guarantee.proofs.Scan.{nested-steps, first-mark, later-marks}
+use Rattle.guarantee.proofs.Low.{Public, publicLevel, publicGrant, cellGrant, publicOf, publics, lowBelow, low}
+use Rattle.guarantee.proofs.Low.{marks, shownCells, low-shown, shown-cells, look, KeysBehind, low-alike, alike-low}
+use Rattle.guarantee.proofs.DoneSeen.{Item, doneFrom, items, done-items, allItems, doneSeen, done-seen}
 
 -- Lists
 
@@ -242,23 +243,40 @@ module _ (P : Policy) (u : ℕ) where
 
     -- What a change does
 
+    abbrev shownPublic : ℕ → List PublicRecord → List Bool
+    shownPublic d ps = shownFrom publicLevel (publicGrant grantBy) d ps
+
+    abbrev publicItems : ℕ → List Bool → List PublicRecord → List Item
+    publicItems d ms ps = allItems publicLevel (publicGrant grantBy) publicSet publicWord d ms ps
+
+    abbrev tableItems : List (List ℕ) → List ℕ → List Bool → List Bool → List Item
+    tableItems rs ss bs ms = items (policyWord P) rs ss bs (inTable bs ms)
+
+    -- one record more, shown or not
+    items-more : (b : Bool) (d : ℕ) (ms : List Bool) (h : List Key) (r : List ℕ) (rs : List (List ℕ)) (ss : List ℕ) (ps : List PublicRecord)
+        → ((e : ℕ) (ns : List Bool) → tableItems rs ss (shownPublic e ps) ns ≡ publicItems e ns ps)
+        → tableItems (r ∷ rs) (rightsByKeys P u h ∷ ss) (b ∷ shownPublic (depthAfter d (level r) b) ps) ms
+        ≡ cond b
+        (record { level = level r; rights = rightsByKeys P u h; shown = true; selected = isDone ms; word = isWord (keyIn r) } ∷ publicItems (suc (level r)) (later ms) ps)
+        (record { level = level r; rights = rightsByKeys P u h; shown = false; selected = false; word = isWord (keyIn r) } ∷ publicItems (min d (level r)) ms ps)
+    unfolding items inTable
+    items-more true d ms h r rs ss ps ih =
+        rw (first-mark ms, later-marks ms, add-one (level r))
+        (ap₂ _∷_ (λ i. record { level = level r; rights = rightsByKeys P u h; shown = true; selected = isDone ms; word = key-word P (label r) i }) (ih (suc (level r)) (later ms)))
+    items-more false d ms h r rs ss ps ih =
+        ap₂ _∷_ (λ i. record { level = level r; rights = rightsByKeys P u h; shown = false; selected = false; word = key-word P (label r) i }) (ih (min d (level r)) ms)
+
     items-public : (d : ℕ) (ms : List Bool) (c : List (List ℕ)) (k : List Key) (rs : List (List ℕ)) → map (keyOf P) c ≡ k
-        → items (policyWord P) rs (map (rightsBy P u) (chains c rs)) (shownFrom publicLevel (publicGrant grantBy) d (publics level keyIn labelBy grantBy k rs))
-        (inTable (shownFrom publicLevel (publicGrant grantBy) d (publics level keyIn labelBy grantBy k rs)) ms)
-        ≡ allItems publicLevel (publicGrant grantBy) publicSet publicWord d ms (publics level keyIn labelBy grantBy k rs)
-    unfolding items chains publics cells shownFrom inTable allItems
+        → tableItems rs (map (rightsBy P u) (chains c rs)) (shownPublic d (publics level keyIn labelBy grantBy k rs)) ms
+        ≡ publicItems d ms (publics level keyIn labelBy grantBy k rs)
+    unfolding items inTable chains publics cells shownFrom allItems
     items-public d ms c k [] e = refl
     items-public d ms c k (r ∷ rs) e =
         let h = chain level keyIn (map (keyOf P) c) r in
-        let p : PublicRecord = publicOf level keyIn labelBy grantBy (r, h) in
         rw (← e, set-keys c r)
-        (byCase (isShownAt publicLevel (publicGrant grantBy) d p)
-        (λ v. rw (v, first-mark ms, later-marks ms, add-one (level r))
-        (ap₂ _∷_ (λ i. record { level = level r; rights = rightsByKeys P u h; shown = true; selected = isDone ms; word = key-word P (label r) i })
-        (items-public (suc (level r)) (later ms) (take (level r) c ++ (label r ∷ [])) h rs (chain-keys c r))))
-        (λ v. rw v
-        (ap₂ _∷_ (λ i. record { level = level r; rights = rightsByKeys P u h; shown = false; selected = false; word = key-word P (label r) i })
-        (items-public (min d (level r)) ms (take (level r) c ++ (label r ∷ [])) h rs (chain-keys c r)))))
+        (items-more (isShownAt publicLevel (publicGrant grantBy) d (publicOf level keyIn labelBy grantBy (r, h))) d ms h r rs
+        (map (rightsBy P u) (chains (take (level r) c ++ (label r ∷ [])) rs)) (publics level keyIn labelBy grantBy h rs)
+        (λ f ns. items-public f ns (take (level r) c ++ (label r ∷ [])) h rs (chain-keys c r)))
 
     public-steps : (n : ℕ) (c : List Key) (rs : List (List ℕ)) → Nested level n rs → Nested publicLevel n (publics level keyIn labelBy grantBy c rs)
     unfolding publics cells

@@ -1,14 +1,14 @@
 -- States that hold the same policy give the same rights, policy words, `$` and subjects: the order of the isa lines decides nothing. Assumes nothing.
 use Prim.Native.Nat.{ℕ, zero, suc}
 use mathlib.Core.Path.{_≡_, refl, ap, sym, _∙_}
-use mathlib.Core.Bool.{Bool, true, false, cond, _&&_, _||_, false≢true}
+use mathlib.Core.Bool.{Bool, true, false, _&&_, _||_, false≢true}
 use mathlib.Core.List.{List, [], _∷_, map}
 use lib.Dec.{eqb}
 use lib.ListN.{getD}
 use borrow.Author.Tests.{eq-eqb, eqb-true}
 use Rattle.rights.specs.Labels.{sameLabel}
 use Rattle.rights.specs.Policy.{Policy, Rule, some, uses, passesOwn, policyWord}
-use Rattle.rights.specs.Rights.{isBy, is, stepFor, finds, pathFor, tried, decide, rightsBy, chains, rightsOn}
+use Rattle.rights.specs.Rights.{isBy, is, decide, rightsBy, chains, rightsOn}
 use Rattle.rights.proofs.Facts.{both}
 use Rattle.rights.proofs.Lists.{byCase}
 use Rattle.lines.specs.PolicyEdit.{isLine, isaHeld, subjectFrom, subjectNamed}
