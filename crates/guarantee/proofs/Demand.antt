@@ -12,28 +12,12 @@ use Rattle.rights.specs.PolicyBytes.{policyOf}
 use Rattle.rights.specs.Table.{records, level}
 use Rattle.views.specs.Nodes.{Nested}
 use Rattle.views.specs.Shown.{Stored, stored, shown, keep, view}
-<<<<<<< HEAD
-use Rattle.answers.specs.Answer.{okText}
-use Rattle.answers.specs.AnswerChoice.{Choice}
-use Rattle.forms.specs.Form.{readForm, treeIn}
-use Rattle.lines.specs.PolicyEdit.{subjectNamed}
-use Rattle.lines.specs.State.{stageC, stageE, stage, policyBytes, policyIn, storeOk}
-use Rattle.lines.specs.Step.{Reply, says, refuses, Outcome, loggedIn, stepUser}
-use Rattle.forms.specs.Text.{lineOk}
-use Rattle.forms.specs.Tree.{recordsOf}
-use Rattle.lines.specs.Line.{stageOf, inStage, isNoForm, bytesOf, stepForm, stepRead, step}
-use Rattle.forms.specs.declared.form.Part.{Part}
-use Rattle.forms.specs.declared.form.Form.{Form}
-use Rattle.forms.specs.declared.form.Form.the-variants.{User}
-use Rattle.lines.specs.declared.policy_edit.Found.{Found}
-=======
 use Rattle.answers.specs.Answer.{okText}
 use Rattle.answers.specs.AnswerChoice.{Choice}
 use Rattle.lines.specs.PolicyEdit.{subjectNamed}
 use Rattle.lines.specs.State.{stageC, stageE, stage, policyIn, storeOk}
 use Rattle.lines.specs.Step.{says, refuses, stepUser}
 use Rattle.lines.specs.Line.{inStage, bytesOf, stepForm, stepRead, step}
->>>>>>> dem
 use Rattle.lines.specs.declared.policy_edit.Found.the-variants as found
 use Rattle.lines.proofs.StateLaws.{store-held}
 use Rattle.guarantee.specs.Alike.{SamePolicy, shownTo, look, Behind, Alike, UserIs, Input, outcome, LogsIn, Begins, AnswersAlike}

@@ -32,13 +32,8 @@ use Rattle.views.proofs.MarkLaws.{marks-bits}
 use Rattle.views.proofs.NestedLaws.{done-from}
 use Rattle.views.proofs.RecordBytes.{above-raise}
 use Rattle.views.proofs.TableKept.{loosen, removed-stored, renamed-stored, placed-stored}
-<<<<<<< HEAD
-use Rattle.answers.specs.Answer.{doneText}
-use Rattle.lines.specs.State.{userByte, userOf, policyIn}
-=======
 use Rattle.answers.specs.Answer.{doneText}
 use Rattle.lines.specs.State.{userOf, policyIn}
->>>>>>> dem
 use Rattle.lines.specs.Step.{rightsIn, storedIn, viewIn, marksIn}
 use Rattle.lines.specs.StepTree.{selectedIn, doneIn, countText, changeAt}
 use Rattle.guarantee.specs.Alike.{SamePolicy, UserIs}
