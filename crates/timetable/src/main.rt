@@ -7,7 +7,7 @@ use lines::limits::LINE_MAX;
 use lines::line::Answer;
 use lines::line::line;
 ghost use mathlib.Core.Path.{_≡_};
-ghost use Prim.Native.Nat.{_+_, _≤_, _<_};
+ghost use Prim.Native.Nat.{_≤_};
 ghost use lib.ListN.{length};
 
 // A line of so many bytes stands for every longer one.
