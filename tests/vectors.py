@@ -1,0 +1,44 @@
+#!/usr/bin/env python3
+"""vectors.py [--no-changes] [PROGRAM]: runs the program on each list of lines in tests/vectors, NAME.in, and compares what it writes with NAME.out,
+byte for byte. The default is the program that `rt check timetable` builds. --no-changes leaves out the lists that hold one of the six changes.
+"""
+
+import os
+import sys
+
+sys.path.insert(0, os.path.dirname(os.path.abspath(__file__)))
+import timetable  # noqa: E402
+
+FOLDER = os.path.join(timetable.ROOT, "tests", "vectors")
+
+
+def read(name):
+    with open(os.path.join(FOLDER, name), "rb") as file:
+        return file.read()
+
+
+def difference(got, wanted):
+    """The first line in which two outputs differ."""
+    pairs = zip(got.split(b"\n") + [b"(nothing)"], wanted.split(b"\n") + [b"(nothing)"])
+    for number, (one, other) in enumerate(pairs, 1):
+        if one != other:
+            return f"line {number}: {one!r}, not {other!r}"
+    return "the same lines, and not the same end"
+
+
+def main():
+    program, changes = timetable.arguments(__doc__)
+    names = sorted(name[:-3] for name in os.listdir(FOLDER) if name.endswith(".in"))
+    run = [name for name in names if changes or not any(line.startswith(timetable.CHANGES) for line in read(name + ".in").split(b"\n"))]
+    failed = 0
+    for name in run:
+        got, wanted = timetable.answers(program, read(name + ".in")), read(name + ".out")
+        if got != wanted:
+            failed += 1
+            print(f"FAILED: {name}: {difference(got, wanted)}")
+    print(f"{len(run)} of {len(names)} lists run, {failed} differ")
+    sys.exit(1 if failed or not run else 0)
+
+
+if __name__ == "__main__":
+    main()
