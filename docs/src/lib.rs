@@ -8,6 +8,7 @@ pub mod policy;
 pub mod state;
 pub mod step;
 pub mod table;
+pub mod testing;
 pub mod view;
 
 pub use state::STATE_BYTES;

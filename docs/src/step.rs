@@ -354,7 +354,7 @@ fn count(marks: &[bool]) -> usize {
 
 // --- What is written ---
 
-fn write_tree(tree: &Tree, answer: &mut Vec<u8>) {
+pub fn write_tree(tree: &Tree, answer: &mut Vec<u8>) {
     answer.push(b'(');
     answer.extend_from_slice(tree.label.text());
     for child in &tree.children {
