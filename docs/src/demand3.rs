@@ -241,11 +241,10 @@ fn run_pair(engine: &dyn Engine, random: &mut Random, pair: &mut Pair, counts: &
         counts.lines += 1;
 
         let mut returned = [0; 2];
-        for number in 0..2 {
-            let run = &mut pair.runs[number];
+        for (run, returned) in pair.runs.iter_mut().zip(&mut returned) {
             run.area.clear();
             run.area.resize(area_length, random.byte());
-            returned[number] = engine.line(&mut run.state, &mut run.table, line, &mut run.area);
+            *returned = engine.line(&mut run.state, &mut run.table, line, &mut run.area);
             let after = read_store(&run.state, &run.table).ok_or("13 no longer lets the store pass")?;
             let before = std::mem::replace(&mut run.store, after);
             if !same_policy(&run.store.state.policy, &pair.policy) {
