@@ -25,7 +25,7 @@ run() {
 fails() {
     "$@" > "$work/log"
     local status=$?
-    grep '^FAILED' "$work/log"
+    sed -n 's/^FAILED/found/p' "$work/log"
     [ "$status" -eq 1 ]
 }
 

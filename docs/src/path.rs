@@ -192,3 +192,75 @@ pub fn select(nodes: &[Node], path: &[Step], own: &Label) -> Vec<bool> {
     }
     from
 }
+
+#[cfg(test)]
+mod tests {
+    use super::*;
+    use crate::table::flatten;
+    use crate::testing::{generate, random::Random};
+
+    /// Children of a node, or of the document node.
+    fn children(nodes: &[Node], from: Option<usize>) -> Vec<usize> {
+        (0..nodes.len()).filter(|number| nodes[*number].parent == from).collect()
+    }
+
+    /// XPath's own definition from one context node: a step is taken from each node on its own, and each bracket filters the list that the one before left.
+    fn reached(nodes: &[Node], from: Option<usize>, path: &[Step], own: &Label) -> Vec<usize> {
+        let Some((step, rest)) = path.split_first() else {
+            return from.into_iter().collect();
+        };
+        let mut parents = vec![from];
+        if step.descendants {
+            let mut next = 0;
+            while next < parents.len() {
+                parents.extend(children(nodes, parents[next]).into_iter().map(Some));
+                next += 1;
+            }
+        }
+        let mut found = Vec::new();
+        for parent in parents {
+            let mut list = children(nodes, parent);
+            list.retain(|number| match &step.test {
+                Test::Any => true,
+                Test::Own => nodes[*number].label == *own,
+                Test::Label(label) => nodes[*number].label == *label,
+            });
+            for bracket in &step.brackets {
+                list = match bracket {
+                    Bracket::Position(position) => list.into_iter().skip(position - 1).take(1).collect(),
+                    Bracket::Path(inner) => list.into_iter().filter(|number| !reached(nodes, Some(*number), inner, own).is_empty()).collect(),
+                };
+            }
+            for number in list {
+                found.extend(reached(nodes, Some(number), rest, own));
+            }
+        }
+        found
+    }
+
+    #[test]
+    fn selections_are_those_of_xpath() {
+        let mut random = Random::new(1);
+        let own = generate::label("ann");
+        let mut hits = 0;
+        for _ in 0..20_000 {
+            let size = random.within(1, 14);
+            let nodes = flatten(&generate::tree(&mut random, size, 5)).0;
+            let text = match random.below(3) {
+                0 => generate::any_path(&mut random),
+                _ => {
+                    let node = random.below(nodes.len());
+                    generate::path_to(&mut random, &nodes, node)
+                }
+            };
+            let path = read_path(text.as_bytes()).expect("a path");
+            let mut marks = vec![false; nodes.len()];
+            for number in reached(&nodes, None, &path, &own) {
+                marks[number] = true;
+                hits += 1;
+            }
+            assert_eq!(select(&nodes, &path, &own), marks, "{text}");
+        }
+        assert!(hits > 10_000);
+    }
+}
