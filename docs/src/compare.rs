@@ -1,0 +1,206 @@
+//! The comparer: random lists of lines, on empty, random and damaged states and tables, through the straightforward version and a second engine. After every
+//! line the returned number and every byte of state, table and area must be the same; a refused line must leave all of them as they were.
+//!
+//!     compare [--seed N] [--lines N] [--library FILE.so | --wrong NAME]
+//!
+//! Without a library or a false reading the second engine is the straightforward version itself.
+
+use std::process::ExitCode;
+use timetable::form::WORDS;
+use timetable::step::{read_store, Reading, FALSE_READINGS};
+use timetable::testing::engine::{Engine, Library, Straightforward};
+use timetable::testing::random::Random;
+use timetable::testing::sessions::{self, Start};
+
+const DEFAULT_SEED: u64 = 20_261_115;
+const DEFAULT_LINES: usize = 20_000;
+const ENOUGH_LINES: usize = 20_000; // to have seen every form accepted and every refusal
+const REFUSALS: usize = 13;
+
+#[derive(Default)]
+struct Counts {
+    sessions: usize,
+    lines: usize,
+    accepted: [usize; 16], // by form; the last is for what is none
+    refused: [usize; 16],
+    refusals: [usize; REFUSALS + 1],
+    effective_changes: usize,
+}
+
+/// Lent bytes for one engine.
+#[derive(Clone, PartialEq)]
+struct Lent {
+    state: Vec<u8>,
+    table: Vec<u8>,
+    area: Vec<u8>,
+}
+
+impl Lent {
+    fn line(&mut self, engine: &dyn Engine, line: &[u8]) -> i64 {
+        engine.line(&mut self.state, &mut self.table, line, &mut self.area)
+    }
+
+    fn copy_from(&mut self, other: &Lent) {
+        self.state.clone_from(&other.state);
+        self.table.clone_from(&other.table);
+        self.area.clone_from(&other.area);
+    }
+}
+
+fn first_difference(name: &str, one: &[u8], other: &[u8]) -> Option<String> {
+    if one == other {
+        return None;
+    }
+    let at = one.iter().zip(other).position(|(one, other)| one != other).unwrap_or(one.len().min(other.len()));
+    Some(format!("byte {at} of the {name} is {:?} and {:?}", one.get(at), other.get(at)))
+}
+
+fn differences(one: &Lent, other: &Lent) -> Option<String> {
+    first_difference("state", &one.state, &other.state)
+        .or_else(|| first_difference("table", &one.table, &other.table))
+        .or_else(|| first_difference("area", &one.area, &other.area))
+}
+
+fn form_number(line: &[u8]) -> usize {
+    let word: Vec<u8> = line.iter().skip(1).copied().take_while(|byte| byte.is_ascii_lowercase()).collect();
+    WORDS.iter().position(|known| line.first() == Some(&b'(') && known.as_bytes() == word).unwrap_or(WORDS.len())
+}
+
+fn new_area(random: &mut Random) -> Vec<u8> {
+    let length = match random.below(40) {
+        0 => 65_536,
+        1..=4 => random.below(40),
+        5 => random.below(600),
+        _ => 4_096,
+    };
+    (0..length).map(|_| random.byte()).collect()
+}
+
+fn compare_session(engine: &dyn Engine, random: &mut Random, start: Start, counts: &mut Counts, told: &mut Vec<String>) -> Result<(), String> {
+    let length = sessions::length(random, &start);
+    let mut one = Lent { state: start.state, table: start.table, area: new_area(random) };
+    let mut other = one.clone();
+    let mut before = one.clone();
+    for _ in 0..length {
+        if random.percent(12) {
+            one.area = new_area(random);
+            other.area.clone_from(&one.area);
+        }
+        before.copy_from(&one);
+        let store = read_store(&one.state, &one.table);
+        let line = sessions::line(random, store.as_ref());
+        let returned = one.line(&Straightforward(Reading::Right), &line);
+        let second = other.line(engine, &line);
+        told.push(format!("{returned} {second} {}", line.escape_ascii()));
+        count(counts, &line, returned, &one.area);
+        if returned != second {
+            return Err(format!("the engines return {returned} and {second}"));
+        }
+        if let Some(difference) = differences(&one, &other) {
+            return Err(difference);
+        }
+        if returned < 0 && one != before {
+            return Err("a refused line changes something".to_string());
+        }
+        if returned >= 0 && one.area[returned as usize..] != before.area[returned as usize..] {
+            return Err("the area changes behind the answer".to_string());
+        }
+    }
+    Ok(())
+}
+
+fn count(counts: &mut Counts, line: &[u8], returned: i64, area: &[u8]) {
+    counts.lines += 1;
+    let form = form_number(line);
+    if returned < 0 {
+        counts.refused[form] += 1;
+        counts.refusals[(-returned) as usize] += 1;
+    } else {
+        counts.accepted[form] += 1;
+        let answer = &area[..returned as usize];
+        counts.effective_changes += usize::from(answer.starts_with(b"(done ") && !answer.ends_with(b" 0)\n"));
+    }
+}
+
+fn print_counts(counts: &Counts) {
+    println!("{} sessions, {} lines compared", counts.sessions, counts.lines);
+    println!("{:10} {:>9} {:>9}", "form", "accepted", "refused");
+    for (number, word) in WORDS.iter().chain(["(none)"].iter()).enumerate() {
+        println!("{word:10} {:>9} {:>9}", counts.accepted[number], counts.refused[number]);
+    }
+    let refusals: Vec<String> = (1..=REFUSALS).map(|number| format!("{number}: {}", counts.refusals[number])).collect();
+    println!("changes with at least one node done {}", counts.effective_changes);
+    println!("refusals {}", refusals.join(", "));
+}
+
+/// What a run of enough lines must have seen and has not.
+fn unseen(counts: &Counts) -> Vec<String> {
+    let forms = (0..WORDS.len()).filter(|form| counts.accepted[*form] == 0).map(|form| format!("{} accepted", WORDS[form]));
+    let refusals = (1..=REFUSALS).filter(|number| counts.refusals[*number] == 0).map(|number| format!("refusal {number}"));
+    forms.chain(refusals).collect()
+}
+
+fn run(engine: &dyn Engine, seed: u64, lines: usize) -> bool {
+    let mut counts = Counts::default();
+    while counts.lines < lines {
+        let mut random = Random::part(seed, counts.sessions as u64);
+        counts.sessions += 1;
+        let start = sessions::start(&mut random);
+        let kind = start.kind;
+        let mut told = Vec::new();
+        if let Err(what) = compare_session(engine, &mut random, start, &mut counts, &mut told) {
+            print_counts(&counts);
+            println!("FAILED: session {} from {kind} bytes, line {}: {what}\n{}", counts.sessions, told.len(), told.join("\n"));
+            return false;
+        }
+    }
+    print_counts(&counts);
+    let unseen = unseen(&counts);
+    if counts.lines >= ENOUGH_LINES && !unseen.is_empty() {
+        println!("FAILED: not seen: {}", unseen.join(", "));
+        return false;
+    }
+    true
+}
+
+fn main() -> ExitCode {
+    let mut seed = DEFAULT_SEED;
+    let mut lines = DEFAULT_LINES;
+    let mut engine: Box<dyn Engine> = Box::new(Straightforward(Reading::Right));
+    let mut arguments = std::env::args().skip(1);
+    while let Some(argument) = arguments.next() {
+        let value = arguments.next().unwrap_or_default();
+        let understood = match argument.as_str() {
+            "--seed" => value.parse().map(|number| seed = number).is_ok(),
+            "--lines" => value.parse().map(|number| lines = number).is_ok(),
+            "--wrong" => match FALSE_READINGS.iter().find(|(name, _)| *name == value) {
+                Some((_, reading)) => {
+                    engine = Box::new(Straightforward(*reading));
+                    true
+                }
+                None => false,
+            },
+            "--library" => match Library::open(&value) {
+                Ok(library) => {
+                    engine = Box::new(library);
+                    true
+                }
+                Err(error) => {
+                    eprintln!("{value}: {error}");
+                    false
+                }
+            },
+            _ => false,
+        };
+        if !understood {
+            eprintln!("compare [--seed N] [--lines N] [--library FILE.so | --wrong NAME]");
+            return ExitCode::from(2);
+        }
+    }
+    println!("seed {seed}");
+    if run(engine.as_ref(), seed, lines) {
+        ExitCode::SUCCESS
+    } else {
+        ExitCode::FAILURE
+    }
+}

@@ -1,0 +1,423 @@
+//! The random tester for demand 3 (document 01, What demand 3 compares). Pairs of trees that look the same to a reader get the same lines; every reply up to
+//! the first refusal 11 must be equal, both suppositions must hold again after it, and in each run alone no subject's rights on a kept node may change.
+//!
+//!     demand3 [--seed N] [--lines N] [--library FILE.so | --wrong NAME]
+//!     demand3 --self-test [--seed N] [--lines N]
+//!
+//! Without a library it tests the straightforward version. --self-test puts each false reading into that version, and each must be found.
+
+use std::process::ExitCode;
+use timetable::label::{Label, RESTRICTED};
+use timetable::policy::Policy;
+use timetable::state::{Stage, State};
+use timetable::step::{read_store, step, Reading, Store, FALSE_READINGS, TABLE_FULL};
+use timetable::table::{flatten, nest, Node, Tree, LEVEL_MAXIMUM};
+use timetable::testing::engine::{Engine, Library, Straightforward};
+use timetable::testing::generate;
+use timetable::testing::random::Random;
+use timetable::view::{look, view};
+use timetable::{state, table, STATE_BYTES};
+
+const DEFAULT_SEED: u64 = 20_261_115;
+const DEFAULT_LINES: usize = 100_000;
+const CHANGES: [&[u8]; 6] = [b"(rename ", b"(update ", b"(append ", b"(before ", b"(after ", b"(remove "];
+const AREA_BYTES: usize = 8_192;
+const CROWDED: usize = 40;
+
+// --- The two suppositions ---
+
+/// Why two trees are not alike to a reader, if they are not.
+fn difference(policy: &Policy, reader: usize, trees: [&[Node]; 2]) -> Option<&'static str> {
+    let views = trees.map(|nodes| view(nodes, &policy.rights(nodes, reader)));
+    if look(&views[0]) != look(&views[1]) {
+        return Some("the trees do not look the same");
+    }
+    let words = policy.words();
+    for place in 0..views[0].nodes.len() {
+        if views[0].nodes[place].label == RESTRICTED {
+            let labels = [0, 1].map(|run| trees[run][views[run].stored[place]].label);
+            if labels[0] != labels[1] && labels.iter().any(|label| words.contains(label)) {
+                return Some("behind RESTRICTED in the same place the true labels differ, and one is a policy word");
+            }
+        }
+    }
+    None
+}
+
+// --- Pairs ---
+
+struct Run {
+    state: Vec<u8>,
+    table: Vec<u8>,
+    area: Vec<u8>,
+    store: Store,
+    rights: Vec<Vec<u8>>, // of every subject on every node
+}
+
+struct Pair {
+    policy: Policy,
+    reader: usize,
+    runs: [Run; 2],
+    login: bool,
+}
+
+fn all_rights(policy: &Policy, nodes: &[Node]) -> Vec<Vec<u8>> {
+    (0..policy.subjects.len()).map(|subject| policy.rights(nodes, subject)).collect()
+}
+
+/// Applies an edit to one node of a tree, by its number in document order.
+fn edit_node(tree: &mut Tree, number: &mut usize, edit: &mut dyn FnMut(&mut Tree)) {
+    if *number == 0 {
+        edit(tree);
+    }
+    *number = number.wrapping_sub(1);
+    for child in &mut tree.children {
+        edit_node(child, number, edit);
+    }
+}
+
+/// The tree with one label, one child or one new child changed somewhere.
+fn mutated(random: &mut Random, tree: &Tree) -> Tree {
+    let mut tree = tree.clone();
+    let mut number = random.below(tree.size());
+    let kind = random.below(3);
+    edit_node(&mut tree, &mut number, &mut |node| match kind {
+        0 => node.label = generate::some_label(random),
+        1 if !node.children.is_empty() => {
+            let child = random.below(node.children.len());
+            node.children.remove(child);
+        }
+        _ => {
+            let size = random.within(1, 4);
+            let place = random.below(node.children.len() + 1);
+            node.children.insert(place, generate::tree(random, size, 3));
+        }
+    });
+    tree
+}
+
+fn make_run(random: &mut Random, policy: &Policy, user: Option<usize>, tree: &Tree, tight: bool) -> Run {
+    let mut policy = policy.clone();
+    random.shuffle(&mut policy.isa);
+    let stage = if user.is_some() { Stage::E } else { *random.pick(&[Stage::C, Stage::D]) };
+    let mut state_bytes = vec![0; STATE_BYTES];
+    state::encode(&State { stage, user, policy: policy.clone() }, &mut state_bytes);
+    let (nodes, _) = flatten(tree);
+    let free = if tight { random.below(9) } else { random.within(60, 260) };
+    let mut table_bytes = vec![0; 4 + 32 * (nodes.len() + free) + random.below(32)];
+    table::encode(&nodes, &mut table_bytes);
+    let store = read_store(&state_bytes, &table_bytes).expect("13 lets it pass");
+    let rights = all_rights(&policy, &nodes);
+    Run { state: state_bytes, table: table_bytes, area: Vec::new(), store, rights }
+}
+
+/// Two runs whose trees differ and are alike to the reader.
+fn make_pair(random: &mut Random) -> Pair {
+    loop {
+        let (policy, reader) = generate::policy(random);
+        let first = if random.percent(15) {
+            let height = random.within(8, LEVEL_MAXIMUM);
+            generate::deep_tree(random, height)
+        } else {
+            let (size, height) = (random.within(8, 36), random.within(2, 6));
+            generate::tree(random, size, height)
+        };
+        let nodes = flatten(&first).0;
+        let shown = view(&nodes, &policy.rights(&nodes, reader)).nodes.len();
+        if shown < 3 && !random.percent(2) {
+            continue;
+        }
+        let mut second = first.clone();
+        for _ in 0..40 {
+            let candidate = mutated(random, &second);
+            let other = flatten(&candidate).0;
+            if candidate.height() <= LEVEL_MAXIMUM && difference(&policy, reader, [&nodes, &other]).is_none() {
+                second = candidate;
+            }
+        }
+        if first == second {
+            continue;
+        }
+        let login = random.percent(40);
+        let tight = random.percent(25);
+        let mut user = || match login {
+            false => Some(reader),
+            true if random.percent(50) => None,
+            true => Some(random.below(policy.subjects.len())),
+        };
+        let users = [user(), user()];
+        let runs = [make_run(random, &policy, users[0], &first, tight), make_run(random, &policy, users[1], &second, tight)];
+        return Pair { policy, reader, runs, login };
+    }
+}
+
+// --- Lines ---
+
+fn next_line(random: &mut Random, pair: &Pair) -> String {
+    let nodes = &pair.runs[0].store.table.nodes;
+    let view = view(nodes, &pair.runs[0].rights[pair.reader]).nodes;
+    match random.below(100) {
+        0..=69 => {
+            let room = CROWDED.saturating_sub(nodes.len());
+            let line = generate::change(random, &view, room);
+            let idle = step(&pair.runs[0].store, line.as_bytes(), AREA_BYTES, Reading::Right).is_ok_and(|accepted| accepted.answer.ends_with(b" 0)\n"));
+            if idle {
+                generate::change(random, &view, room) // a second try to find something to do
+            } else {
+                line
+            }
+        }
+        70..=89 => generate::question(random, &view),
+        90..=92 => format!("(user {})", generate::text_of(&pair.policy.subjects[pair.reader])),
+        _ => generate::refused(random),
+    }
+}
+
+#[derive(Default)]
+struct Counts {
+    pairs: usize,
+    lines: usize,
+    compared: usize,
+    accepted_changes: usize,
+    effective_changes: usize,
+    accepted_others: usize,
+    refusals: [usize; 14],
+    kept_nodes: usize,
+}
+
+/// What demand 3 forbids, found at a line.
+struct Finding {
+    pair: usize,
+    line: usize,
+    what: String,
+    story: String,
+}
+
+/// The sentence on rights for one run and one line, from the store before it to the store after it.
+fn check_rights(engine: &dyn Engine, policy: &Policy, run: &mut Run, before: &Store, line: &[u8], counts: &mut Counts) -> Result<(), String> {
+    let nodes = &run.store.table.nodes;
+    if *nodes == before.table.nodes {
+        return Ok(());
+    }
+    let accepted = step(before, line, run.area.len(), engine.reading()).map_err(|number| format!("the table changes at a line refused with {number}"))?;
+    let (expected, origins) = flatten(&accepted.tree.unwrap_or_else(|| nest(&before.table.nodes)));
+    if expected != *nodes {
+        return Err("the table is not that of the straightforward version".to_string());
+    }
+    let rights = all_rights(policy, nodes);
+    for (number, origin) in origins.iter().enumerate() {
+        if let Some(origin) = origin {
+            counts.kept_nodes += 1;
+            if let Some(subject) = (0..rights.len()).find(|subject| rights[*subject][number] != run.rights[*subject][*origin]) {
+                let (name, label) = (generate::text_of(&policy.subjects[subject]), generate::text_of(&nodes[number].label));
+                return Err(format!("the rights of {name} on a kept node, now {label}, change"));
+            }
+        }
+    }
+    run.rights = rights;
+    Ok(())
+}
+
+fn same_policy(one: &Policy, other: &Policy) -> bool {
+    let isa_lines = |policy: &Policy| {
+        let mut lines = policy.isa.clone();
+        lines.sort_unstable();
+        lines
+    };
+    one.subjects == other.subjects && one.rules == other.rules && isa_lines(one) == isa_lines(other)
+}
+
+/// One list of lines on one pair; its lines are kept for the story of a finding.
+fn run_pair(engine: &dyn Engine, random: &mut Random, pair: &mut Pair, counts: &mut Counts, lines: &mut Vec<String>) -> Result<(), String> {
+    let mut comparing = true;
+    let mut left = random.within(20, 60);
+    while left > 0 {
+        left -= 1;
+        let line =
+            if pair.login && lines.is_empty() { format!("(user {})", generate::text_of(&pair.policy.subjects[pair.reader])) } else { next_line(random, pair) };
+        let area_length = if random.percent(94) || lines.is_empty() { AREA_BYTES } else { random.below(60) };
+        lines.push(line);
+        let line = lines[lines.len() - 1].as_bytes();
+        counts.lines += 1;
+
+        let mut returned = [0; 2];
+        for (run, returned) in pair.runs.iter_mut().zip(&mut returned) {
+            run.area.clear();
+            run.area.resize(area_length, random.byte());
+            *returned = engine.line(&mut run.state, &mut run.table, line, &mut run.area);
+            let after = read_store(&run.state, &run.table).ok_or("13 no longer lets the store pass")?;
+            let before = std::mem::replace(&mut run.store, after);
+            if !same_policy(&run.store.state.policy, &pair.policy) {
+                return Err("the policy changes".to_string());
+            }
+            check_rights(engine, &pair.policy, run, &before, line, counts)?;
+        }
+        count_reply(returned[0], line, &pair.runs[0].area, counts);
+
+        if comparing && returned.contains(&-i64::from(TABLE_FULL)) {
+            comparing = false;
+            left = left.min(10);
+        }
+        if comparing {
+            counts.compared += 1;
+            compare_replies(returned, pair)?;
+            let trees = [&pair.runs[0].store.table.nodes[..], &pair.runs[1].store.table.nodes[..]];
+            if let Some(what) = difference(&pair.policy, pair.reader, trees) {
+                return Err(format!("after the line {what}"));
+            }
+        }
+    }
+    Ok(())
+}
+
+fn compare_replies(returned: [i64; 2], pair: &Pair) -> Result<(), String> {
+    if returned[0] != returned[1] {
+        return Err(format!("the replies differ: {} and {}", reply_text(returned[0], &pair.runs[0]), reply_text(returned[1], &pair.runs[1])));
+    }
+    let length = returned[0].max(0) as usize;
+    if pair.runs[0].area[..length] != pair.runs[1].area[..length] {
+        return Err(format!("the answers differ: {} and {}", reply_text(returned[0], &pair.runs[0]), reply_text(returned[1], &pair.runs[1])));
+    }
+    Ok(())
+}
+
+fn reply_text(returned: i64, run: &Run) -> String {
+    if returned < 0 {
+        return format!("refused {}", -returned);
+    }
+    format!("{:?}", String::from_utf8_lossy(&run.area[..returned as usize]))
+}
+
+fn count_reply(returned: i64, line: &[u8], area: &[u8], counts: &mut Counts) {
+    if returned < 0 {
+        counts.refusals[(-returned).min(13) as usize] += 1;
+    } else if CHANGES.iter().any(|word| line.starts_with(word)) {
+        counts.accepted_changes += 1;
+        counts.effective_changes += usize::from(!area[..returned as usize].ends_with(b" 0)\n"));
+    } else {
+        counts.accepted_others += 1;
+    }
+}
+
+// --- The run ---
+
+/// The lines that make a pair's policy, both trees, and the lines given.
+fn story(policy: &Policy, reader: &Label, starts: &[Tree; 2], capacities: [usize; 2], lines: &[String]) -> String {
+    let mut text = generate::policy_lines(policy).join("\n");
+    for run in 0..2 {
+        text.push_str(&format!("\ntree {} of {} records: {}", run + 1, capacities[run], generate::tree_text(&starts[run])));
+    }
+    text.push_str(&format!("\nreader {}\n", generate::text_of(reader)));
+    text.push_str(&lines.join("\n"));
+    text
+}
+
+fn run(engine: &dyn Engine, seed: u64, lines: usize) -> (Counts, Option<Finding>) {
+    let mut counts = Counts::default();
+    while counts.lines < lines {
+        let mut random = Random::part(seed, counts.pairs as u64);
+        counts.pairs += 1;
+        let mut pair = make_pair(&mut random);
+        let starts = [0, 1].map(|run| nest(&pair.runs[run].store.table.nodes));
+        let capacities = [0, 1].map(|run| pair.runs[run].store.table.capacity);
+        let mut given = Vec::new();
+        if let Err(what) = run_pair(engine, &mut random, &mut pair, &mut counts, &mut given) {
+            let story = story(&pair.policy, &pair.policy.subjects[pair.reader], &starts, capacities, &given);
+            let finding = Finding { pair: counts.pairs, line: counts.lines, what, story };
+            return (counts, Some(finding));
+        }
+    }
+    (counts, None)
+}
+
+fn print_counts(counts: &Counts) {
+    println!("{} pairs, {} lines, {} of them before the first 11 and compared", counts.pairs, counts.lines, counts.compared);
+    let percent = |part: usize| 100 * part / counts.lines.max(1);
+    println!(
+        "accepted changes {} ({} %), with at least one node done {} ({} %), other accepted lines {}",
+        counts.accepted_changes,
+        percent(counts.accepted_changes),
+        counts.effective_changes,
+        percent(counts.effective_changes),
+        counts.accepted_others
+    );
+    let refusals: Vec<String> = (1..counts.refusals.len()).map(|number| format!("{number}: {}", counts.refusals[number])).collect();
+    println!("refusals {}", refusals.join(", "));
+    println!("rights compared on {} kept nodes", counts.kept_nodes);
+}
+
+/// One run; true if nothing is found and at least 30 of 100 lines are changes that do something.
+fn test(engine: &dyn Engine, seed: u64, lines: usize) -> bool {
+    let (counts, finding) = run(engine, seed, lines);
+    print_counts(&counts);
+    match finding {
+        Some(finding) => {
+            println!("FAILED: pair {}, line {}: {}\n{}", finding.pair, finding.line, finding.what, finding.story);
+            false
+        }
+        None => 100 * counts.effective_changes >= 30 * counts.lines,
+    }
+}
+
+/// Each false reading must be found.
+fn self_test(seed: u64, lines: usize) -> bool {
+    let mut all_found = true;
+    for (name, reading) in FALSE_READINGS {
+        match run(&Straightforward(reading), seed, lines).1 {
+            Some(finding) => println!("found: {name} in pair {}, line {}: {}", finding.pair, finding.line, finding.what),
+            None => {
+                println!("FAILED: {name} is not found in {lines} lines");
+                all_found = false;
+            }
+        }
+    }
+    all_found
+}
+
+fn main() -> ExitCode {
+    let mut seed = DEFAULT_SEED;
+    let mut lines = DEFAULT_LINES;
+    let mut engine: Box<dyn Engine> = Box::new(Straightforward(Reading::Right));
+    let mut testing_itself = false;
+    let mut arguments = std::env::args().skip(1);
+    while let Some(argument) = arguments.next() {
+        if argument == "--self-test" {
+            testing_itself = true;
+            continue;
+        }
+        let value = arguments.next().unwrap_or_default();
+        let understood = match argument.as_str() {
+            "--seed" => value.parse().map(|number| seed = number).is_ok(),
+            "--lines" => value.parse().map(|number| lines = number).is_ok(),
+            "--wrong" => match FALSE_READINGS.iter().find(|(name, _)| *name == value) {
+                Some((_, reading)) => {
+                    engine = Box::new(Straightforward(*reading));
+                    true
+                }
+                None => false,
+            },
+            "--library" => match Library::open(&value) {
+                Ok(library) => {
+                    engine = Box::new(library);
+                    true
+                }
+                Err(error) => {
+                    eprintln!("{value}: {error}");
+                    false
+                }
+            },
+            _ => false,
+        };
+        if !understood {
+            eprintln!("demand3 [--seed N] [--lines N] [--library FILE.so | --wrong NAME] [--self-test]");
+            return ExitCode::from(2);
+        }
+    }
+    println!("seed {seed}");
+    let passed = if testing_itself { self_test(seed, lines) } else { test(engine.as_ref(), seed, lines) };
+    if passed {
+        ExitCode::SUCCESS
+    } else {
+        ExitCode::FAILURE
+    }
+}

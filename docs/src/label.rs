@@ -1,0 +1,53 @@
+//! Labels (document 01, Tree and table), and the 32-byte record that holds one.
+
+pub const LABEL_MAXIMUM: usize = 24;
+pub const RECORD_BYTES: usize = 32;
+
+/// 1 to 24 letters, digits, hyphens, underscores and full stops; zeros behind.
+#[derive(Clone, Copy, PartialEq, Eq, Hash, Debug)]
+pub struct Label {
+    length: u8,
+    bytes: [u8; LABEL_MAXIMUM],
+}
+
+/// What a node carries that may be shown without its label.
+pub const RESTRICTED: Label = Label { length: 10, bytes: *b"RESTRICTED\0\0\0\0\0\0\0\0\0\0\0\0\0\0" };
+
+pub fn is_label_byte(byte: u8) -> bool {
+    byte.is_ascii_alphanumeric() || matches!(byte, b'-' | b'_' | b'.')
+}
+
+impl Label {
+    pub fn new(text: &[u8]) -> Option<Label> {
+        if text.is_empty() || text.len() > LABEL_MAXIMUM || !text.iter().all(|&byte| is_label_byte(byte)) {
+            return None;
+        }
+        let mut bytes = [0; LABEL_MAXIMUM];
+        bytes[..text.len()].copy_from_slice(text);
+        Some(Label { length: text.len() as u8, bytes })
+    }
+
+    pub fn text(&self) -> &[u8] {
+        &self.bytes[..self.length as usize]
+    }
+}
+
+pub fn all_zero(bytes: &[u8]) -> bool {
+    bytes.chunks(64).all(|chunk| chunk.iter().fold(0, |or, byte| or | byte) == 0)
+}
+
+/// The first byte and the text of a record whose unused bytes are zero.
+pub fn read_record(record: &[u8]) -> Option<(u8, &[u8])> {
+    let length = record[1] as usize;
+    if !(1..=LABEL_MAXIMUM).contains(&length) || !all_zero(&record[2 + length..RECORD_BYTES]) {
+        return None;
+    }
+    Some((record[0], &record[2..2 + length]))
+}
+
+pub fn write_record(record: &mut [u8], first: u8, text: &[u8]) {
+    record.fill(0);
+    record[0] = first;
+    record[1] = text.len() as u8;
+    record[2..2 + text.len()].copy_from_slice(text);
+}

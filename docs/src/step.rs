@@ -1,0 +1,480 @@
+//! One line on a state and a table (document 01, Lines to Who can be turned down).
+
+use crate::form::{read_form, Form, Place, LINE_MAXIMUM};
+use crate::label::{Label, RESTRICTED};
+use crate::path::{read_path, select, Step};
+use crate::policy::{Policy, Rule, DELETE, INSERT, ISA_MAXIMUM, READ, RULES_MAXIMUM, SUBJECTS_MAXIMUM, UPDATE};
+use crate::state::{self, Stage, State};
+use crate::table::{self, flatten, nest, Node, Table, Tree, LEVEL_MAXIMUM};
+use crate::view::{view, View};
+
+pub const LINE_BYTES: u8 = 1;
+pub const NO_FORM: u8 = 2;
+pub const WRONG_STAGE: u8 = 3;
+pub const BAD_PATH: u8 = 4;
+pub const BAD_NAME: u8 = 5;
+pub const RULE_BRACKET: u8 = 6;
+pub const POLICY_FULL: u8 = 7;
+pub const NO_USER: u8 = 8;
+pub const BAD_LABEL: u8 = 9;
+pub const TOO_DEEP: u8 = 10;
+pub const TABLE_FULL: u8 = 11;
+pub const AREA_SHORT: u8 = 12;
+pub const BAD_STORE: u8 = 13;
+
+/// How the changes are read. All but the first are false, and stand here for the test of the demand-3 tester alone.
+#[derive(Clone, Copy, PartialEq, Eq, Debug)]
+pub enum Reading {
+    Right,
+    RenameIntoWord,
+    RenameOfWord,
+    NoOwnNames,
+    UpdateHidden,
+    StoredLabels,
+    CountFreed,
+    SpareHidden,
+    ReadersWords,
+    PlaceByPlace,
+}
+
+pub const FALSE_READINGS: [(&str, Reading); 9] = [
+    ("rename-into-word", Reading::RenameIntoWord),
+    ("rename-of-word", Reading::RenameOfWord),
+    ("no-own-names", Reading::NoOwnNames),
+    ("update-hidden", Reading::UpdateHidden),
+    ("stored-labels", Reading::StoredLabels),
+    ("count-freed", Reading::CountFreed),
+    ("spare-hidden", Reading::SpareHidden),
+    ("readers-words", Reading::ReadersWords),
+    ("place-by-place", Reading::PlaceByPlace),
+];
+
+/// What 13 lets pass: a state, a table, and the two agreeing on the root.
+#[derive(Clone, Debug)]
+pub struct Store {
+    pub state: State,
+    pub table: Table,
+}
+
+pub fn read_store(state: &[u8], table: &[u8]) -> Option<Store> {
+    let state = state::decode(state)?;
+    let table = table::decode(table)?;
+    if (state.stage >= Stage::C) != table.nodes.is_empty() {
+        Some(Store { state, table })
+    } else {
+        None
+    }
+}
+
+/// An accepted line: its answer, and the state and the tree where they change.
+pub struct Accepted {
+    pub answer: Vec<u8>,
+    pub state: Option<State>,
+    pub tree: Option<Tree>,
+}
+
+fn ok(state: Option<State>, tree: Option<Tree>) -> Accepted {
+    Accepted { answer: b"(ok)\n".to_vec(), state, tree }
+}
+
+fn answered(answer: Vec<u8>) -> Accepted {
+    Accepted { answer, state: None, tree: None }
+}
+
+fn done(selected: usize, done: usize, tree: Tree) -> Accepted {
+    Accepted { answer: format!("(done {selected} {done})\n").into_bytes(), state: None, tree: Some(tree) }
+}
+
+fn refuse_if(condition: bool, number: u8) -> Result<(), u8> {
+    if condition {
+        Err(number)
+    } else {
+        Ok(())
+    }
+}
+
+// --- Policy, tree and login ---
+
+/// What a policy line leaves: the policy edited, the stage moved.
+fn policy_edited(store: &Store, stage: Stage, edit: impl FnOnce(&mut Policy)) -> Accepted {
+    let mut state = store.state.clone();
+    state.stage = stage;
+    edit(&mut state.policy);
+    ok(Some(state), None)
+}
+
+fn subject_line(store: &Store, name: Label) -> Result<Accepted, u8> {
+    let policy = &store.state.policy;
+    refuse_if(store.state.stage > Stage::A, WRONG_STAGE)?;
+    refuse_if(policy.subject(&name).is_some(), BAD_NAME)?;
+    refuse_if(policy.subjects.len() == SUBJECTS_MAXIMUM, POLICY_FULL)?;
+    refuse_if(name == RESTRICTED, BAD_LABEL)?;
+    Ok(policy_edited(store, Stage::A, |policy| policy.subjects.push(name)))
+}
+
+fn isa_line(store: &Store, name: Label, role: Label) -> Result<Accepted, u8> {
+    let policy = &store.state.policy;
+    refuse_if(store.state.stage > Stage::A, WRONG_STAGE)?;
+    let line = (policy.subject(&name).ok_or(BAD_NAME)?, policy.subject(&role).ok_or(BAD_NAME)?);
+    refuse_if(line.1 >= line.0 || policy.isa.contains(&line), BAD_NAME)?;
+    refuse_if(policy.isa.len() == ISA_MAXIMUM, POLICY_FULL)?;
+    Ok(policy_edited(store, Stage::A, |policy| policy.isa.push(line)))
+}
+
+fn rule_line(store: &Store, accept: bool, right: u8, path: &[u8], name: Label) -> Result<Accepted, u8> {
+    let policy = &store.state.policy;
+    refuse_if(store.state.stage > Stage::B, WRONG_STAGE)?;
+    let path = read_path(path).ok_or(BAD_PATH)?;
+    let subject = policy.subject(&name).ok_or(BAD_NAME)?;
+    refuse_if(path.iter().any(|step| !step.brackets.is_empty()), RULE_BRACKET)?;
+    refuse_if(policy.rules.len() == RULES_MAXIMUM, POLICY_FULL)?;
+    refuse_if(path.iter().any(|step| step.test == crate::path::Test::Label(RESTRICTED)), BAD_LABEL)?;
+    Ok(policy_edited(store, Stage::B, |policy| policy.rules.push(Rule { accept, right, subject, path })))
+}
+
+fn root_line(store: &Store, label: Label) -> Result<Accepted, u8> {
+    refuse_if(store.state.stage >= Stage::C, WRONG_STAGE)?;
+    refuse_if(label == RESTRICTED, BAD_LABEL)?;
+    refuse_if(store.table.capacity < 1, TABLE_FULL)?;
+    let state = State { stage: Stage::C, ..store.state.clone() };
+    Ok(ok(Some(state), Some(Tree { label, origin: None, children: Vec::new() })))
+}
+
+fn child_line(store: &Store, tree: Tree) -> Result<Accepted, u8> {
+    refuse_if(store.state.stage != Stage::C && store.state.stage != Stage::D, WRONG_STAGE)?;
+    refuse_if(tree.holds(&RESTRICTED), BAD_LABEL)?;
+    refuse_if(1 + tree.height() > LEVEL_MAXIMUM, TOO_DEEP)?;
+    refuse_if(store.table.nodes.len() + tree.size() > store.table.capacity, TABLE_FULL)?;
+    let state = State { stage: Stage::D, ..store.state.clone() };
+    let mut root = nest(&store.table.nodes);
+    root.children.push(tree);
+    Ok(ok(Some(state), Some(root)))
+}
+
+fn user_line(store: &Store, name: Label) -> Result<Accepted, u8> {
+    refuse_if(store.state.stage < Stage::C, WRONG_STAGE)?;
+    let user = store.state.policy.subject(&name).ok_or(BAD_NAME)?;
+    let state = State { stage: Stage::E, user: Some(user), ..store.state.clone() };
+    Ok(ok(Some(state), None))
+}
+
+// --- A user's lines ---
+
+/// A user at work: the stored nodes, the user's rights on them, and the user's view.
+struct Session<'a> {
+    store: &'a Store,
+    user: usize,
+    reading: Reading,
+    rights: Vec<u8>,
+    view: View,
+}
+
+/// The session in which a user's line is answered; the path is read before the user is looked for.
+fn session<'a>(store: &'a Store, path: Option<&[u8]>, reading: Reading) -> Result<(Session<'a>, Vec<Step>), u8> {
+    refuse_if(store.state.stage < Stage::C, WRONG_STAGE)?;
+    let path = match path {
+        None => Vec::new(),
+        Some(text) => read_path(text).ok_or(BAD_PATH)?,
+    };
+    let user = store.state.user.ok_or(NO_USER)?;
+    let rights = store.state.policy.rights(&store.table.nodes, user);
+    let view = view(&store.table.nodes, &rights);
+    Ok((Session { store, user, reading, rights, view }, path))
+}
+
+impl Session<'_> {
+    fn nodes(&self) -> &[Node] {
+        &self.store.table.nodes
+    }
+
+    /// The numbers in the view of the nodes that a path selects there.
+    fn selected(&self, path: &[Step]) -> Vec<usize> {
+        let own = &self.store.state.policy.subjects[self.user];
+        let marks = if self.reading == Reading::StoredLabels {
+            let relabelled = |(node, stored): (&Node, &usize)| Node { label: self.nodes()[*stored].label, ..*node };
+            let true_labels: Vec<Node> = self.view.nodes.iter().zip(&self.view.stored).map(relabelled).collect();
+            select(&true_labels, path, own)
+        } else {
+            select(&self.view.nodes, path, own)
+        };
+        (0..marks.len()).filter(|number| marks[*number]).collect()
+    }
+
+    fn words(&self) -> Vec<Label> {
+        let policy = &self.store.state.policy;
+        match self.reading {
+            Reading::NoOwnNames => policy.words_of(policy.rules.iter(), false),
+            Reading::ReadersWords => {
+                let roles = policy.roles(self.user);
+                policy.words_of(policy.rules.iter().filter(|rule| roles[rule.subject]), true)
+            }
+            _ => policy.words(),
+        }
+    }
+
+    fn view_answer(&self) -> Vec<u8> {
+        let mut answer = Vec::new();
+        if !self.view.nodes.is_empty() {
+            let root = nest(&self.view.nodes);
+            answer.extend_from_slice(b"(root ");
+            answer.extend_from_slice(root.label.text());
+            answer.extend_from_slice(b")\n");
+            for child in &root.children {
+                answer.extend_from_slice(b"(child ");
+                write_tree(child, &mut answer);
+                answer.extend_from_slice(b")\n");
+            }
+        }
+        answer.extend_from_slice(format!("(end {})\n", self.view.nodes.len()).as_bytes());
+        answer
+    }
+
+    fn query_answer(&self, path: &[Step]) -> Vec<u8> {
+        let selected = self.selected(path);
+        let mut answer = Vec::new();
+        for number in &selected {
+            write_hit(&self.view.nodes[*number], &mut answer);
+        }
+        answer.extend_from_slice(format!("(end {})\n", selected.len()).as_bytes());
+        answer
+    }
+
+    /// The choice is free among the hits; this is the first in document order.
+    fn find_answer(&self, path: &[Step]) -> Vec<u8> {
+        let mut answer = Vec::new();
+        match self.selected(path).first() {
+            None => answer.extend_from_slice(b"(none)\n"),
+            Some(number) => write_hit(&self.view.nodes[*number], &mut answer),
+        }
+        answer
+    }
+
+    /// A node of the stored tree may be relabelled: read and update on it, its label no policy word.
+    fn may_relabel(&self, stored: usize, words: &[Label]) -> bool {
+        let word = words.contains(&self.nodes()[stored].label);
+        self.rights[stored] & (READ | UPDATE) == READ | UPDATE && (!word || self.reading == Reading::RenameOfWord)
+    }
+
+    fn new_label_allowed(&self, label: Label, words: &[Label]) -> Result<(), u8> {
+        let word = words.contains(&label) && self.reading != Reading::RenameIntoWord;
+        refuse_if(label == RESTRICTED || word, BAD_LABEL)
+    }
+
+    fn rename(&self, path: &[Step], label: Label) -> Result<Accepted, u8> {
+        let words = self.words();
+        self.new_label_allowed(label, &words)?;
+        let selected = self.selected(path);
+        let mut marks = vec![false; self.nodes().len()];
+        for number in &selected {
+            let stored = self.view.stored[*number];
+            marks[stored] = self.may_relabel(stored, &words);
+        }
+        Ok(done(selected.len(), count(&marks), relabelled(nest(self.nodes()), &marks, label)))
+    }
+
+    /// Concerns each shown child of a selected node.
+    fn update(&self, path: &[Step], label: Label) -> Result<Accepted, u8> {
+        let words = self.words();
+        self.new_label_allowed(label, &words)?;
+        let selected = self.selected(path);
+        let mut parents = vec![false; self.nodes().len()];
+        for number in &selected {
+            parents[self.view.stored[*number]] = true;
+        }
+        let mut shown = vec![false; self.nodes().len()];
+        for stored in &self.view.stored {
+            shown[*stored] = true;
+        }
+        let mut marks = vec![false; self.nodes().len()];
+        for (number, node) in self.nodes().iter().enumerate() {
+            if node.parent.is_some_and(|parent| parents[parent]) {
+                marks[number] = if shown[number] {
+                    self.may_relabel(number, &words)
+                } else {
+                    self.reading == Reading::UpdateHidden && self.rights[number] & UPDATE != 0 && !words.contains(&node.label)
+                };
+            }
+        }
+        Ok(done(selected.len(), count(&marks), relabelled(nest(self.nodes()), &marks, label)))
+    }
+
+    fn insert(&self, place: Place, path: &[Step], tree: &Tree) -> Result<Accepted, u8> {
+        refuse_if(tree.holds(&RESTRICTED), BAD_LABEL)?;
+        let selected = self.selected(path);
+        let mut marks = vec![false; self.nodes().len()];
+        for number in &selected {
+            let stored = self.view.stored[*number];
+            let receiver = match place {
+                Place::Append => Some(stored),
+                Place::Before | Place::After => self.nodes()[stored].parent,
+            };
+            if let Some(receiver) = receiver {
+                if self.rights[receiver] & INSERT != 0 {
+                    marks[stored] = true;
+                    refuse_if(self.nodes()[receiver].level + 1 + tree.height() > LEVEL_MAXIMUM, TOO_DEEP)?;
+                }
+            }
+        }
+        let free = self.store.table.capacity - self.nodes().len();
+        if self.reading == Reading::PlaceByPlace {
+            let fits = free / tree.size();
+            refuse_if(fits == 0 && count(&marks) > 0, TABLE_FULL)?;
+            let mut left = fits;
+            for mark in marks.iter_mut().filter(|mark| **mark) {
+                *mark = left > 0;
+                left = left.saturating_sub(1);
+            }
+        }
+        refuse_if(count(&marks) * tree.size() > free, TABLE_FULL)?;
+        Ok(done(selected.len(), count(&marks), inserted(nest(self.nodes()), &marks, place, tree)))
+    }
+
+    fn remove(&self, path: &[Step]) -> Accepted {
+        let selected = self.selected(path);
+        let mut marks = vec![false; self.nodes().len()];
+        for number in &selected {
+            let stored = self.view.stored[*number];
+            let spared = self.reading == Reading::SpareHidden && self.hides_below(stored);
+            marks[stored] = self.nodes()[stored].parent.is_some() && self.rights[stored] & DELETE != 0 && !spared;
+        }
+        let tree = removed(nest(self.nodes()), &marks);
+        let counted = if self.reading == Reading::CountFreed { self.nodes().len() - tree.size() } else { count(&marks) };
+        done(selected.len(), counted, tree)
+    }
+
+    fn hides_below(&self, stored: usize) -> bool {
+        let below = self.nodes()[stored + 1..].iter().take_while(|node| node.level > self.nodes()[stored].level).count();
+        (stored + 1..=stored + below).any(|number| !self.view.stored.contains(&number))
+    }
+}
+
+fn count(marks: &[bool]) -> usize {
+    marks.iter().filter(|mark| **mark).count()
+}
+
+// --- What is written ---
+
+pub fn write_tree(tree: &Tree, answer: &mut Vec<u8>) {
+    answer.push(b'(');
+    answer.extend_from_slice(tree.label.text());
+    for child in &tree.children {
+        answer.push(b' ');
+        write_tree(child, answer);
+    }
+    answer.push(b')');
+}
+
+fn write_hit(node: &Node, answer: &mut Vec<u8>) {
+    answer.extend_from_slice(format!("(hit {} ", node.level).as_bytes());
+    answer.extend_from_slice(node.label.text());
+    answer.extend_from_slice(b")\n");
+}
+
+// --- Changes of the stored tree; a mark stands for each node by its number ---
+
+fn marked(tree: &Tree, marks: &[bool]) -> bool {
+    tree.origin.is_some_and(|number| marks[number])
+}
+
+fn relabelled(mut tree: Tree, marks: &[bool], label: Label) -> Tree {
+    if marked(&tree, marks) {
+        tree.label = label;
+    }
+    tree.children = tree.children.into_iter().map(|child| relabelled(child, marks, label)).collect();
+    tree
+}
+
+fn removed(mut tree: Tree, marks: &[bool]) -> Tree {
+    tree.children.retain(|child| !marked(child, marks));
+    tree.children = tree.children.into_iter().map(|child| removed(child, marks)).collect();
+    tree
+}
+
+fn inserted(mut tree: Tree, marks: &[bool], place: Place, new: &Tree) -> Tree {
+    let mut children = Vec::new();
+    for child in tree.children {
+        let here = marked(&child, marks);
+        if here && place == Place::Before {
+            children.push(new.clone());
+        }
+        children.push(inserted(child, marks, place, new));
+        if here && place == Place::After {
+            children.push(new.clone());
+        }
+    }
+    tree.children = children;
+    if marked(&tree, marks) && place == Place::Append {
+        tree.children.push(new.clone());
+    }
+    tree
+}
+
+// --- The line ---
+
+/// What a line does to a store that 13 lets pass: the smallest refusal from 1 to 12 that applies, or what is accepted.
+pub fn step(store: &Store, line: &[u8], area_length: usize, reading: Reading) -> Result<Accepted, u8> {
+    refuse_if(line.len() > LINE_MAXIMUM || line.iter().any(|byte| !(32..=126).contains(byte)), LINE_BYTES)?;
+    let accepted = match read_form(line).ok_or(NO_FORM)? {
+        Form::Subject(name) => subject_line(store, name)?,
+        Form::Isa(name, role) => isa_line(store, name, role)?,
+        Form::Rule { accept, right, path, name } => rule_line(store, accept, right, path, name)?,
+        Form::Root(label) => root_line(store, label)?,
+        Form::Child(tree) => child_line(store, tree)?,
+        Form::User(name) => user_line(store, name)?,
+        Form::View => answered(session(store, None, reading)?.0.view_answer()),
+        Form::Query(text) => {
+            let (session, path) = session(store, Some(text), reading)?;
+            answered(session.query_answer(&path))
+        }
+        Form::Find(text) => {
+            let (session, path) = session(store, Some(text), reading)?;
+            answered(session.find_answer(&path))
+        }
+        Form::Rename(text, label) => {
+            let (session, path) = session(store, Some(text), reading)?;
+            session.rename(&path, label)?
+        }
+        Form::Update(text, label) => {
+            let (session, path) = session(store, Some(text), reading)?;
+            session.update(&path, label)?
+        }
+        Form::Insert(place, text, tree) => {
+            let (session, path) = session(store, Some(text), reading)?;
+            session.insert(place, &path, &tree)?
+        }
+        Form::Remove(text) => {
+            let (session, path) = session(store, Some(text), reading)?;
+            session.remove(&path)
+        }
+    };
+    refuse_if(accepted.answer.len() > area_length, AREA_SHORT)?;
+    Ok(accepted)
+}
+
+/// One line on lent bytes under a reading; also, for an accepted line that may change the tree, where each node now there was before.
+pub fn read_line(state: &mut [u8], table: &mut [u8], line: &[u8], area: &mut [u8], reading: Reading) -> (i64, Option<Vec<Option<usize>>>) {
+    let Some(store) = read_store(state, table) else {
+        return (-i64::from(BAD_STORE), None);
+    };
+    match step(&store, line, area.len(), reading) {
+        Err(number) => (-i64::from(number), None),
+        Ok(accepted) => {
+            if let Some(new_state) = &accepted.state {
+                state::encode(new_state, state);
+            }
+            let mut origins = None;
+            if let Some(tree) = &accepted.tree {
+                let (nodes, before) = flatten(tree);
+                table::encode(&nodes, table);
+                origins = Some(before);
+            }
+            area[..accepted.answer.len()].copy_from_slice(&accepted.answer);
+            (accepted.answer.len() as i64, origins)
+        }
+    }
+}
+
+/// The answer's length, or minus the refusal's number.
+pub fn timetable_line(state: &mut [u8], table: &mut [u8], line: &[u8], area: &mut [u8]) -> i64 {
+    read_line(state, table, line, area, Reading::Right).0
+}

@@ -1,0 +1,113 @@
+//! The stored tree and its table (document 01, Tree and table; docs/FORMAT.md).
+
+use crate::label::{all_zero, read_record, write_record, Label, RECORD_BYTES, RESTRICTED};
+
+pub const LEVEL_MAXIMUM: usize = 11;
+pub const CAPACITY_MAXIMUM: usize = 16_384;
+const COUNT_BYTES: usize = 4;
+
+/// A node in a list in document order; its parent is a number in the same list, none for the root.
+#[derive(Clone, Copy, PartialEq, Eq, Debug)]
+pub struct Node {
+    pub level: usize,
+    pub label: Label,
+    pub parent: Option<usize>,
+}
+
+/// A nested tree. `origin` is the number that a node had before the line; inserted nodes have none.
+#[derive(Clone, PartialEq, Eq, Debug)]
+pub struct Tree {
+    pub label: Label,
+    pub origin: Option<usize>,
+    pub children: Vec<Tree>,
+}
+
+impl Tree {
+    pub fn size(&self) -> usize {
+        1 + self.children.iter().map(Tree::size).sum::<usize>()
+    }
+
+    /// Levels below the tree's own root.
+    pub fn height(&self) -> usize {
+        self.children.iter().map(|child| 1 + child.height()).max().unwrap_or(0)
+    }
+
+    pub fn holds(&self, label: &Label) -> bool {
+        self.label == *label || self.children.iter().any(|child| child.holds(label))
+    }
+}
+
+/// The nodes of a tree in document order, with their origins.
+pub fn flatten(tree: &Tree) -> (Vec<Node>, Vec<Option<usize>>) {
+    fn walk(tree: &Tree, level: usize, parent: Option<usize>, nodes: &mut Vec<Node>, origins: &mut Vec<Option<usize>>) {
+        let number = nodes.len();
+        nodes.push(Node { level, label: tree.label, parent });
+        origins.push(tree.origin);
+        for child in &tree.children {
+            walk(child, level + 1, Some(number), nodes, origins);
+        }
+    }
+    let (mut nodes, mut origins) = (Vec::new(), Vec::new());
+    walk(tree, 0, None, &mut nodes, &mut origins);
+    (nodes, origins)
+}
+
+/// The nested tree of a list of nodes that is not empty; every node is its own origin.
+pub fn nest(nodes: &[Node]) -> Tree {
+    fn take(nodes: &[Node], next: &mut usize) -> Tree {
+        let number = *next;
+        *next += 1;
+        let mut children = Vec::new();
+        while *next < nodes.len() && nodes[*next].level > nodes[number].level {
+            children.push(take(nodes, next));
+        }
+        Tree { label: nodes[number].label, origin: Some(number), children }
+    }
+    take(nodes, &mut 0)
+}
+
+#[derive(Clone, Debug)]
+pub struct Table {
+    pub capacity: usize,
+    pub nodes: Vec<Node>,
+}
+
+/// The table that lent bytes hold, if they hold one.
+pub fn decode(bytes: &[u8]) -> Option<Table> {
+    if bytes.len() < COUNT_BYTES {
+        return None;
+    }
+    let capacity = ((bytes.len() - COUNT_BYTES) / RECORD_BYTES).min(CAPACITY_MAXIMUM);
+    let count = u32::from_le_bytes([bytes[0], bytes[1], bytes[2], bytes[3]]) as usize;
+    if count > capacity {
+        return None;
+    }
+    let mut nodes: Vec<Node> = Vec::with_capacity(count);
+    let mut open: Vec<usize> = Vec::new(); // the node of each level on the way to the next one
+    for number in 0..count {
+        let at = COUNT_BYTES + RECORD_BYTES * number;
+        let (level, text) = read_record(&bytes[at..at + RECORD_BYTES])?;
+        let (level, label) = (level as usize, Label::new(text)?);
+        let level_fits = if number == 0 { level == 0 } else { level >= 1 && level <= open.len() };
+        if !level_fits || level > LEVEL_MAXIMUM || label == RESTRICTED {
+            return None;
+        }
+        open.truncate(level);
+        nodes.push(Node { level, label, parent: open.last().copied() });
+        open.push(number);
+    }
+    if !all_zero(&bytes[COUNT_BYTES + RECORD_BYTES * count..]) {
+        return None;
+    }
+    Some(Table { capacity, nodes })
+}
+
+/// Writes the nodes into bytes that are long enough for them.
+pub fn encode(nodes: &[Node], bytes: &mut [u8]) {
+    bytes[..COUNT_BYTES].copy_from_slice(&(nodes.len() as u32).to_le_bytes());
+    for (number, node) in nodes.iter().enumerate() {
+        let at = COUNT_BYTES + RECORD_BYTES * number;
+        write_record(&mut bytes[at..at + RECORD_BYTES], node.level as u8, node.label.text());
+    }
+    bytes[COUNT_BYTES + RECORD_BYTES * nodes.len()..].fill(0);
+}

@@ -1,0 +1,84 @@
+//! The engines under test: the straightforward version, under the right reading or a false one, and a library with C's calling convention.
+
+use crate::step::{read_line, Reading};
+use crate::STATE_BYTES;
+use std::ffi::{c_char, c_int, c_void, CStr, CString};
+
+pub trait Engine {
+    /// One line on lent bytes: the answer's length, or minus the refusal's number.
+    fn line(&self, state: &mut [u8], table: &mut [u8], line: &[u8], area: &mut [u8]) -> i64;
+
+    /// How the engine reads changes, for telling which nodes it keeps.
+    fn reading(&self) -> Reading;
+}
+
+/// The straightforward version.
+pub struct Straightforward(pub Reading);
+
+impl Engine for Straightforward {
+    fn line(&self, state: &mut [u8], table: &mut [u8], line: &[u8], area: &mut [u8]) -> i64 {
+        read_line(state, table, line, area, self.0).0
+    }
+
+    fn reading(&self) -> Reading {
+        self.0
+    }
+}
+
+// --- A library: `timetable_line` and `timetable_state_bytes` of a shared object, each slice as a pointer and a length ---
+
+type LineFunction = unsafe extern "C" fn(*mut u8, usize, *mut u8, usize, *const u8, usize, *mut u8, usize) -> i64;
+type StateBytesFunction = unsafe extern "C" fn() -> usize;
+
+extern "C" {
+    fn dlopen(name: *const c_char, flags: c_int) -> *mut c_void;
+    fn dlsym(handle: *mut c_void, name: *const c_char) -> *mut c_void;
+    fn dlerror() -> *const c_char;
+}
+
+const RTLD_NOW: c_int = 2;
+
+pub struct Library {
+    line: LineFunction,
+}
+
+impl Library {
+    /// Opens a shared object. Tells why it cannot.
+    pub fn open(path: &str) -> Result<Library, String> {
+        let failure = || unsafe {
+            let text = dlerror();
+            if text.is_null() {
+                "a symbol is missing".to_string()
+            } else {
+                CStr::from_ptr(text).to_string_lossy().into_owned()
+            }
+        };
+        let name = CString::new(path).map_err(|error| error.to_string())?;
+        unsafe {
+            let handle = dlopen(name.as_ptr(), RTLD_NOW);
+            if handle.is_null() {
+                return Err(failure());
+            }
+            let line = dlsym(handle, c"timetable_line".as_ptr());
+            let state_bytes = dlsym(handle, c"timetable_state_bytes".as_ptr());
+            if line.is_null() || state_bytes.is_null() {
+                return Err(failure());
+            }
+            let state_bytes: StateBytesFunction = std::mem::transmute(state_bytes);
+            if state_bytes() != STATE_BYTES {
+                return Err(format!("its states have {} bytes, not {STATE_BYTES}", state_bytes()));
+            }
+            Ok(Library { line: std::mem::transmute::<*mut c_void, LineFunction>(line) })
+        }
+    }
+}
+
+impl Engine for Library {
+    fn line(&self, state: &mut [u8], table: &mut [u8], line: &[u8], area: &mut [u8]) -> i64 {
+        unsafe { (self.line)(state.as_mut_ptr(), state.len(), table.as_mut_ptr(), table.len(), line.as_ptr(), line.len(), area.as_mut_ptr(), area.len()) }
+    }
+
+    fn reading(&self) -> Reading {
+        Reading::Right
+    }
+}

@@ -1,0 +1,297 @@
+//! Random policies, trees, paths and lines.
+
+use super::random::Random;
+use crate::label::Label;
+use crate::path::{Step, Test};
+use crate::policy::{Policy, Rule, DELETE, INSERT, POSITION, READ, UPDATE};
+use crate::step::write_tree;
+use crate::table::{Node, Tree, LEVEL_MAXIMUM};
+
+const LABELS: [&str; 12] = ["a", "b", "c", "note", "x", "y", "z", "k.1", "R-12", "10B", "lesson", "room"];
+const NAMES: [&str; 6] = ["ann", "bob", "cid", "staff", "music", "office"];
+const RIGHTS: [(&str, u8); 5] = [("position", POSITION), ("read", READ), ("insert", INSERT), ("update", UPDATE), ("delete", DELETE)];
+
+pub fn label(text: &str) -> Label {
+    Label::new(text.as_bytes()).expect("a label")
+}
+
+pub fn text_of(label: &Label) -> String {
+    String::from_utf8_lossy(label.text()).into_owned()
+}
+
+// --- Policies ---
+
+/// A subject that a reader is, the reader included.
+fn some_role(random: &mut Random, policy: &Policy, reader: usize) -> usize {
+    let roles = policy.roles(reader);
+    let held: Vec<usize> = (0..roles.len()).filter(|subject| roles[*subject]).collect();
+    *random.pick(&held)
+}
+
+fn rule_path(random: &mut Random, words: &[Label], uses_own: bool) -> Vec<Step> {
+    let mut path = Vec::new();
+    for number in 0..random.within(1, 3) {
+        let descendants = random.percent(if number == 0 { 85 } else { 40 });
+        let test = match random.below(10) {
+            0..=4 => Test::Label(*random.pick(words)),
+            5..=7 => Test::Any,
+            _ if uses_own => Test::Own,
+            _ => Test::Label(*random.pick(words)),
+        };
+        path.push(Step { descendants, test, brackets: Vec::new() });
+    }
+    path
+}
+
+/// A policy, and a reader to whom it grants a good deal.
+pub fn policy(random: &mut Random) -> (Policy, usize) {
+    let mut policy = Policy::default();
+    let mut names = NAMES.map(label);
+    random.shuffle(&mut names);
+    let subjects = random.within(2, 5);
+    policy.subjects.extend(&names[..subjects]);
+    for subject in 1..subjects {
+        for role in 0..subject {
+            if random.percent(35) {
+                policy.isa.push((subject, role));
+            }
+        }
+    }
+    let reader = random.below(subjects);
+    let words: Vec<Label> = (0..random.within(1, 4)).map(|_| some_label(random)).collect();
+    let uses_own = random.percent(40);
+    let all = vec![Step { descendants: true, test: Test::Any, brackets: Vec::new() }];
+    for (right, chance) in [(POSITION, 35), (READ, 85), (INSERT, 80), (UPDATE, 85), (DELETE, 75)] {
+        if random.percent(chance) {
+            let subject = some_role(random, &policy, reader);
+            policy.rules.push(Rule { accept: true, right, subject, path: all.clone() });
+        }
+    }
+    for _ in 0..random.within(2, 8) {
+        let subject = if random.percent(60) { some_role(random, &policy, reader) } else { random.below(subjects) };
+        let right = if random.percent(55) { READ } else { random.pick(&RIGHTS).1 };
+        let accept = random.percent(35);
+        let path = rule_path(random, &words, uses_own);
+        policy.rules.push(Rule { accept, right, subject, path });
+    }
+    (policy, reader)
+}
+
+pub fn path_text(path: &[Step]) -> String {
+    let mut text = String::new();
+    for step in path {
+        text.push_str(if step.descendants { "//" } else { "/" });
+        match &step.test {
+            Test::Any => text.push('*'),
+            Test::Own => text.push('$'),
+            Test::Label(label) => text.push_str(&text_of(label)),
+        }
+    }
+    text
+}
+
+/// The lines that make a policy.
+pub fn policy_lines(policy: &Policy) -> Vec<String> {
+    let name = |subject: usize| text_of(&policy.subjects[subject]);
+    let mut lines: Vec<String> = (0..policy.subjects.len()).map(|subject| format!("(subject {})", name(subject))).collect();
+    lines.extend(policy.isa.iter().map(|(subject, role)| format!("(isa {} {})", name(*subject), name(*role))));
+    for rule in &policy.rules {
+        let right = RIGHTS.iter().find(|(_, bit)| *bit == rule.right).expect("a right").0;
+        let effect = if rule.accept { "accept" } else { "deny" };
+        lines.push(format!("(rule {effect} {right} {} {})", path_text(&rule.path), name(rule.subject)));
+    }
+    lines
+}
+
+// --- Trees ---
+
+pub fn some_label(random: &mut Random) -> Label {
+    let text: &&str = if random.percent(75) { random.pick(&LABELS) } else { random.pick(&NAMES) };
+    label(text)
+}
+
+/// A tree of at most `size` nodes and `height` levels below its root.
+pub fn tree(random: &mut Random, size: usize, height: usize) -> Tree {
+    let mut left = size - 1;
+    let mut children = Vec::new();
+    while height > 0 && left > 0 && random.percent(85) {
+        let share = random.within(1, left);
+        children.push(tree(random, share, height - 1));
+        left -= share;
+    }
+    Tree { label: some_label(random), origin: None, children }
+}
+
+/// A tree that reaches down some levels, with small trees beside the way.
+pub fn deep_tree(random: &mut Random, height: usize) -> Tree {
+    let mut children = Vec::new();
+    if height > 0 {
+        for _ in 0..random.below(3) {
+            let size = random.within(1, 2);
+            children.push(tree(random, size, height - 1));
+        }
+        children.push(deep_tree(random, height - 1));
+        random.shuffle(&mut children);
+    }
+    Tree { label: some_label(random), origin: None, children }
+}
+
+pub fn tree_text(tree: &Tree) -> String {
+    let mut text = Vec::new();
+    write_tree(tree, &mut text);
+    String::from_utf8_lossy(&text).into_owned()
+}
+
+// --- Command paths ---
+
+fn test_text(random: &mut Random) -> String {
+    match random.below(10) {
+        0..=2 => "*".to_string(),
+        3 => "$".to_string(),
+        4 => "RESTRICTED".to_string(),
+        _ => text_of(&some_label(random)),
+    }
+}
+
+/// A bracket within a limit of depth.
+fn bracket(random: &mut Random, depth: usize) -> String {
+    if random.percent(45) {
+        return format!("[{}]", random.within(1, 3));
+    }
+    let mut text = format!("[{}", test_text(random));
+    loop {
+        if depth > 1 && random.percent(25) {
+            text.push_str(&bracket(random, depth - 1));
+        }
+        if !random.percent(30) {
+            break;
+        }
+        text.push_str(if random.percent(50) { "/" } else { "//" });
+        text.push_str(&test_text(random));
+    }
+    text + "]"
+}
+
+/// Any well-formed path.
+pub fn any_path(random: &mut Random) -> String {
+    let mut text = String::new();
+    for number in 0..random.within(1, 3) {
+        text.push_str(if random.percent(if number == 0 { 80 } else { 40 }) { "//" } else { "/" });
+        text.push_str(&test_text(random));
+        for _ in 0..random.below(8).saturating_sub(5) {
+            text.push_str(&bracket(random, 3));
+        }
+    }
+    text
+}
+
+/// A path that leads to a node of a view, and perhaps to others.
+pub fn path_to(random: &mut Random, view: &[Node], node: usize) -> String {
+    let mut chain = vec![node];
+    while let Some(parent) = view[chain[chain.len() - 1]].parent {
+        chain.push(parent);
+    }
+    chain.reverse();
+    let mut text = String::new();
+    let mut skipped = false;
+    for (place, number) in chain.iter().enumerate() {
+        if place + 1 < chain.len() && random.percent(55) {
+            skipped = true;
+            continue;
+        }
+        let any = random.percent(if skipped { 10 } else { 30 });
+        text.push_str(if skipped || random.percent(15) { "//" } else { "/" });
+        text.push_str(&if any { "*".to_string() } else { text_of(&view[*number].label) });
+        skipped = false;
+        if random.percent(25) {
+            let before = (0..*number).filter(|other| view[*other].parent == view[*number].parent && (any || view[*other].label == view[*number].label));
+            text.push_str(&format!("[{}]", before.count() + 1));
+        }
+        let children: Vec<usize> = (0..view.len()).filter(|other| view[*other].parent == Some(*number)).collect();
+        if !children.is_empty() && random.percent(20) {
+            text.push_str(&format!("[{}]", text_of(&view[*random.pick(&children)].label)));
+        }
+    }
+    text
+}
+
+fn command_path(random: &mut Random, view: &[Node]) -> String {
+    if view.is_empty() || random.percent(15) {
+        return any_path(random);
+    }
+    let node = random.below(view.len());
+    path_to(random, view, node)
+}
+
+/// A path to a parent in the view, for `update`.
+fn parent_path(random: &mut Random, view: &[Node]) -> String {
+    let parents: Vec<usize> = view.iter().filter_map(|node| node.parent).collect();
+    if parents.is_empty() || random.percent(10) {
+        return any_path(random);
+    }
+    let node = *random.pick(&parents);
+    path_to(random, view, node)
+}
+
+// --- Lines ---
+
+fn new_label(random: &mut Random) -> String {
+    if random.percent(2) {
+        return "RESTRICTED".to_string();
+    }
+    text_of(&some_label(random))
+}
+
+fn small_tree(random: &mut Random, room: usize) -> String {
+    let size = random.within(1, room.clamp(1, 4));
+    let height = if random.percent(3) { LEVEL_MAXIMUM } else { 3 };
+    tree_text(&tree(random, size, height))
+}
+
+/// A change at a view; `room` nodes may be added without crowding.
+pub fn change(random: &mut Random, view: &[Node], room: usize) -> String {
+    let path = command_path(random, view);
+    let kind = match view.len() {
+        _ if room == 0 => random.pick(&[0, 1, 5, 5, 5]),
+        0..=5 => random.pick(&[0, 1, 2, 2, 2, 3, 4]),
+        _ => random.pick(&[0, 0, 1, 1, 2, 3, 4, 5]),
+    };
+    match kind {
+        0 => format!("(rename {path} {})", new_label(random)),
+        1 => format!("(update {} {})", parent_path(random, view), new_label(random)),
+        2 => format!("(append {path} {})", small_tree(random, room)),
+        3 => format!("(before {path} {})", small_tree(random, room)),
+        4 => format!("(after {path} {})", small_tree(random, room)),
+        _ => format!("(remove {path})"),
+    }
+}
+
+pub fn question(random: &mut Random, view: &[Node]) -> String {
+    match random.below(6) {
+        0 => "(view)".to_string(),
+        1..=3 => format!("(query {})", command_path(random, view)),
+        _ => format!("(find {})", command_path(random, view)),
+    }
+}
+
+/// A line that is refused in every session of stage E, or in most.
+pub fn refused(random: &mut Random) -> String {
+    let path = any_path(random);
+    let name = text_of(&some_label(random));
+    match random.below(14) {
+        0 => format!("(subject {name})"),
+        1 => format!("(isa {name} staff)"),
+        2 => format!("(rule accept read {path} {name})"),
+        3 => format!("(root {name})"),
+        4 => format!("(child ({name}))"),
+        5 => "(user nobody)".to_string(),
+        6 => "(user RESTRICTED)".to_string(),
+        7 => format!("(query {path}[0])"),
+        8 => format!("(remove {path}/)"),
+        9 => format!("(append {path} (RESTRICTED))"),
+        10 => format!("(rename {path} RESTRICTED)"),
+        11 => format!("(view {path})"),
+        12 => format!("(query {path}\t)"),
+        _ => format!("(find  {path})"),
+    }
+}

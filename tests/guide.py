@@ -1,0 +1,198 @@
+"""Runs every code block of README.md and docs/GUIDE.md, the example of the man page, and the example line of each refusal.
+
+    guide.py PROGRAM [--lines-only] [--library FILE.so]
+
+A block of `lines` is given to PROGRAM, and the block of `answers` behind it is what the program must print; an `(ok)` for each line up to the first that is
+answered otherwise is left out there. Blocks of `sh` and indented blocks are commands, run from the top folder; they must succeed, but for the test command
+itself, which is running. A block of any other kind is a failure. In the table of refusals the line of row N must be refused with N; rows 12 and 13 need the
+library, and stay out without it. Ends with `N passed, M failed`.
+"""
+
+import argparse
+import ctypes
+import os
+import re
+import subprocess
+import sys
+
+ROOT = os.path.dirname(os.path.dirname(os.path.abspath(__file__)))
+PAGES = ["README.md", "docs/GUIDE.md", "docs/REFUSALS-part.md"]
+MAN_PAGE = "docs/timetable.1"
+TEST_COMMANDS = {"bash tests/all", "bash bench/run"}
+SETTING_UP = ("(subject ", "(isa ", "(rule ", "(root ", "(child ", "(user ")
+
+# What goes before the example line of each refusal.
+EXAMPLE = """(subject staff)
+(subject SHA)
+(isa SHA staff)
+(rule accept read //* staff)
+(rule deny read //note/* staff)
+(rule accept position //note/* staff)
+(rule accept update //room/* staff)
+(root school)
+(child (mon (lesson (class (10B)) (room (R12)) (note (ill)))))
+(user SHA)""".split("\n")
+POLICY, ROOT_TAKEN, CHILD_TAKEN, LOGGED_IN = EXAMPLE[:7], EXAMPLE[:8], EXAMPLE[:9], EXAMPLE
+FULL_TABLE = ROOT_TAKEN + ["(child (day" + " (x)" * 92 + "))"] * 11
+BEFORE = {
+    1: [],
+    2: POLICY,
+    3: ROOT_TAKEN,
+    4: LOGGED_IN,
+    5: CHILD_TAKEN,
+    6: POLICY,
+    7: [f"(subject S{k})" for k in range(1, 65)],
+    8: CHILD_TAKEN,
+    9: LOGGED_IN,
+    10: ROOT_TAKEN,
+    11: FULL_TABLE,
+    12: LOGGED_IN,
+    13: LOGGED_IN,
+}
+LIBRARY_ONLY = {12: {"area": 8}, 13: {"table": 3}}
+
+counts = {True: 0, False: 0}
+
+
+def report(name, passed, detail=""):
+    counts[passed] += 1
+    print(("passed: " if passed else "FAILED: ") + name + ("" if passed or not detail else "\n" + detail))
+
+
+def blocks(text):
+    """(line number, kind, content) of each code block; an indented block counts as a command."""
+    found = []
+    fence = None
+    indented = []
+    lines = text.split("\n")
+    before = ""
+    for number, line in enumerate(lines, 1):
+        if fence is not None:
+            if line == "```":
+                found.append((fence[0], fence[1], "".join(part + "\n" for part in fence[2])))
+                fence = None
+            else:
+                fence[2].append(line)
+            continue
+        if line.startswith("```"):
+            fence = (number, line[3:].strip(), [])
+        elif line.startswith("    ") and (indented or before == ""):
+            indented.append(line[4:])
+            before = line
+            continue
+        if indented:
+            found.append((number - len(indented), "sh", "".join(part + "\n" for part in indented)))
+            indented = []
+        before = line
+    if fence is not None:
+        found.append((fence[0], "open", ""))
+    return found
+
+
+def run_program(program, lines):
+    done = subprocess.run([program], input="".join(line + "\n" for line in lines).encode(), capture_output=True, timeout=60)
+    return done.stdout.decode().split("\n")[:-1]
+
+
+def check_lines(name, program, lines, answers):
+    lines, answers = lines.split("\n")[:-1], answers.split("\n")[:-1]
+    printed = run_program(program, lines)
+    left_out = 0
+    while left_out < len(lines) and lines[left_out].startswith(SETTING_UP):
+        left_out += 1
+    good = printed[:left_out] == ["(ok)"] * left_out and printed[left_out:] == answers
+    report(name, good, "\n".join(printed))
+
+
+def check_page(page, program, lines_only):
+    with open(os.path.join(ROOT, page), encoding="utf-8") as file:
+        text = file.read()
+    waiting = None
+    for number, kind, content in blocks(text):
+        name = f"{page}:{number}"
+        if waiting is not None and kind != "answers":
+            report(waiting[0], False, "no answers behind these lines")
+            waiting = None
+        if kind == "lines":
+            waiting = (name, content)
+        elif kind == "answers" and waiting is not None:
+            check_lines(waiting[0], program, waiting[1], content)
+            waiting = None
+        elif kind == "sh":
+            for command in content.strip().split("\n"):
+                if command in TEST_COMMANDS or lines_only:
+                    continue
+                done = subprocess.run(["bash", "-c", command], cwd=ROOT, capture_output=True, text=True)
+                report(f"{name}: {command}", done.returncode == 0, done.stdout + done.stderr)
+        else:
+            report(name, False, f"a block of kind '{kind}'")
+    if waiting is not None:
+        report(waiting[0], False, "no answers behind these lines")
+    return text
+
+
+def check_man_page(program):
+    """The first example of the man page is lines, the second their answers."""
+    with open(os.path.join(ROOT, MAN_PAGE), encoding="utf-8") as file:
+        examples = re.findall(r"^\.EX\n(.*?)^\.EE$", file.read(), re.M | re.S)
+    if len(examples) == 2:
+        check_lines(MAN_PAGE, program, examples[0], examples[1])
+    else:
+        report(MAN_PAGE, False, "lines and answers are wanted")
+
+
+def call_library(path, lines, last, state_bytes=68880, table=4 + 32 * 1024, area=65536):
+    """What `timetable_line` returns for the last line, with these lengths then."""
+    library = ctypes.CDLL(path)
+    library.timetable_line.restype = ctypes.c_int64
+    state = ctypes.create_string_buffer(state_bytes)
+    store = ctypes.create_string_buffer(4 + 32 * 1024)
+    answer = ctypes.create_string_buffer(65536)
+
+    def call(line, table_length, area_length):
+        data = line.encode()
+        sizes = [ctypes.c_size_t(size) for size in (state_bytes, table_length, len(data), area_length)]
+        return library.timetable_line(state, sizes[0], store, sizes[1], ctypes.c_char_p(data), sizes[2], answer, sizes[3])
+
+    for line in lines:
+        call(line, 4 + 32 * 1024, 65536)
+    return call(last, table, area)
+
+
+def check_refusals(page, text, program, library):
+    """Rows `| N | .. | `line` |` of the table of refusals. Says whether there is one."""
+    rows = re.findall(r"^\| (\d+) \|.*\| `([^`]*)`[^|]*\|$", text, re.M)
+    for number, line in rows:
+        number = int(number)
+        name = f"{page}: refusal {number}: {line}"
+        if number not in LIBRARY_ONLY:
+            printed = run_program(program, BEFORE[number] + [line])
+            good = printed[:-1] == ["(ok)"] * len(BEFORE[number]) and printed[-1] == f"(refused {number})"
+            report(name, good, printed[-1])
+        elif library is not None:
+            report(name, call_library(library, BEFORE[number], line, **LIBRARY_ONLY[number]) == -number)
+    if rows:
+        report(f"{page}: every refusal has a row", [int(number) for number, _ in rows] == list(range(1, 14)))
+    return bool(rows)
+
+
+def main():
+    parser = argparse.ArgumentParser()
+    parser.add_argument("program")
+    parser.add_argument("--lines-only", action="store_true", help="leave out the commands")
+    parser.add_argument("--library", help="a shared object with timetable_line")
+    options = parser.parse_args()
+    program = os.path.abspath(options.program)
+    tables = 0
+    for page in PAGES:
+        if os.path.exists(os.path.join(ROOT, page)):
+            text = check_page(page, program, options.lines_only)
+            tables += check_refusals(page, text, program, options.library and os.path.abspath(options.library))
+    check_man_page(program)
+    report("there is one table of refusals", tables == 1)
+    print(f"{counts[True]} passed, {counts[False]} failed")
+    sys.exit(1 if counts[False] else 0)
+
+
+if __name__ == "__main__":
+    main()

@@ -1,0 +1,48 @@
+#!/usr/bin/env bash
+# random.sh [ARCHIVE]: the random testers. Without an archive they test the straightforward Rust version (docs/src) and themselves; with libtimetable.a they test
+# the functions in it. Ends with `N passed, M failed`. Needs cargo, and gcc for an archive.
+set -u
+source=$(cd "$(dirname "${BASH_SOURCE[0]}")/../docs/src" && pwd)
+work=$(mktemp -d)
+trap 'rm -rf "$work"' EXIT
+passed=0
+failed=0
+
+# run NAME COMMAND..
+run() {
+    local name=$1
+    shift
+    if "$@"; then
+        passed=$((passed + 1))
+        echo "passed: $name"
+    else
+        failed=$((failed + 1))
+        echo "FAILED: $name"
+    fi
+}
+
+# fails COMMAND..: the command must fail with 1, what it finds
+fails() {
+    "$@" > "$work/log"
+    local status=$?
+    sed -n 's/^FAILED/found/p' "$work/log"
+    [ "$status" -eq 1 ]
+}
+
+cargo build --quiet --release --offline --manifest-path "$source/Cargo.toml" --bins --example shared || { echo "0 passed, 1 failed"; exit 1; }
+bin=$source/target/release
+if [ $# -gt 0 ]; then
+    library=$work/libtimetable.so
+    gcc -shared -o "$library" -Wl,--whole-archive "$1" -Wl,--no-whole-archive || { echo "0 passed, 1 failed"; exit 1; }
+    run 'demand 3 on the library' "$bin/demand3" --library "$library"
+    run 'the library and the straightforward version' "$bin/compare" --library "$library"
+else
+    run 'demand 3 on the straightforward version' "$bin/demand3"
+    run 'each false reading is found by the demand-3 tester' "$bin/demand3" --self-test
+    run 'the straightforward version and itself as a library' "$bin/compare" --library "$bin/examples/libshared.so"
+    for wrong in rename-into-word rename-of-word no-own-names update-hidden stored-labels count-freed spare-hidden readers-words place-by-place; do
+        run "$wrong is found by the comparer" fails "$bin/compare" --wrong "$wrong"
+    done
+fi
+echo "$passed passed, $failed failed"
+[ "$failed" -eq 0 ]
