@@ -1,9 +1,9 @@
 // The program (document 01, "Lines", "What is written"): reads lines from standard input, and writes the answer to each to standard output, or `(refused N)`.
 // It ends at the end of the input, at its limit, and where standard input or standard output is closed or fails.
+use answers::answer::answer_refused;
+use forms::limits::LINE_MAX;
 use libc::STDIN_FILENO;
 use libc::STDOUT_FILENO;
-use lines::answer::answer_refused;
-use lines::limits::LINE_MAX;
 use lines::line::Answer;
 use lines::line::line;
 ghost use mathlib.Core.Path.{_≡_};
