@@ -1,7 +1,7 @@
 -- A line is refused and leaves all as it was, or it is accepted: then it has passed the tests of its form, and this is its answer and what it leaves.
 -- Assumes nothing.
 use Prim.Native.Nat.{ℕ, _+_, _≤_}
-use mathlib.Core.Path.{_≡_, refl, sym, ap, _∙_}
+use mathlib.Core.Path.{_≡_, refl}
 use mathlib.Core.Bool.{Bool, true, false, not, _||_}
 use mathlib.Core.List.{List, [], _∷_}
 use mathlib.Core.Logic.{_⊎_, inl, inr}
@@ -29,7 +29,7 @@ use Rattle.lines.specs.Form.{readForm, treeIn}
 use Rattle.lines.specs.Text.{lineOk}
 use Rattle.lines.specs.Tree.{recordsOf}
 use Rattle.lines.specs.State.{stageB, stageC, stageD, stageE, stage, withStage, withSession, withPolicy, policyBytes, policyIn, storeOk}
-use Rattle.lines.specs.Step.{Reply, says, refuses, Outcome, refusal, refuse, finish, noUser, viewIn, marksIn, notPath, isFound, isaLine, ruleLine, loggedIn, stepView, stepQuery, stepFind, stepUser, stepSubject, stepIsa, stepRule}
+use Rattle.lines.specs.Step.{says, Outcome, refusal, refuse, finish, noUser, viewIn, marksIn, notPath, isFound, isaLine, ruleLine, loggedIn, stepView, stepQuery, stepFind, stepUser, stepSubject, stepIsa, stepRule}
 use Rattle.lines.specs.StepTree.{treeRestricted, inserting, rootAlone, doneIn, countText, changeAt, stepRoot, stepChild, stepRename, stepInsert, stepRemove}
 use Rattle.lines.specs.Line.{stageOf, inStage, isNoForm, bytesOf, acceptByte, stepForm, stepRead, step}
 use Rattle.lines.specs.declared.form.Form.{Form}
@@ -97,34 +97,34 @@ pub record UserTaken (s t name text s' t' : List ℕ) : Type 0 where
   pub table : t' ≡ t
 
 -- a line that changes nothing, and its answer
-pub record Asked (s t answers text s' t' : List ℕ) : Type 0 where
+pub record ReadTaken (s t answers text s' t' : List ℕ) : Type 0 where
   pub user : noUser s ≡ false
   pub answer : text ≡ answers
   pub state : s' ≡ s
   pub table : t' ≡ t
 
-pub record PathAsked (s t path answers text s' t' : List ℕ) : Type 0 where
+pub record QueryTaken (s t path answers text s' t' : List ℕ) : Type 0 where
   pub good : notPath (pathOf path) ≡ false
-  pub asked : Asked s t answers text s' t'
+  pub asked : ReadTaken s t answers text s' t'
 
 -- the six changes: a path, a user, `(done S D)`; the session stays
-pub record Changed (c : Change) (s t path text s' : List ℕ) : Type 0 where
+pub record ChangeTaken (c : Change) (s t path text s' : List ℕ) : Type 0 where
   pub good : notPath (pathOf path) ≡ false
   pub user : noUser s ≡ false
   pub answer : text ≡ countText c s t path
   pub state : s' ≡ s
 
 pub record RenameTaken (c : Change) (s t path l text s' t' : List ℕ) : Type 0 where
-  pub changed-by : Changed c s t path text s'
+  pub changed-by : ChangeTaken c s t path text s'
   pub free : (sameLabel l restricted || policyWord (policyIn s) l) ≡ false
   pub table : t' ≡ changed t (renamed l (doneIn c s t path) (records t))
 
 pub record InsertTaken (at : Place) (s t path : List ℕ) (m : ℕ) (tree text s' t' : List ℕ) : Type 0 where
-  pub changed-by : Changed (changeAt at) s t path text s'
+  pub changed-by : ChangeTaken (changeAt at) s t path text s'
   pub inserted : Inserted at (doneIn (changeAt at) s t path) m tree t t'
 
 pub record RemoveTaken (s t path text s' t' : List ℕ) : Type 0 where
-  pub changed-by : Changed change.Remove s t path text s'
+  pub changed-by : ChangeTaken change.Remove s t path text s'
   pub table : t' ≡ changed t (removed (doneIn change.Remove s t path) (records t))
 
 abbrev pub Taken : Choice → Form → List ℕ → List ℕ → List ℕ → List ℕ → List ℕ → List ℕ → List ℕ → Type 0
@@ -134,9 +134,9 @@ Taken choice (Rule a b p n) s t line tree text s' t' = RuleTaken s t (acceptByte
 Taken choice (Root l) s t line tree text s' t' = RootTaken s t (bytesOf line l) text s' t'
 Taken choice (Child m) s t line tree text s' t' = ChildTaken s t m tree text s' t'
 Taken choice (User n) s t line tree text s' t' = UserTaken s t (bytesOf line n) text s' t'
-Taken choice View s t line tree text s' t' = Asked s t (viewText (viewIn s t)) text s' t'
-Taken choice (Query p) s t line tree text s' t' = PathAsked s t (bytesOf line p) (queryText (hitsOf (marksIn s t (bytesOf line p)) (viewIn s t))) text s' t'
-Taken choice (Find p) s t line tree text s' t' = PathAsked s t (bytesOf line p) (findText (choice (marksIn s t (bytesOf line p)) (viewIn s t))) text s' t'
+Taken choice View s t line tree text s' t' = ReadTaken s t (viewText (viewIn s t)) text s' t'
+Taken choice (Query p) s t line tree text s' t' = QueryTaken s t (bytesOf line p) (queryText (hitsOf (marksIn s t (bytesOf line p)) (viewIn s t))) text s' t'
+Taken choice (Find p) s t line tree text s' t' = QueryTaken s t (bytesOf line p) (findText (choice (marksIn s t (bytesOf line p)) (viewIn s t))) text s' t'
 Taken choice (Rename p l) s t line tree text s' t' = RenameTaken change.Rename s t (bytesOf line p) (bytesOf line l) text s' t'
 Taken choice (Update p l) s t line tree text s' t' = RenameTaken change.Update s t (bytesOf line p) (bytesOf line l) text s' t'
 Taken choice (Append p m) s t line tree text s' t' = InsertTaken place.Append s t (bytesOf line p) m tree text s' t'
@@ -153,14 +153,14 @@ pub record Refused (s t : List ℕ) (o : Outcome) : Type 0 where
   pub is : o ≡ refusal number s t
 
 -- an answer that fits, where L holds of it and of the state and the table afterwards
-pub record Answered (room : ℕ) (L : List ℕ → List ℕ → List ℕ → Type 0) (o : Outcome) : Type 0 where
+pub record Fitting (room : ℕ) (L : List ℕ → List ℕ → List ℕ → Type 0) (o : Outcome) : Type 0 where
   pub text : List ℕ
   pub reply : o .reply ≡ says text
   pub fits : length text ≤ room
   pub taken : L text (o .state) (o .table)
 
 abbrev Either : List ℕ → List ℕ → ℕ → (List ℕ → List ℕ → List ℕ → Type 0) → Outcome → Type 0
-Either s t room L o = Refused s t o ⊎ Answered room L o
+Either s t room L o = Refused s t o ⊎ Fitting room L o
 
 yes : (b : Bool) → not b ≡ false → b ≡ true
 yes true e = refl
@@ -266,11 +266,11 @@ module _ (choice : Choice) (s t line : List ℕ) (room : ℕ) (tree : List ℕ) 
   view-by : By View (stepView s t room)
   unfolding stepView
   view-by =
-      test s t room (λ text s' t'. Asked s t (viewText (viewIn s t)) text s' t') (noUser s) 8 _ λ u.
-      ends s t room (λ text s' t'. Asked s t (viewText (viewIn s t)) text s' t') (viewText (viewIn s t)) s t (record { user = u; answer = refl; state = refl; table = refl })
+      test s t room (λ text s' t'. ReadTaken s t (viewText (viewIn s t)) text s' t') (noUser s) 8 _ λ u.
+      ends s t room (λ text s' t'. ReadTaken s t (viewText (viewIn s t)) text s' t') (viewText (viewIn s t)) s t (record { user = u; answer = refl; state = refl; table = refl })
 
   query-by : (L : List ℕ → List ℕ → List ℕ → Type 0) (path : List ℕ)
-      → ((text s' t' : List ℕ) → PathAsked s t path (queryText (hitsOf (marksIn s t path) (viewIn s t))) text s' t' → L text s' t')
+      → ((text s' t' : List ℕ) → QueryTaken s t path (queryText (hitsOf (marksIn s t path) (viewIn s t))) text s' t' → L text s' t')
       → Either s t room L (stepQuery s t room path)
   unfolding stepQuery
   query-by L path k =
@@ -279,7 +279,7 @@ module _ (choice : Choice) (s t line : List ℕ) (room : ℕ) (tree : List ℕ) 
       ends s t room L _ s t (k _ s t (record { good = g; asked = record { user = u; answer = refl; state = refl; table = refl } }))
 
   find-by : (L : List ℕ → List ℕ → List ℕ → Type 0) (path : List ℕ)
-      → ((text s' t' : List ℕ) → PathAsked s t path (findText (choice (marksIn s t path) (viewIn s t))) text s' t' → L text s' t')
+      → ((text s' t' : List ℕ) → QueryTaken s t path (findText (choice (marksIn s t path) (viewIn s t))) text s' t' → L text s' t')
       → Either s t room L (stepFind choice s t room path)
   unfolding stepFind
   find-by L path k =
@@ -342,7 +342,7 @@ pub record LineTaken (choice : Choice) (s t line text s' t' : List ℕ) : Type 0
   pub taken : Taken choice (readForm line) s t line (recordsOf (treeIn line)) text s' t'
 
 abbrev pub Accepted : Choice → List ℕ → List ℕ → List ℕ → ℕ → Type 0
-Accepted choice s t line room = Answered room (λ text s' t'. LineTaken choice s t line text s' t') (step choice s t line room)
+Accepted choice s t line room = Fitting room (λ text s' t'. LineTaken choice s t line text s' t') (step choice s t line room)
 
 with-line : {room : ℕ} {L K : List ℕ → List ℕ → List ℕ → Type 0} {s t : List ℕ} {o : Outcome} → ((text s' t' : List ℕ) → L text s' t' → K text s' t')
     → Either s t room L o → Either s t room K o

@@ -1,18 +1,17 @@
 -- What the parts of a form that was read are: good labels, one of the five rights, a good tree. Assumes nothing.
 use Prim.Native.Nat.{ℕ, _+_, _-_}
 use mathlib.Core.Path.{_≡_, refl, sym, ap, _∙_}
-use mathlib.Core.Bool.{Bool, true, false}
+use mathlib.Core.Bool.{true, false}
 use mathlib.Core.List.{List, [], _∷_, _++_}
 use native.Mathlib.Omega.{arith}
-use lib.ListN.{length, take, drop}
+use lib.ListN.{length, drop}
 use lib.Seq.{take-append-seam}
 use Rattle.rights.specs.Policy.{Right, bitOf}
 use Rattle.lines.specs.TreeText as text
-use Rattle.lines.specs.TreeText.{GoodLabel, GoodTree, writeTree, nodesOf}
+use Rattle.lines.specs.TreeText.{GoodLabel, GoodTree, nodesOf}
 use Rattle.lines.specs.Form.{part, readForm, treeIn}
 use Rattle.lines.specs.FormText.{Said, subject, isa, rule, root, child, user, view, query, find, rename, update-children, append, before, after, remove, writePiece, GoodPiece, write, Good}
 use Rattle.lines.specs.Line.{isNoForm, bytesOf}
-use Rattle.lines.specs.declared.form.Part.{Part}
 use Rattle.lines.specs.declared.form.Form.{Form}
 use Rattle.lines.specs.declared.form.Form.the-variants.{Subject, Isa, Rule, Root, Child, User, View, Query, Find, Rename, Update, Append, Before, After, Remove, NoForm}
 use Rattle.lines.proofs.TreeWritten.{drop-over}

@@ -3,13 +3,13 @@
 use Prim.Native.Nat.{ℕ, suc, _+_, _≤_, _<_}
 use mathlib.Core.Path.{_≡_, refl, sym, ap, _∙_}
 use mathlib.Core.Bool.{Bool, true, false, Bool·beq}
-use mathlib.Core.List.{List, [], _∷_, _++_}
+use mathlib.Core.List.{List}
 use mathlib.Core.Logic.{_⊎_, inl, inr}
 use native.Mathlib.Omega.{arith}
 use native.Mathlib.Numerals.{add-one}
 use borrow.Author.Tests.{leb-true, leb-false}
 use lib.Dec.{leb, ltb}
-use lib.ListN.{length, getD, take, drop, List·getD-append}
+use lib.ListN.{length, getD, take, List·getD-append}
 use lib.Seq.{getD-take, getD-drop, drop-drop, length-take-le}
 use Rattle.rights.proofs.Facts.{both}
 use Rattle.lines.specs.Answer.{okText}
@@ -17,17 +17,16 @@ use Rattle.lines.specs.AnswerChoice.{Choice}
 use Rattle.lines.specs.Form.{readForm, treeIn}
 use Rattle.lines.specs.PolicyEdit.{stepsIn, withRule, subjectNamed}
 use Rattle.lines.specs.Tree.{recordsOf}
-use Rattle.lines.specs.State.{stageC, stageE, stage, userByte, withStage, withSession, withPolicy, policyBytes, policyIn, storeOk}
+use Rattle.lines.specs.State.{stageC, stageE, stage, userByte, withStage, withSession, withPolicy, policyBytes, policyIn}
 use Rattle.lines.specs.Step.{says, refuses, Outcome}
 use Rattle.lines.specs.Line.{stageOf, inStage, bytesOf, acceptByte, step}
 use Rattle.lines.specs.declared.form.Part.{Part}
 use Rattle.lines.specs.declared.form.Form.{Form}
 use Rattle.lines.specs.declared.form.Form.the-variants.{Subject, Isa, Rule, Root, Child, User, View, Query, Find, Rename, Update, Append, Before, After, Remove, NoForm}
-use Rattle.lines.specs.declared.policy_edit.Found.{Found}
 use Rattle.lines.specs.declared.policy_edit.Found.the-variants as found
-use Rattle.lines.proofs.StateLaws.{Held, store-held}
+use Rattle.lines.proofs.StateLaws.{store-held}
 use Rattle.guarantee.specs.Alike.{UserIs, LogsIn}
-use Rattle.guarantee.proofs.Accepted.{UserTaken, Taken, Refused, Answered, LineTaken, Accepted, line-cases}
+use Rattle.guarantee.proofs.Accepted.{UserTaken, Taken, Refused, LineTaken, Accepted, line-cases}
 
 -- the stages in which a form is taken
 pub stage-reached : (k g : ℕ) → inStage k g ≡ true → g ≤ k

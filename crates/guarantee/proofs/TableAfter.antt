@@ -1,11 +1,10 @@
 -- The table after an accepted line: its length is kept, it passes the check, and its records are those that the form gives. Assumes nothing.
-use Prim.Native.Nat.{ℕ, zero, suc, _+_, _-_, _*_, _≤_, _<_}
-use mathlib.Core.Path.{_≡_, refl, sym, ap, _∙_}
-use mathlib.Core.Bool.{Bool, true, false, not, _&&_, _||_, and-false}
+use Prim.Native.Nat.{ℕ, zero, suc, _+_, _≤_}
+use mathlib.Core.Path.{_≡_, refl, ap, _∙_}
+use mathlib.Core.Bool.{Bool, true, false, and-false}
 use mathlib.Core.List.{List, [], _∷_}
 use native.Mathlib.Omega.{arith}
 use borrow.Author.Tests.{eq-eqb, ltb-false}
-use lib.Dec.{eqb, ltb}
 use lib.ListN.{length}
 use Rattle.rights.specs.Labels.{sameLabel, restricted}
 use Rattle.rights.specs.Policy.{policyWord}
@@ -14,10 +13,10 @@ use Rattle.rights.specs.Table.{count, records, recordsFrom, recordAt, recordOk,
 use Rattle.rights.proofs.Facts.{both}
 use Rattle.rights.proofs.RecordLaws.{length-record}
 use Rattle.rights.proofs.RecordMade.{made-ok}
-use Rattle.views.specs.Marks.{marksOf, marked, eachFrom}
-use Rattle.views.specs.Change.{isDone, later, remove, chunks, placed, removed, relabel, renamed, changed, lower, free}
-use Rattle.views.specs.Done.{Asked, isRoot, does, askedOf, doneMarks}
-use Rattle.views.specs.Nodes.{All, LabelOk}
+use Rattle.views.specs.Marks.{marksOf, eachFrom}
+use Rattle.views.specs.Change.{isDone, remove, placed, removed, relabel, renamed, changed, lower, free}
+use Rattle.views.specs.Done.{Asked, isRoot, does, askedOf}
+use Rattle.views.specs.Nodes.{All}
 use Rattle.views.specs.declared.done.Change.{Change}
 use Rattle.views.specs.declared.done.Change.the-variants as change
 use Rattle.views.specs.declared.insert.Place.{Place}
@@ -29,16 +28,16 @@ use Rattle.views.proofs.Waiting.{length-rename}
 use Rattle.lines.specs.AnswerChoice.{Choice}
 use Rattle.lines.specs.State.{policyIn}
 use Rattle.lines.specs.Step.{rightsIn}
-use Rattle.lines.specs.StepTree.{rootAlone, selectedIn, doneIn, changeAt}
+use Rattle.lines.specs.StepTree.{rootAlone, selectedIn, doneIn}
 use Rattle.lines.specs.Tree.{recordsOf}
 use Rattle.lines.specs.TreeText.{GoodLabel}
 use Rattle.lines.specs.Form.{readForm, treeIn}
 use Rattle.lines.specs.Line.{bytesOf}
 use Rattle.lines.specs.declared.form.Form.{Form}
 use Rattle.lines.specs.declared.form.Form.the-variants.{Subject, Isa, Rule, Root, Child, User, View, Query, Find, Rename, Update, Append, Before, After, Remove, NoForm}
-use Rattle.lines.proofs.StateLaws.{Held, store-held}
+use Rattle.lines.proofs.StateLaws.{store-held}
 use Rattle.lines.proofs.StoredSteps.{or-none}
-use Rattle.guarantee.proofs.Accepted.{RootTaken, Inserted, RenameTaken, InsertTaken, RemoveTaken, Taken, LineTaken}
+use Rattle.guarantee.proofs.Accepted.{RootTaken, Inserted, RenameTaken, RemoveTaken, Taken, LineTaken}
 use Rattle.guarantee.proofs.FormParts.{TreeSaid, PartsGood, parts-good}
 use Rattle.guarantee.proofs.TreeRecords.{tree-ok}
 
