@@ -12,3 +12,4 @@ pub mod TableAfter
 pub mod StoreKept
 pub mod LineLaws
 pub mod RunKept
+pub mod Cases
