@@ -19,3 +19,4 @@ pub mod StoreKept
 pub mod LineLaws
 pub mod RunKept
 pub mod Demand
+pub mod Cases

@@ -1,2 +1,3 @@
 pub mod Alike
 pub mod Identity
+pub mod Cases

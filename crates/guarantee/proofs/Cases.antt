@@ -1,0 +1,137 @@
+-- The starred cases hold. Assumes nothing.
+use Prim.Native.Nat.{ℕ}
+use mathlib.Core.Path.{_≡_, refl, _∙_}
+use mathlib.Core.Bool.{true, not}
+use mathlib.Core.List.{List, [], _∷_, map}
+use lib.ListN.{length, getD, take, drop, set, replicate}
+use Rattle.guarantee.specs.Alike.{Input, outcome}
+use Rattle.guarantee.specs.Cases.{bytes, replies, newState, newTable, Turn, input, Case, Answered, exampleAnswered, exampleRenamed, bracketHolds, bracketCounts, noRules, removal, levels, fewRecords, Starred}
+use Rattle.rights.specs.Bytes.{digitByte, run, all, every}
+use Rattle.rights.specs.Labels.{labelByte, sameLabel}
+use Rattle.rights.specs.Path.{passes}
+use Rattle.rights.specs.PathReader.{readTest, numberOf, isPosition, readPosition, closes, readBrackets, readSteps, brackets, steps, pathOf}
+use Rattle.rights.specs.PathText.{decimal, writeTest}
+use Rattle.rights.specs.Policy.{some, passesOwn, policyWord}
+use Rattle.rights.specs.PolicyBytes.{testOf, namesFrom, isaFrom, stepsFrom, rulesFrom, policyOf}
+use Rattle.rights.specs.PolicyCheck.{signOk, stepOk, bitOk, ruleOk, subjectOk, isaOk, subjectsOk, isasOk, rulesOk, policyOk}
+use Rattle.rights.specs.Record.{recordOf}
+use Rattle.rights.specs.Rights.{isBy, finds as findsIn, decide, rightsBy, chains}
+use Rattle.rights.specs.Nodes.{node, Nodes, levelAt, labelAt}
+use Rattle.rights.specs.Selection.{someFrom, before, above, finds, keeps, selects, selected, marksOf}
+use Rattle.rights.specs.Table.{recordsFrom, recordOk, recordsOk, tableOk}
+use Rattle.views.specs.Shown.{storedFrom, atParent, nearestFirst, shownAfter, keep}
+use Rattle.views.specs.Marks.{eachFrom}
+use Rattle.views.specs.Change.{dropBelow, putBehind, remove, insertBehind, insertInFront, rename, chunks, raise, join, changed, deepest, tooDeep}
+use Rattle.views.specs.Done.{inTable}
+use Rattle.lines.specs.Answer.{okText, hitsOf, hitLines, childLines, viewText}
+use Rattle.lines.specs.AnswerChoice.{Choice}
+use Rattle.lines.specs.Word.{sameText, among, wordAt, signAt, rightAt}
+use Rattle.lines.specs.Part.{pathByte, labelEnd, pathEnd, signEnd, rightEnd}
+use Rattle.lines.specs.Tree.{openEnd, tailEnd, treeEnd, tailNodes, treeNodes, recordsOf}
+use Rattle.lines.specs.Form.{onePart, partsOf, endsIn, readForm, treeIn}
+use Rattle.lines.specs.PolicyEdit.{subjectFrom, subjectNamed, isaHeld, hasBracket, stepList, stepsIn, pathRestricted, stepRecords, withLine}
+use Rattle.lines.specs.Text.{lineByte, lineOk}
+use Rattle.lines.specs.State.{sessionOk, storeOk, policyBytes}
+use Rattle.lines.specs.Step.{Reply, says, refuses, Outcome, refuse, stepView, stepQuery, stepFind, stepUser, stepSubject, stepIsa, stepRule}
+use Rattle.lines.specs.StepTree.{treeRestricted, stepRoot, stepChild, stepRename, stepInsert, stepRemove}
+use Rattle.lines.specs.Line.{stepForm, stepRead, step}
+use Rattle.guarantee.proofs.LineLaws.{step-passed}
+use Rattle.guarantee.proofs.StoreKept.{store-kept}
+
+-- A line from a store that passes: `step` without 13.
+unfoldable passed : Choice → List ℕ → List ℕ → Input → Outcome
+passed choice s t i =
+    refuse (not (lineOk (i .line))) 1 s t (stepRead choice (readForm (i .line)) s t (i .room) (i .line) (recordsOf (treeIn (i .line))))
+
+unfoldable passedReplies : Choice → List ℕ → List ℕ → List Input → List Reply
+passedReplies choice s t [] = []
+passedReplies choice s t (i ∷ is) = passed choice s t i .reply ∷ passedReplies choice (passed choice s t i .state) (passed choice s t i .table) is
+
+-- Every line leaves a store that passes, so in a run from one that passes 13 need not be computed again. This carries the table to `step`.
+carried : (choice : Choice) (s t : List ℕ) (is : List Input) → storeOk s t ≡ true → replies choice s t is ≡ passedReplies choice s t is
+unfolding replies passedReplies passed
+carried choice s t [] p = refl
+carried choice s t (i ∷ is) p =
+    let e : outcome choice s t i ≡ passed choice s t i = step-passed choice s t (i .line) (i .room) p in
+    rw (carried choice (outcome choice s t i .state) (outcome choice s t i .table) is (store-kept choice s t (i .line) (i .room) p), e)
+
+-- a new store passes
+new-passes : storeOk newState (newTable 1024) ≡ true
+unfolding all recordsFrom recordsOk tableOk every subjectsOk isasOk rulesOk policyOk sessionOk storeOk
+new-passes = refl
+
+small-passes : storeOk newState (newTable 10) ≡ true
+unfolding all recordsFrom recordsOk tableOk every subjectsOk isasOk rulesOk policyOk sessionOk storeOk
+small-passes = refl
+
+-- what a row's lines give from its new store, where 13 is not computed
+unfoldable given : Choice → Case → List Reply
+unfolding bytes passedReplies passed digitByte run all labelByte sameLabel passes readTest numberOf isPosition readPosition closes readBrackets readSteps brackets steps pathOf decimal writeTest some passesOwn policyWord testOf namesFrom isaFrom stepsFrom rulesFrom policyOf recordOf isBy findsIn decide rightsBy chains levelAt labelAt someFrom before above finds keeps selects selected marksOf recordsFrom storedFrom atParent nearestFirst shownAfter keep eachFrom dropBelow putBehind remove insertBehind insertInFront rename chunks raise join changed deepest tooDeep inTable hitsOf hitLines childLines viewText sameText among wordAt signAt rightAt pathByte labelEnd pathEnd signEnd rightEnd openEnd tailEnd treeEnd tailNodes treeNodes recordsOf onePart partsOf endsIn readForm treeIn subjectFrom subjectNamed isaHeld hasBracket stepList stepsIn pathRestricted stepRecords withLine lineByte lineOk stepView stepQuery stepFind stepUser stepSubject stepIsa stepRule treeRestricted stepRoot stepChild stepRename stepInsert stepRemove stepForm stepRead
+given choice c = passedReplies choice newState (newTable (c .capacity)) (map input (c .turns))
+
+abbrev Gives : Choice → Case → Type 0
+Gives choice c = given choice c ≡ map (λ x. x .reply) (c .turns)
+
+example-answered : (choice : Choice) → Gives choice exampleAnswered
+unfolding given
+example-answered choice = refl
+
+example-renamed : (choice : Choice) → Gives choice exampleRenamed
+unfolding given
+example-renamed choice = refl
+
+bracket-holds : (choice : Choice) → Gives choice bracketHolds
+unfolding given
+bracket-holds choice = refl
+
+bracket-counts : (choice : Choice) → Gives choice bracketCounts
+unfolding given
+bracket-counts choice = refl
+
+no-rules : (choice : Choice) → Gives choice noRules
+unfolding given
+no-rules choice = refl
+
+removal-done : (choice : Choice) → Gives choice removal
+unfolding given
+removal-done choice = refl
+
+levels-kept : (choice : Choice) → Gives choice levels
+unfolding given
+levels-kept choice = refl
+
+few-records : (choice : Choice) → Gives choice fewRecords
+unfolding given
+few-records choice = refl
+
+answered : (choice : Choice) (c : Case) → storeOk newState (newTable (c .capacity)) ≡ true → Gives choice c → Answered choice c
+unfolding given
+answered choice c p e = carried choice newState (newTable (c .capacity)) (map input (c .turns)) p ∙ e
+
+-- ★ The starred cases of document 01.
+pub starred : Starred
+starred choice = (
+  answered choice exampleAnswered new-passes (example-answered choice),
+  (
+    answered choice exampleRenamed new-passes (example-renamed choice),
+    (
+      answered choice bracketHolds new-passes (bracket-holds choice),
+      (
+        answered choice bracketCounts new-passes (bracket-counts choice),
+        (
+          answered choice noRules new-passes (no-rules choice),
+          (
+            answered choice removal new-passes (removal-done choice),
+            (
+              answered choice levels new-passes (levels-kept choice),
+              (
+                answered choice fewRecords small-passes (few-records choice),
+                tt,
+              ),
+            ),
+          ),
+        ),
+      ),
+    ),
+  ),
+)

@@ -1,0 +1,214 @@
+-- The starred cases of document 01 ("Cases (★ proved)") as one table. Each row is a run from a new store: lines as they are typed, each with what it must be answered.
+-- The rows go through `step` on the lines' bytes. The theorem stands in proofs/Cases.antt; it assumes nothing.
+use Prim.Native.Nat.{ℕ, _+_, _*_}
+use Prim.Native.String.{String, [] as empty, _∷_ as _then_}
+use Prim.Native.Char.{code}
+use mathlib.Core.Path.{_≡_}
+use mathlib.Core.List.{List, [], _∷_, _++_, map}
+use lib.ListN.{replicate}
+use Rattle.views.specs.Nodes.{All}
+use Rattle.lines.specs.AnswerChoice.{Choice}
+use Rattle.lines.specs.Step.{Reply, says, refuses}
+use Rattle.guarantee.specs.Alike.{Input, outcome}
+
+-- the bytes of a text in ASCII
+unfoldable pub bytes : String → List ℕ
+bytes empty = []
+bytes (c then s) = code c ∷ bytes s
+
+-- the replies to lines, each on the state and the table that the one before it left
+unfoldable pub replies : Choice → List ℕ → List ℕ → List Input → List Reply
+replies choice s t [] = []
+replies choice s t (i ∷ is) = outcome choice s t i .reply ∷ replies choice (outcome choice s t i .state) (outcome choice s t i .table) is
+
+-- the state, and a table of n records, before the first line
+abbrev pub newState : List ℕ
+newState = replicate 68880 0
+
+abbrev pub newTable : ℕ → List ℕ
+newTable n = replicate (4 + n * 32) 0
+
+-- a line as it is typed, and its reply: an answer, in which each line ends with a line feed, or the number of a refusal
+pub record Turn : Type 0 where
+  pub line : String
+  pub reply : Reply
+
+abbrev pub _gives_ : String → String → Turn
+_gives_ l b = record { line = l; reply = says (bytes b) }
+
+abbrev pub _refused_ : String → ℕ → Turn
+_refused_ l n = record { line = l; reply = refuses n }
+
+infix 80 _gives_
+infix 80 _refused_
+abbrev pub ok : String → Turn
+ok l = l gives "(ok)\n"
+
+-- the program's area has 65,536 bytes
+abbrev pub input : Turn → Input
+input x = record { line = bytes (x .line); room = 65536 }
+
+-- a row: how many records the table has, and the turns
+pub record Case : Type 0 where
+  pub capacity : ℕ
+  pub turns : List Turn
+
+-- the lines of a row give exactly the replies that stand beside them
+abbrev pub Answered : Choice → Case → Type 0
+Answered choice c = replies choice newState (newTable (c .capacity)) (map input (c .turns)) ≡ map (λ x. x .reply) (c .turns)
+
+-- the example's first ten lines
+abbrev pub example : List Turn
+example =
+    ok "(subject staff)"
+    ∷ ok "(subject SHA)"
+    ∷ ok "(isa SHA staff)"
+    ∷ ok "(rule accept read //* staff)"
+    ∷ ok "(rule deny read //note/* staff)"
+    ∷ ok "(rule accept position //note/* staff)"
+    ∷ ok "(rule accept update //room/* staff)"
+    ∷ ok "(root school)"
+    ∷ ok "(child (mon (lesson (class (10B)) (room (R12)) (note (ill)))))"
+    ∷ ok "(user SHA)"
+    ∷ []
+
+-- "★ The first view above. ★ Its update. ★ Its last rename."
+abbrev pub exampleAnswered : Case
+exampleAnswered =
+    record {
+      capacity = 1024;
+      turns =
+          example
+          ++ ("(view)" gives "(root school)\n(child (mon (lesson (class (10B)) (room (R12)) (note (RESTRICTED)))))\n(end 9)\n"
+          ∷ "(update //room R14)" gives "(done 1 1)\n"
+          ∷ "(query //lesson/*)" gives "(hit 3 class)\n(hit 3 room)\n(hit 3 note)\n(end 3)\n"
+          ∷ "(rename //note/* cold)" gives "(done 1 0)\n"
+          ∷ []);
+    }
+
+-- "★ In the example `(rename //class note)`: 9. ★ `(rename //room hall)`: done 1 0."
+abbrev pub exampleRenamed : Case
+exampleRenamed =
+    record { capacity = 1024; turns = example ++ ("(rename //class note)" refused 9 ∷ "(rename //room hall)" gives "(done 1 0)\n" ∷ []) }
+
+-- "★ Root `a`, child `(c (a (b)))`: `//a[b]` selects only the `a` at level 2."
+abbrev pub bracketHolds : Case
+bracketHolds =
+    record {
+      capacity = 1024;
+      turns =
+          ok "(subject s)"
+          ∷ ok "(rule accept read //* s)"
+          ∷ ok "(root a)"
+          ∷ ok "(child (c (a (b))))"
+          ∷ ok "(user s)"
+          ∷ "(query //a[b])" gives "(hit 2 a)\n(end 1)\n"
+          ∷ [];
+    }
+
+-- "★ Root `r`, children `(a)`, `(b)`: `//*[1]` selects `r` and `a`."
+abbrev pub bracketCounts : Case
+bracketCounts =
+    record {
+      capacity = 1024;
+      turns =
+          ok "(subject s)"
+          ∷ ok "(rule accept read //* s)"
+          ∷ ok "(root r)"
+          ∷ ok "(child (a))"
+          ∷ ok "(child (b))"
+          ∷ ok "(user s)"
+          ∷ "(query //*[1])" gives "(hit 0 r)\n(hit 1 a)\n(end 2)\n"
+          ∷ [];
+    }
+
+-- "★ A subject with no rules: `(end 0)` for view and for `//*`."
+abbrev pub noRules : Case
+noRules =
+    record {
+      capacity = 1024;
+      turns =
+          ok "(subject s)"
+          ∷ ok "(subject other)"
+          ∷ ok "(rule accept read //* other)"
+          ∷ ok "(root r)"
+          ∷ ok "(child (a))"
+          ∷ ok "(user s)"
+          ∷ "(view)" gives "(end 0)\n"
+          ∷ "(query //*)" gives "(end 0)\n"
+          ∷ [];
+    }
+
+-- "★ `(remove /school)` with delete on it: done 1 0. ★ Remove of `lesson` with delete: done 1 1, `ill` gone too." The subject all reads every node.
+abbrev pub removal : Case
+removal =
+    record {
+      capacity = 1024;
+      turns =
+          ok "(subject staff)"
+          ∷ ok "(subject all)"
+          ∷ ok "(rule accept read //* staff)"
+          ∷ ok "(rule deny read //note/* staff)"
+          ∷ ok "(rule accept delete /school staff)"
+          ∷ ok "(rule accept delete //lesson staff)"
+          ∷ ok "(rule accept read //* all)"
+          ∷ ok "(root school)"
+          ∷ ok "(child (mon (lesson (class (10B)) (room (R12)) (note (ill)))))"
+          ∷ ok "(user staff)"
+          ∷ "(remove /school)" gives "(done 1 0)\n"
+          ∷ "(query //ill)" gives "(end 0)\n"
+          ∷ ok "(user all)"
+          ∷ "(query //ill)" gives "(hit 4 ill)\n(end 1)\n"
+          ∷ ok "(user staff)"
+          ∷ "(remove //lesson)" gives "(done 1 1)\n"
+          ∷ ok "(user all)"
+          ∷ "(view)" gives "(root school)\n(child (mon))\n(end 2)\n"
+          ∷ [];
+    }
+
+-- "★ One node appended below level 10 fits; below level 11: 10."
+abbrev pub levels : Case
+levels =
+    record {
+      capacity = 1024;
+      turns =
+          ok "(subject s)"
+          ∷ ok "(rule accept read //* s)"
+          ∷ ok "(rule accept insert //* s)"
+          ∷ ok "(root a)"
+          ∷ ok "(child (b (c (d (e (f))))))"
+          ∷ ok "(user s)"
+          ∷ "(append //f (g (h (i (j (k))))))" gives "(done 1 1)\n"
+          ∷ "(query //k)" gives "(hit 10 k)\n(end 1)\n"
+          ∷ "(append //k (l))" gives "(done 1 1)\n"
+          ∷ "(query //l)" gives "(hit 11 l)\n(end 1)\n"
+          ∷ "(append //l (m))" refused 10
+          ∷ "(query //m)" gives "(end 0)\n"
+          ∷ [];
+    }
+
+-- "★ 10 records, 9 used, a tree of one node: one place is done; two places: 11, none inserted."
+abbrev pub fewRecords : Case
+fewRecords =
+    record {
+      capacity = 10;
+      turns =
+          ok "(subject s)"
+          ∷ ok "(rule accept read //* s)"
+          ∷ ok "(rule accept insert //* s)"
+          ∷ ok "(root r)"
+          ∷ ok "(child (a (b) (b) (c) (d) (e) (f) (g)))"
+          ∷ ok "(user s)"
+          ∷ "(append //b (x))" refused 11
+          ∷ "(view)" gives "(root r)\n(child (a (b) (b) (c) (d) (e) (f) (g)))\n(end 9)\n"
+          ∷ "(append //c (x))" gives "(done 1 1)\n"
+          ∷ "(view)" gives "(root r)\n(child (a (b) (b) (c (x)) (d) (e) (f) (g)))\n(end 10)\n"
+          ∷ [];
+    }
+
+-- The table, and what is claimed of it: every row is answered so, at every choice of `find`.
+abbrev pub cases : List Case
+cases = exampleAnswered ∷ exampleRenamed ∷ bracketHolds ∷ bracketCounts ∷ noRules ∷ removal ∷ levels ∷ fewRecords ∷ []
+
+abbrev pub Starred : Type 0
+Starred = (choice : Choice) → All (Answered choice) cases
