@@ -23,14 +23,14 @@ use Rattle.views.specs.Shown.{storedFrom, atParent, nearestFirst, shownAfter, k
 use Rattle.views.specs.Marks.{eachFrom}
 use Rattle.views.specs.Change.{dropBelow, putBehind, remove, insertBehind, insertInFront, rename, chunks, raise, join, changed, deepest, tooDeep}
 use Rattle.views.specs.Done.{inTable}
-use Rattle.lines.specs.Answer.{okText, hitsOf, hitLines, childLines, viewText}
-use Rattle.lines.specs.AnswerChoice.{Choice}
-use Rattle.lines.specs.Word.{sameText, among, wordAt, signAt, rightAt}
-use Rattle.lines.specs.Part.{pathByte, labelEnd, pathEnd, signEnd, rightEnd}
-use Rattle.lines.specs.Tree.{openEnd, tailEnd, treeEnd, tailNodes, treeNodes, recordsOf}
-use Rattle.lines.specs.Form.{onePart, partsOf, endsIn, readForm, treeIn}
+use Rattle.answers.specs.Answer.{okText, hitsOf, hitLines, childLines, viewText}
+use Rattle.answers.specs.AnswerChoice.{Choice}
+use Rattle.forms.specs.Word.{sameText, among, wordAt, signAt, rightAt}
+use Rattle.forms.specs.Part.{pathByte, labelEnd, pathEnd, signEnd, rightEnd}
+use Rattle.forms.specs.Tree.{openEnd, tailEnd, treeEnd, tailNodes, treeNodes, recordsOf}
+use Rattle.forms.specs.Form.{onePart, partsOf, endsIn, readForm, treeIn}
 use Rattle.lines.specs.PolicyEdit.{subjectFrom, subjectNamed, isaHeld, hasBracket, stepList, stepsIn, pathRestricted, stepRecords, withLine}
-use Rattle.lines.specs.Text.{lineByte, lineOk}
+use Rattle.forms.specs.Text.{lineByte, lineOk}
 use Rattle.lines.specs.State.{sessionOk, storeOk, policyBytes}
 use Rattle.lines.specs.Step.{Reply, says, refuses, Outcome, refuse, stepView, stepQuery, stepFind, stepUser, stepSubject, stepIsa, stepRule}
 use Rattle.lines.specs.StepTree.{treeRestricted, stepRoot, stepChild, stepRename, stepInsert, stepRemove}

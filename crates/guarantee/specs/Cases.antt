@@ -7,7 +7,7 @@ use mathlib.Core.Path.{_≡_}
 use mathlib.Core.List.{List, [], _∷_, _++_, map}
 use lib.ListN.{replicate}
 use Rattle.views.specs.Nodes.{All}
-use Rattle.lines.specs.AnswerChoice.{Choice}
+use Rattle.answers.specs.AnswerChoice.{Choice}
 use Rattle.lines.specs.Step.{Reply, says, refuses}
 use Rattle.guarantee.specs.Alike.{Input, outcome}
 
