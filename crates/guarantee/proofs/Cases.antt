@@ -1,11 +1,11 @@
--- The starred cases hold. Assumes nothing.
+-- The starred cases of document 01, computed on the bytes of state, table and lines (specs/Cases.antt). Assumes nothing.
 use Prim.Native.Nat.{ℕ}
 use mathlib.Core.Path.{_≡_, refl, _∙_}
 use mathlib.Core.Bool.{true, not}
 use mathlib.Core.List.{List, [], _∷_, map}
-use lib.ListN.{length, getD, take, drop, set, replicate}
 use Rattle.guarantee.specs.Alike.{Input, outcome}
-use Rattle.guarantee.specs.Cases.{bytes, replies, newState, newTable, Turn, input, Case, Answered, exampleAnswered, exampleRenamed, bracketHolds, bracketCounts, noRules, removal, levels, fewRecords, Starred}
+use Rattle.guarantee.specs.Cases.{bytes, replies, newState, newTable, input, Case, Answered, Starred}
+use Rattle.guarantee.specs.Cases.{exampleAnswered, exampleRenamed, bracketHolds, bracketCounts, noRules, rootRemoved, lessonRemoved, levels, fewRecords}
 use Rattle.rights.specs.Bytes.{digitByte, run, all, every}
 use Rattle.rights.specs.Labels.{labelByte, sameLabel}
 use Rattle.rights.specs.Path.{passes}
@@ -13,17 +13,17 @@ use Rattle.rights.specs.PathReader.{readTest, numberOf, isPosition, readPositio
 use Rattle.rights.specs.PathText.{decimal, writeTest}
 use Rattle.rights.specs.Policy.{some, passesOwn, policyWord}
 use Rattle.rights.specs.PolicyBytes.{testOf, namesFrom, isaFrom, stepsFrom, rulesFrom, policyOf}
-use Rattle.rights.specs.PolicyCheck.{signOk, stepOk, bitOk, ruleOk, subjectOk, isaOk, subjectsOk, isasOk, rulesOk, policyOk}
+use Rattle.rights.specs.PolicyCheck.{subjectsOk, isasOk, rulesOk, policyOk}
 use Rattle.rights.specs.Record.{recordOf}
 use Rattle.rights.specs.Rights.{isBy, finds as findsIn, decide, rightsBy, chains}
-use Rattle.rights.specs.Nodes.{node, Nodes, levelAt, labelAt}
+use Rattle.rights.specs.Nodes.{levelAt, labelAt}
 use Rattle.rights.specs.Selection.{someFrom, before, above, finds, keeps, selects, selected, marksOf}
-use Rattle.rights.specs.Table.{recordsFrom, recordOk, recordsOk, tableOk}
+use Rattle.rights.specs.Table.{recordsFrom, recordsOk, tableOk}
 use Rattle.views.specs.Shown.{storedFrom, atParent, nearestFirst, shownAfter, keep}
 use Rattle.views.specs.Marks.{eachFrom}
-use Rattle.views.specs.Change.{dropBelow, putBehind, remove, insertBehind, insertInFront, rename, chunks, raise, join, changed, deepest, tooDeep}
+use Rattle.views.specs.Change.{dropBelow, putBehind, remove, insertBehind, rename, chunks, raise, join, changed, deepest, tooDeep}
 use Rattle.views.specs.Done.{inTable}
-use Rattle.answers.specs.Answer.{okText, hitsOf, hitLines, childLines, viewText}
+use Rattle.answers.specs.Answer.{hitsOf, hitLines, childLines, viewText}
 use Rattle.answers.specs.AnswerChoice.{Choice}
 use Rattle.forms.specs.Word.{sameText, among, wordAt, signAt, rightAt}
 use Rattle.forms.specs.Part.{pathByte, labelEnd, pathEnd, signEnd, rightEnd}
@@ -31,10 +31,10 @@ use Rattle.forms.specs.Tree.{openEnd, tailEnd, treeEnd, tailNodes, treeNodes, r
 use Rattle.forms.specs.Form.{onePart, partsOf, endsIn, readForm, treeIn}
 use Rattle.lines.specs.PolicyEdit.{subjectFrom, subjectNamed, isaHeld, hasBracket, stepList, stepsIn, pathRestricted, stepRecords, withLine}
 use Rattle.forms.specs.Text.{lineByte, lineOk}
-use Rattle.lines.specs.State.{sessionOk, storeOk, policyBytes}
-use Rattle.lines.specs.Step.{Reply, says, refuses, Outcome, refuse, stepView, stepQuery, stepFind, stepUser, stepSubject, stepIsa, stepRule}
+use Rattle.lines.specs.State.{sessionOk, storeOk}
+use Rattle.lines.specs.Step.{Reply, Outcome, refuse, stepView, stepQuery, stepUser, stepSubject, stepIsa, stepRule}
 use Rattle.lines.specs.StepTree.{treeRestricted, stepRoot, stepChild, stepRename, stepInsert, stepRemove}
-use Rattle.lines.specs.Line.{stepForm, stepRead, step}
+use Rattle.lines.specs.Line.{stepForm, stepRead}
 use Rattle.guarantee.proofs.LineLaws.{step-passed}
 use Rattle.guarantee.proofs.StoreKept.{store-kept}
 
@@ -64,9 +64,9 @@ small-passes : storeOk newState (newTable 10) ≡ true
 unfolding all recordsFrom recordsOk tableOk every subjectsOk isasOk rulesOk policyOk sessionOk storeOk
 small-passes = refl
 
--- what a row's lines give from its new store, where 13 is not computed
+-- what the lines of a row give from a new store, where 13 is not computed
 unfoldable given : Choice → Case → List Reply
-unfolding bytes passedReplies passed digitByte run all labelByte sameLabel passes readTest numberOf isPosition readPosition closes readBrackets readSteps brackets steps pathOf decimal writeTest some passesOwn policyWord testOf namesFrom isaFrom stepsFrom rulesFrom policyOf recordOf isBy findsIn decide rightsBy chains levelAt labelAt someFrom before above finds keeps selects selected marksOf recordsFrom storedFrom atParent nearestFirst shownAfter keep eachFrom dropBelow putBehind remove insertBehind insertInFront rename chunks raise join changed deepest tooDeep inTable hitsOf hitLines childLines viewText sameText among wordAt signAt rightAt pathByte labelEnd pathEnd signEnd rightEnd openEnd tailEnd treeEnd tailNodes treeNodes recordsOf onePart partsOf endsIn readForm treeIn subjectFrom subjectNamed isaHeld hasBracket stepList stepsIn pathRestricted stepRecords withLine lineByte lineOk stepView stepQuery stepFind stepUser stepSubject stepIsa stepRule treeRestricted stepRoot stepChild stepRename stepInsert stepRemove stepForm stepRead
+unfolding bytes passedReplies passed digitByte run all labelByte sameLabel passes readTest numberOf isPosition readPosition closes readBrackets readSteps brackets steps pathOf decimal writeTest some passesOwn policyWord testOf namesFrom isaFrom stepsFrom rulesFrom policyOf recordOf isBy findsIn decide rightsBy chains levelAt labelAt someFrom before above finds keeps selects selected marksOf recordsFrom storedFrom atParent nearestFirst shownAfter keep eachFrom dropBelow putBehind remove insertBehind rename chunks raise join changed deepest tooDeep inTable hitsOf hitLines childLines viewText sameText among wordAt signAt rightAt pathByte labelEnd pathEnd signEnd rightEnd openEnd tailEnd treeEnd tailNodes treeNodes recordsOf onePart partsOf endsIn readForm treeIn subjectFrom subjectNamed isaHeld hasBracket stepList stepsIn pathRestricted stepRecords withLine lineByte lineOk stepView stepQuery stepUser stepSubject stepIsa stepRule treeRestricted stepRoot stepChild stepRename stepInsert stepRemove stepForm stepRead
 given choice c = passedReplies choice newState (newTable (c .capacity)) (map input (c .turns))
 
 abbrev Gives : Choice → Case → Type 0
@@ -92,13 +92,17 @@ no-rules : (choice : Choice) → Gives choice noRules
 unfolding given
 no-rules choice = refl
 
-removal-done : (choice : Choice) → Gives choice removal
+root-removed : (choice : Choice) → Gives choice rootRemoved
 unfolding given
-removal-done choice = refl
+root-removed choice = refl
 
-levels-kept : (choice : Choice) → Gives choice levels
+lesson-removed : (choice : Choice) → Gives choice lessonRemoved
 unfolding given
-levels-kept choice = refl
+lesson-removed choice = refl
+
+levels-given : (choice : Choice) → Gives choice levels
+unfolding given
+levels-given choice = refl
 
 few-records : (choice : Choice) → Gives choice fewRecords
 unfolding given
@@ -108,30 +112,20 @@ answered : (choice : Choice) (c : Case) → storeOk newState (newTable (c .capac
 unfolding given
 answered choice c p e = carried choice newState (newTable (c .capacity)) (map input (c .turns)) p ∙ e
 
--- ★ The starred cases of document 01.
+abbrev _and_ : {A B : Type 0} → A → B → A × B
+_and_ a b = (a, b)
+
+infixr 3 _and_
+-- ★ Every row of the table.
 pub starred : Starred
-starred choice = (
-  answered choice exampleAnswered new-passes (example-answered choice),
-  (
-    answered choice exampleRenamed new-passes (example-renamed choice),
-    (
-      answered choice bracketHolds new-passes (bracket-holds choice),
-      (
-        answered choice bracketCounts new-passes (bracket-counts choice),
-        (
-          answered choice noRules new-passes (no-rules choice),
-          (
-            answered choice removal new-passes (removal-done choice),
-            (
-              answered choice levels new-passes (levels-kept choice),
-              (
-                answered choice fewRecords small-passes (few-records choice),
-                tt,
-              ),
-            ),
-          ),
-        ),
-      ),
-    ),
-  ),
-)
+starred choice =
+    answered choice exampleAnswered new-passes (example-answered choice)
+    and answered choice exampleRenamed new-passes (example-renamed choice)
+    and answered choice bracketHolds new-passes (bracket-holds choice)
+    and answered choice bracketCounts new-passes (bracket-counts choice)
+    and answered choice noRules new-passes (no-rules choice)
+    and answered choice rootRemoved new-passes (root-removed choice)
+    and answered choice lessonRemoved new-passes (lesson-removed choice)
+    and answered choice levels new-passes (levels-given choice)
+    and answered choice fewRecords small-passes (few-records choice)
+    and tt

@@ -139,31 +139,45 @@ noRules =
           ∷ [];
     }
 
--- "★ `(remove /school)` with delete on it: done 1 0. ★ Remove of `lesson` with delete: done 1 1, `ill` gone too." The subject all reads every node.
-abbrev pub removal : Case
-removal =
+-- the example's tree, where staff may delete the root and the lesson and does not see `ill`, and the subject all reads every node
+abbrev pub removers : List Turn
+removers =
+    ok "(subject staff)"
+    ∷ ok "(subject all)"
+    ∷ ok "(rule accept read //* staff)"
+    ∷ ok "(rule deny read //note/* staff)"
+    ∷ ok "(rule accept delete /school staff)"
+    ∷ ok "(rule accept delete //lesson staff)"
+    ∷ ok "(rule accept read //* all)"
+    ∷ ok "(root school)"
+    ∷ ok "(child (mon (lesson (class (10B)) (room (R12)) (note (ill)))))"
+    ∷ ok "(user staff)"
+    ∷ []
+
+-- "★ `(remove /school)` with delete on it: done 1 0."
+abbrev pub rootRemoved : Case
+rootRemoved =
     record {
       capacity = 1024;
       turns =
-          ok "(subject staff)"
-          ∷ ok "(subject all)"
-          ∷ ok "(rule accept read //* staff)"
-          ∷ ok "(rule deny read //note/* staff)"
-          ∷ ok "(rule accept delete /school staff)"
-          ∷ ok "(rule accept delete //lesson staff)"
-          ∷ ok "(rule accept read //* all)"
-          ∷ ok "(root school)"
-          ∷ ok "(child (mon (lesson (class (10B)) (room (R12)) (note (ill)))))"
-          ∷ ok "(user staff)"
-          ∷ "(remove /school)" gives "(done 1 0)\n"
+          removers
+          ++ ("(remove /school)" gives "(done 1 0)\n"
+          ∷ "(view)" gives "(root school)\n(child (mon (lesson (class (10B)) (room (R12)) (note))))\n(end 8)\n"
+          ∷ []);
+    }
+
+-- "★ Remove of `lesson` with delete: done 1 1, `ill` gone too."
+abbrev pub lessonRemoved : Case
+lessonRemoved =
+    record {
+      capacity = 1024;
+      turns =
+          removers
+          ++ ("(remove //lesson)" gives "(done 1 1)\n"
+          ∷ ok "(user all)"
           ∷ "(query //ill)" gives "(end 0)\n"
-          ∷ ok "(user all)"
-          ∷ "(query //ill)" gives "(hit 4 ill)\n(end 1)\n"
-          ∷ ok "(user staff)"
-          ∷ "(remove //lesson)" gives "(done 1 1)\n"
-          ∷ ok "(user all)"
           ∷ "(view)" gives "(root school)\n(child (mon))\n(end 2)\n"
-          ∷ [];
+          ∷ []);
     }
 
 -- "★ One node appended below level 10 fits; below level 11: 10."
@@ -208,7 +222,7 @@ fewRecords =
 
 -- The table, and what is claimed of it: every row is answered so, at every choice of `find`.
 abbrev pub cases : List Case
-cases = exampleAnswered ∷ exampleRenamed ∷ bracketHolds ∷ bracketCounts ∷ noRules ∷ removal ∷ levels ∷ fewRecords ∷ []
+cases = exampleAnswered ∷ exampleRenamed ∷ bracketHolds ∷ bracketCounts ∷ noRules ∷ rootRemoved ∷ lessonRemoved ∷ levels ∷ fewRecords ∷ []
 
 abbrev pub Starred : Type 0
 Starred = (choice : Choice) → All (Answered choice) cases
