@@ -7,6 +7,7 @@ pub mod part;
 pub mod policy_edit;
 pub mod policy_lines;
 pub mod queries;
+pub mod reader;
 pub mod session;
 pub mod state;
 pub mod text;
