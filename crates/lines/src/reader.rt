@@ -1,6 +1,6 @@
 // A line is read left to right from a place that only moves on (document 01, "Lines"). The reader holds the line and its place in it. A thin function for each
-// part takes the part: it leaves the work to a function on slice and place, and hands the reader back, moved on. Above it stands a function on slice and place,
-// by which a form's reader takes that part.
+// part takes the part: it leaves the work to a function on slice and place, and hands the reader back, moved on. Where no such part stands, the reader stays.
+// Above it stands a function on slice and place, the only way by which a form's reader takes that part.
 use crate::part::label_part_end;
 use crate::part::path_part_end;
 use crate::tree::tree_end;
@@ -16,8 +16,8 @@ ghost use Rattle.lines.specs.Tree.{treeEnd};
 ghost use Rattle.lines.specs.Reader.{Takes, placeAfter, movedTo};
 
 pub struct LineReader<'a> {
-    pub line: &'a [u8],
-    pub at: usize,
+    line: &'a [u8],
+    at: usize,
 }
 
 // The place after what was read from `from` on; `from` itself if nothing was.
@@ -69,14 +69,14 @@ fn after_tree(s: &[u8], at: usize) -> usize
     place_after(at, tree_end(s, at))
 }
 
-pub fn reader_at<'a>(line: &'a [u8], at: usize) -> LineReader<'a>
+fn reader_at<'a>(line: &'a [u8], at: usize) -> LineReader<'a>
     ensures { λ r. ⌜ (r .line ≡ line .entry) × (r .at ≡ at) ⌝ }
 {
     LineReader { line, at }
 }
 
 // Takes a word.
-pub fn take_word<'a>(r: LineReader<'a>) -> LineReader<'a>
+fn take_word<'a>(r: LineReader<'a>) -> LineReader<'a>
     requires { ⌜ r .at ≤ length (now (r .line)) ⌝ }
     ensures { λ q. ⌜ (q .line ≡ r .entry .line) × Ends labelByte (now (r .entry .line)) (r .entry .at) (q .at) ⌝ }
 {
@@ -85,7 +85,7 @@ pub fn take_word<'a>(r: LineReader<'a>) -> LineReader<'a>
 }
 
 // Takes a label, which may be a subject's name.
-pub fn take_label<'a>(r: LineReader<'a>) -> LineReader<'a>
+fn take_label<'a>(r: LineReader<'a>) -> LineReader<'a>
     requires { ⌜ r .at ≤ length (now (r .line)) ⌝ }
     ensures { λ q. ⌜ (q .line ≡ r .entry .line) × Takes (labelEnd (now (r .entry .line)) (r .entry .at)) (r .entry .at) (q .at) (length (now (r .entry .line))) ⌝ }
 {
@@ -94,7 +94,7 @@ pub fn take_label<'a>(r: LineReader<'a>) -> LineReader<'a>
 }
 
 // Takes a run that passes as a path.
-pub fn take_path<'a>(r: LineReader<'a>) -> LineReader<'a>
+fn take_path<'a>(r: LineReader<'a>) -> LineReader<'a>
     requires { ⌜ r .at ≤ length (now (r .line)) ⌝ }
     ensures { λ q. ⌜ (q .line ≡ r .entry .line) × Takes (pathEnd (now (r .entry .line)) (r .entry .at)) (r .entry .at) (q .at) (length (now (r .entry .line))) ⌝ }
 {
@@ -103,7 +103,7 @@ pub fn take_path<'a>(r: LineReader<'a>) -> LineReader<'a>
 }
 
 // Takes a tree.
-pub fn take_tree<'a>(r: LineReader<'a>) -> LineReader<'a>
+fn take_tree<'a>(r: LineReader<'a>) -> LineReader<'a>
     requires { ⌜ r .at ≤ length (now (r .line)) ⌝ }
     ensures { λ q. ⌜ (q .line ≡ r .entry .line) × Takes (treeEnd (now (r .entry .line)) (r .entry .at)) (r .entry .at) (q .at) (length (now (r .entry .line))) ⌝ }
 {
