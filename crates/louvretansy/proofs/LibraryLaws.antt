@@ -1,11 +1,11 @@
 -- Lengths and refusals as the numbers returned. Assumes nothing.
-use Prim.Native.Nat.{ℕ, zero, suc, _+_, _*_, _^_, _≤_, _<_}
+use Prim.Native.Nat.{ℕ, zero, suc, _^_, _<_}
 use mathlib.Core.Bool.{true}
-use mathlib.Core.Path.{_≡_, refl, sym, ap, subst, _∙_}
+use mathlib.Core.Path.{_≡_, sym, ap, subst, _∙_}
 use mathlib.Core.List.{List}
 use native.Mathlib.Omega.{arith}
-use lib.IntN.{ℤ, pos, negsuc, negℤ, _-ℤ_, +ℤ-idl}
-use lib.ListN.{length, drop, length-append}
+use lib.IntN.{ℤ, pos, negℤ, _-ℤ_, +ℤ-idl}
+use lib.ListN.{length}
 use lib.Signed.{mag}
 use mir.Facts.{toZ-pos, toZ-ofZ}
 use mir.Syntax.{w64}
@@ -13,19 +13,11 @@ use mir.Val.{SFits, toZ, ofZ}
 use Rattle.lines.specs.declared.line.Answer.{Answer}
 use Rattle.lines.specs.declared.line.Answer.the-variants.{Accepted, Refused}
 use Rattle.lines.specs.State.{storeOk}
+use Rattle.lines.specs.Step.{Reply, says, refuses, Outcome, Made, answerOf}
 use Rattle.lines.proofs.StateLaws.{store-held}
-use Rattle.lines.specs.Step.{Reply, says, refuses, Outcome, Made, answerOf, areaAfter}
 use Rattle.louvretansy.specs.Library.{stateBytes, numberOf, Returned}
 
--- an accepted line's answer lies within the area
-pub accepted-within : {o : Outcome} {before s' t' after : List ℕ} {r : Answer} {n : ℕ} → Made o before r s' t' after → r ≡ Accepted n → n ≤ length after
-accepted-within {o} {before} {s'} {t'} {after} {r} {n} m e = go (o .reply) (sym e ∙ m .answer) (m .area)
-  where
-    go : (p : Reply) → Accepted n ≡ answerOf p → after ≡ areaAfter p before → n ≤ length after
-    go (says b) q a = let z : n ≡ length b = cc in omega (arith, ap length a, length-append b (drop (length b) before))
-    go (refuses k) q a = let z : _≡_ {A = ℕ} 0 1 = cc in absurd (omega arith)
-
--- a small number is a length that 64 bits hold, with a sign
+-- a length that fits an area is one that 64 bits with a sign hold
 pub length-fits : {n : ℕ} → n < 2 ^ 63 → SFits w64 (pos n)
 length-fits h = record { sfits = h }
 

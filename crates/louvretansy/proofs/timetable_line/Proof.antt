@@ -1,5 +1,6 @@
 use native.Mathlib.Omega.{arith}
-use Rattle.louvretansy.proofs.LibraryLaws.{accepted-within, length-fits, accepted, turned-down}
+use Rattle.lines.proofs.AnswerRoom.{accepted-within}
+use Rattle.louvretansy.proofs.LibraryLaws.{length-fits, accepted, turned-down}
 use borrow.Author.Needs.{needs}
 use Rattle.louvretansy.proofs.timetable_line.Statement.{statement}
 use Rattle.louvretansy.proofs.timetable_line.Tie as tie
