@@ -1,17 +1,17 @@
 // Reading a line's form (document 01, "Lines"): its word, then the parts of the word's shape.
-use crate::part::is_accept;
-use crate::part::label_part_end;
-use crate::part::path_part_end;
-use crate::part::right_end;
-use crate::part::sign_end;
+use crate::reader::next_label;
+use crate::reader::next_path;
+use crate::reader::next_tree;
+use crate::reader::next_word;
 use crate::tree::put_tree;
-use crate::tree::tree_end;
 use crate::word::Word;
+use crate::word::is_accept;
 use crate::word::right_at;
+use crate::word::right_end;
 use crate::word::sign_at;
+use crate::word::sign_end;
 use crate::word::word_at;
 use rights::path::Read;
-use rights::path::label_end;
 ghost use mathlib.Core.Path.{_≡_};
 ghost use Prim.Native.Nat.{_+_, _*_, _^_, _≤_, _<_};
 ghost use lib.ListN.{length};
@@ -112,9 +112,9 @@ fn part_end(s: &[u8], at: usize, k: Kind) -> Read
     ensures { λ r. ⌜ Onward (partEnd k (now (s .entry)) at) r at (length (now (s .entry))) ⌝ }
 {
     match k {
-        Kind::Label => label_part_end(s, at),
-        Kind::Path => path_part_end(s, at),
-        Kind::Tree => tree_end(s, at),
+        Kind::Label => next_label(s, at),
+        Kind::Path => next_path(s, at),
+        Kind::Tree => next_tree(s, at),
         Kind::Sign => sign_end(s, at),
         Kind::Right => right_end(s, at),
         Kind::Nothing => Read::Bad,
@@ -299,7 +299,7 @@ pub fn read_form(s: &[u8], tree: &mut [u8]) -> Form
     if s[0] != b'(' {
         return Form::NoForm;
     }
-    let e = label_end(s, 1);
+    let e = next_word(s, 1);
     let w = word_at(s, 1);
     let k = shape_of(w);
     let PartEnds::Are(e1, e2, e3, e4) = parts(s, e, k) else {

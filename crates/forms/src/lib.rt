@@ -2,6 +2,7 @@
 pub mod form;
 pub mod limits;
 pub mod part;
+pub mod reader;
 pub mod text;
 pub mod tree;
 pub mod word;

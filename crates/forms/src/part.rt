@@ -1,7 +1,4 @@
-// The parts of a line: a label, a path, a tree, accept or deny, a right. One function for each says where the part ends.
-use crate::word::Sign;
-use crate::word::right_at;
-use crate::word::sign_at;
+// Where the parts of a line end that are a label or a path. A reader takes them by these functions (reader.rt).
 use rights::limits::LABEL_MAX;
 use rights::path::Read;
 use rights::path::label_end;
@@ -9,7 +6,7 @@ ghost use mathlib.Core.Path.{_≡_};
 ghost use Prim.Native.Nat.{_+_, _≤_};
 ghost use lib.ListN.{length};
 ghost use Rattle.rights.specs.PathReader.{Ends, Onward};
-ghost use Rattle.forms.specs.Part.{pathByte, labelEnd, pathEnd, isSign, isAccept, signEnd, rightEnd};
+ghost use Rattle.forms.specs.Part.{pathByte, labelEnd, pathEnd};
 
 // Whether a byte may stand in the run that passes as a path: no space, no parenthesis.
 fn path_byte(b: u8) -> bool
@@ -62,46 +59,4 @@ pub fn path_part_end(s: &[u8], at: usize) -> Read
         return Read::Bad;
     }
     Read::At(e)
-}
-
-fn is_sign(g: Sign) -> bool
-    ensures { λ r. ⌜ r ≡ isSign g ⌝ }
-{
-    match g {
-        Sign::Accept => true,
-        Sign::Deny => true,
-        Sign::NoSign => false,
-    }
-}
-
-pub fn is_accept(g: Sign) -> bool
-    ensures { λ r. ⌜ r ≡ isAccept g ⌝ }
-{
-    match g {
-        Sign::Accept => true,
-        Sign::Deny => false,
-        Sign::NoSign => false,
-    }
-}
-
-// `accept` or `deny`.
-pub fn sign_end(s: &[u8], at: usize) -> Read
-    requires { ⌜ at ≤ length (now s) ⌝ }
-    ensures { λ r. ⌜ Onward (signEnd (now (s .entry)) at) r at (length (now (s .entry))) ⌝ }
-{
-    if is_sign(sign_at(s, at)) {
-        return Read::At(label_end(s, at));
-    }
-    Read::Bad
-}
-
-// A right.
-pub fn right_end(s: &[u8], at: usize) -> Read
-    requires { ⌜ at ≤ length (now s) ⌝ }
-    ensures { λ r. ⌜ Onward (rightEnd (now (s .entry)) at) r at (length (now (s .entry))) ⌝ }
-{
-    if right_at(s, at) == 0 {
-        return Read::Bad;
-    }
-    Read::At(label_end(s, at))
 }

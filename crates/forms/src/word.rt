@@ -1,9 +1,12 @@
-// The words of a line: those that begin a form, accept and deny, and the rights (document 01, "Lines").
+// The words of a line: those that begin a form, accept and deny, and the rights (document 01, "Lines"). A reader takes each (reader.rt).
 use crate::limits::WORD_MAX;
-use rights::path::label_end;
+use crate::reader::next_word;
+use rights::path::Read;
 ghost use mathlib.Core.Path.{_≡_};
 ghost use Prim.Native.Nat.{_+_, _-_, _≤_};
 ghost use lib.ListN.{length, take, drop};
+ghost use Rattle.rights.specs.PathReader.{Onward};
+ghost use Rattle.forms.specs.Part.{isSign, isAccept, signEnd, rightEnd};
 ghost use Rattle.forms.specs.Word.{number, numberAt, numbered, words, signs, rights, wordAt, signAt, rightAt};
 
 pub enum Word {
@@ -50,7 +53,7 @@ fn number_at(s: &[u8], at: usize) -> u64
     requires { ⌜ at ≤ length (now s) ⌝ }
     ensures { λ r. ⌜ r ≡ numberAt (now (s .entry)) at ⌝ }
 {
-    let e = label_end(s, at);
+    let e = next_word(s, at);
     if WORD_MAX < e - at {
         return 0;
     }
@@ -125,4 +128,46 @@ pub fn right_at(s: &[u8], at: usize) -> u8
     ensures { λ r. ⌜ r ≡ rightAt (now (s .entry)) at ⌝ }
 {
     numbered_right(number_at(s, at))
+}
+
+fn is_sign(g: Sign) -> bool
+    ensures { λ r. ⌜ r ≡ isSign g ⌝ }
+{
+    match g {
+        Sign::Accept => true,
+        Sign::Deny => true,
+        Sign::NoSign => false,
+    }
+}
+
+pub fn is_accept(g: Sign) -> bool
+    ensures { λ r. ⌜ r ≡ isAccept g ⌝ }
+{
+    match g {
+        Sign::Accept => true,
+        Sign::Deny => false,
+        Sign::NoSign => false,
+    }
+}
+
+// `accept` or `deny`.
+pub fn sign_end(s: &[u8], at: usize) -> Read
+    requires { ⌜ at ≤ length (now s) ⌝ }
+    ensures { λ r. ⌜ Onward (signEnd (now (s .entry)) at) r at (length (now (s .entry))) ⌝ }
+{
+    if is_sign(sign_at(s, at)) {
+        return Read::At(next_word(s, at));
+    }
+    Read::Bad
+}
+
+// A right.
+pub fn right_end(s: &[u8], at: usize) -> Read
+    requires { ⌜ at ≤ length (now s) ⌝ }
+    ensures { λ r. ⌜ Onward (rightEnd (now (s .entry)) at) r at (length (now (s .entry))) ⌝ }
+{
+    if right_at(s, at) == 0 {
+        return Read::Bad;
+    }
+    Read::At(next_word(s, at))
 }

@@ -265,6 +265,11 @@ module _ (s t : List ℕ) (room : ℕ) (name : List ℕ) where
 pub name-whole : (s name : List ℕ) → subjectNamed (policyOf (take (length s - 8) (drop 8 s))) (take (length name) (drop 0 name)) ≡ subjectNamed (policyIn s) name
 name-whole s name = ap (λ p. subjectNamed (policyOf p) (take (length name) (drop 0 name))) (rest-of s 8) ∙ ap (subjectNamed (policyIn s)) (take-length name)
 
+-- what was found of a name over the state's bytes is what is found in its policy
+pub found-named : (s name : List ℕ) {f v : Found} → f ≡ subjectNamed (policyOf (take (length s - 8) (drop 8 s))) (take (length name) (drop 0 name)) → f ≡ v
+    → subjectNamed (policyIn s) name ≡ v
+found-named s name e g = sym (name-whole s name) ∙ sym e ∙ g
+
 pub session-set : (s : List ℕ) (g u : ℕ) → 2 ≤ length s → set (set s 0 g) 1 u ≡ withSession g u s
 session-set [] g u h = absurd (omega arith)
 session-set (x ∷ []) g u h = absurd (omega arith)
@@ -348,6 +353,9 @@ module _ (s t : List ℕ) (room : ℕ) (member role : List ℕ) where
 -- the policy as a part that was lent
 pub held-part : (s : List ℕ) (n r : ℕ) → isaHeld (policyOf (take (length s - 8) (drop 8 s))) n r ≡ isaHeld (policyIn s) n r
 held-part s n r = ap (λ p. isaHeld (policyOf p) n r) (rest-of s 8)
+
+pub held-is : (s : List ℕ) (n r : ℕ) {b v : Bool} → b ≡ isaHeld (policyOf (take (length s - 8) (drop 8 s))) n r → b ≡ v → isaHeld (policyIn s) n r ≡ v
+held-is s n r e g = sym (held-part s n r) ∙ sym e ∙ g
 
 pub isa-put : (s p' : List ℕ) (n r : ℕ) → p' ≡ withIsa (take (length s - 8) (drop 8 s)) n r → putMid 8 (length s - 8) s p' ≡ withPolicy (withIsa (policyBytes s) n r) s
 isa-put s p' n r e = policy-put s p' ∙ ap (λ p. withPolicy p s) (e ∙ ap (λ p. withIsa p n r) (rest-of s 8))

@@ -1,14 +1,14 @@
 -- Rights in the paper's words. "The last applicable rule for a right wins; with none, no right", one bit for each right; "The isa relation is taken reflexive and
 -- transitive". Assumes nothing.
-use Prim.Native.Nat.{ℕ, zero, suc, _+_, _-_, _/_, _%_, _≤_, _<_, zero-le}
+use Prim.Native.Nat.{ℕ, zero, suc, _+_, _-_, _/_, _%_, _^_, _≤_, _<_}
 use mathlib.Core.Bool.{Bool, true, false, cond, not, _&&_, _||_, Bool·beq, and-eq-true-iff}
 use mathlib.Core.Logic.{_↔_, _⊎_, inl, inr, ⊎-elim}
 use mathlib.Core.Path.{_≡_, refl, sym, ap, _∙_, subst}
 use mathlib.Core.List.{List, [], _∷_, _++_}
-use native.Mathlib.Nat.{lt-of-le-of-lt}
+use native.Mathlib.Nat.{lt-of-le-of-lt, mod-lt}
 use native.Mathlib.Omega.{arith}
 use borrow.Author.Tests.{eqb-true}
-use lib.Bits.{bitAnd, bitOr, or-lt, and-le-l}
+use lib.Bits.{bitAnd, bitOr, or-lt, and-le-l, and-shr, or-shr, and-mod, or-mod}
 use lib.Dec.{T, eqb, lit<}
 use Rattle.rights.specs.Policy.{Right, position, read, insert, update, delete, bitOf, Rule, Policy}
 use Rattle.rights.specs.PolicyBytes.{policyOf, subjectCount, ruleCount, rightBit, ruleOf, rulesFrom}
@@ -16,7 +16,7 @@ use Rattle.rights.specs.PolicyCheck.{bitOk, ruleOk, rulesOk, policyOk}
 use Rattle.rights.specs.Rights.{is, finds, pathFor, applies, lastSays, hasRight, holds, withRule, tried, decide, rightsBy}
 use Rattle.rights.proofs.Every.{every-at}
 use Rattle.rights.proofs.Model.{is-is}
-use Rattle.rights.proofs.Ranges.{on-range, beq-eq, left, right}
+use Rattle.rights.proofs.Ranges.{beq-eq, left, right}
 use Rattle.rights.proofs.Roles.{Is, to-is, from-is}
 use Rattle.rights.proofs.Sounds.{policy-sound}
 
@@ -37,7 +37,7 @@ module _ (f : Rule → Bool) where
   right-kept [] r d e = rw e
   right-kept (q ∷ rs) r d e = right-kept rs r (cond (f q) (q .accept) d) e
 
--- One bit for each right, by computing over all sets
+-- One bit for each right
 
 abbrev eachRight : (Right → Bool) → Bool
 eachRight f = f position && (f read && (f insert && (f update && f delete)))
@@ -49,21 +49,61 @@ at-right f t insert = left (f insert) _ (right (f read) _ (right (f position) _ 
 at-right f t update = left (f update) _ (right (f insert) _ (right (f read) _ (right (f position) _ t)))
 at-right f t delete = right (f update) _ (right (f insert) _ (right (f read) _ (right (f position) _ t)))
 
-abbrev ruledRight : Bool → ℕ → Right → Right → Bool
-ruledRight a x d w = Bool·beq (holds w (withRule x (bitOf d) a)) (cond (eqb (bitOf d) (bitOf w)) a (holds w x))
+-- the bit of a right w in the set of d alone, and in the set of all but d
+abbrev mine : Right → Right → Bool
+mine d w = eqb (bitOf d) (bitOf w)
 
-abbrev agrees : Bool → ℕ → Bool
-agrees a x = eachRight (λ d. eachRight (ruledRight a x d))
+own-bit : (d w : Right) → bitOf d / bitOf w % 2 ≡ cond (mine d w) 1 0
+own-bit d w =
+    let f : Right → Right → Bool = λ q v. Bool·beq true (eqb (bitOf q / bitOf v % 2) (cond (mine q v) 1 0)) in
+    eqb-true _ _ (sym (beq-eq true _ (at-right (f d) (at-right (λ q. eachRight (f q)) tt d) w)))
 
-yes-of : (b : Bool) → true ≡ b → T b
-yes-of b e = subst T e tt
+other-bit : (d w : Right) → (255 - bitOf d) / bitOf w % 2 ≡ cond (mine d w) 0 1
+other-bit d w =
+    let f : Right → Right → Bool = λ q v. Bool·beq true (eqb ((255 - bitOf q) / bitOf v % 2) (cond (mine q v) 0 1)) in
+    eqb-true _ _ (sym (beq-eq true _ (at-right (f d) (at-right (λ q. eachRight (f q)) tt d) w)))
+
+-- `or` and `and` go bit by bit
+or-at : (x b k : ℕ) → bitOr x b / 2 ^ k % 2 ≡ bitOr (x / 2 ^ k % 2) (b / 2 ^ k % 2)
+or-at x b k = ap (λ (z : ℕ). z % 2) (or-shr x b k) ∙ or-mod (x / 2 ^ k) (b / 2 ^ k) 1
+
+and-at : (x b k : ℕ) → bitAnd x b / 2 ^ k % 2 ≡ bitAnd (x / 2 ^ k % 2) (b / 2 ^ k % 2)
+and-at x b k = ap (λ (z : ℕ). z % 2) (and-shr x b k) ∙ and-mod (x / 2 ^ k) (b / 2 ^ k) 1
+
+or-right : (w : Right) (x b : ℕ) → bitOr x b / bitOf w % 2 ≡ bitOr (x / bitOf w % 2) (b / bitOf w % 2)
+or-right position x b = or-at x b 0
+or-right read x b = or-at x b 1
+or-right insert x b = or-at x b 2
+or-right update x b = or-at x b 3
+or-right delete x b = or-at x b 4
+
+and-right : (w : Right) (x b : ℕ) → bitAnd x b / bitOf w % 2 ≡ bitAnd (x / bitOf w % 2) (b / bitOf w % 2)
+and-right position x b = and-at x b 0
+and-right read x b = and-at x b 1
+and-right insert x b = and-at x b 2
+and-right update x b = and-at x b 3
+and-right delete x b = and-at x b 4
+
+set-one : (y : ℕ) → y < 2 → (q : Bool) → eqb (bitOr y (cond q 1 0)) 1 ≡ cond q true (eqb y 1)
+set-one zero h true = refl
+set-one zero h false = refl
+set-one (suc zero) h true = refl
+set-one (suc zero) h false = refl
+set-one (suc (suc y)) h q = absurd (omega arith)
+
+clear-one : (y : ℕ) → y < 2 → (q : Bool) → eqb (bitAnd y (cond q 0 1)) 1 ≡ cond q false (eqb y 1)
+clear-one zero h true = refl
+clear-one zero h false = refl
+clear-one (suc zero) h true = refl
+clear-one (suc zero) h false = refl
+clear-one (suc (suc y)) h q = absurd (omega arith)
 
 -- a rule decides its own right, and keeps the others
 pub holds-ruled : (x : ℕ) → x < 256 → (d w : Right) (a : Bool) → holds w (withRule x (bitOf d) a) ≡ cond (eqb (bitOf d) (bitOf w)) a (holds w x)
 holds-ruled x h d w true =
-    beq-eq _ _ (at-right (ruledRight true x d) (at-right (λ q. eachRight (ruledRight true x q)) (yes-of _ (on-range (agrees true) true 0 256 tt x zero-le (omega arith))) d) w)
+    ap (λ (z : ℕ). eqb z 1) (or-right w x (bitOf d) ∙ ap (bitOr (x / bitOf w % 2)) (own-bit d w)) ∙ set-one (x / bitOf w % 2) (mod-lt _ (lit< tt)) (mine d w)
 holds-ruled x h d w false =
-    beq-eq _ _ (at-right (ruledRight false x d) (at-right (λ q. eachRight (ruledRight false x q)) (yes-of _ (on-range (agrees false) true 0 256 tt x zero-le (omega arith))) d) w)
+    ap (λ (z : ℕ). eqb z 1) (and-right w x (255 - bitOf d) ∙ ap (bitAnd (x / bitOf w % 2)) (other-bit d w)) ∙ clear-one (x / bitOf w % 2) (mod-lt _ (lit< tt)) (mine d w)
 
 bit-small : (d : Right) → bitOf d < 256
 bit-small position = lit< tt

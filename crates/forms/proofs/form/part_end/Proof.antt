@@ -8,20 +8,20 @@ use Rattle.forms.proofs.form.part_end.Tie as tie
 enum-told : tie.Need-enum-told
 enum-told c = search needs
 
-label-part-end-requires : tie.Need-label-part-end-requires
-label-part-end-requires c κs = search needs
+next-label-requires : tie.Need-next-label-requires
+next-label-requires c κs = search needs
 
 enum-told-2 : tie.Need-enum-told-2
 enum-told-2 c = search needs
 
-path-part-end-requires : tie.Need-path-part-end-requires
-path-part-end-requires c κs = search needs
+next-path-requires : tie.Need-next-path-requires
+next-path-requires c κs = search needs
 
 enum-told-3 : tie.Need-enum-told-3
 enum-told-3 c = search needs
 
-tree-end-requires : tie.Need-tree-end-requires
-tree-end-requires c κs = search needs
+next-tree-requires : tie.Need-next-tree-requires
+next-tree-requires c κs = search needs
 
 enum-told-4 : tie.Need-enum-told-4
 enum-told-4 c = search needs
@@ -39,13 +39,13 @@ enum-told-6 : tie.Need-enum-told-6
 enum-told-6 c = search needs
 
 returns : tie.Need-returns
-returns c = earlier _ _ _ (rw (c .before .enum-told .given .1)) (omega arith) (c .label-part-end .ensures)
+returns c = earlier _ _ _ (rw (c .before .enum-told .given .1)) (omega arith) (c .next-label .ensures)
 
 returns-2 : tie.Need-returns-2
-returns-2 c = earlier _ _ _ (rw (c .before .enum-told2 .given .1)) (omega arith) (c .path-part-end .ensures)
+returns-2 c = earlier _ _ _ (rw (c .before .enum-told2 .given .1)) (omega arith) (c .next-path .ensures)
 
 returns-3 : tie.Need-returns-3
-returns-3 c = earlier _ _ _ (rw (c .before .enum-told3 .given .1)) (omega arith) (c .tree-end .ensures)
+returns-3 c = earlier _ _ _ (rw (c .before .enum-told3 .given .1)) (omega arith) (c .next-tree .ensures)
 
 returns-4 : tie.Need-returns-4
 returns-4 c = earlier _ _ _ (rw (c .before .enum-told4 .given .1)) (omega arith) (c .sign-end .ensures)
@@ -61,11 +61,11 @@ part-end-spec =
     tie.close
     (tie.spec
     enum-told
-    label-part-end-requires
+    next-label-requires
     enum-told-2
-    path-part-end-requires
+    next-path-requires
     enum-told-3
-    tree-end-requires
+    next-tree-requires
     enum-told-4
     sign-end-requires
     enum-told-5

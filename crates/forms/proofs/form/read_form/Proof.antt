@@ -24,8 +24,8 @@ returns-2 c =
     let tree : List ℕ = c .before .before .before .before .before .args .tree .now in
     refused-first s tree (c .if2 .taken)
 
-label-end-requires : tie.Need-label-end-requires
-label-end-requires c κs = search needs
+next-word-requires : tie.Need-next-word-requires
+next-word-requires c κs = search needs
 
 word-at-requires : tie.Need-word-at-requires
 word-at-requires c κs = search needs
@@ -46,7 +46,7 @@ returns-3 : tie.Need-returns-3
 returns-3 c =
     let s : List ℕ = c .before .before .before .before .before .before .before .before .before .before .before .args .s .now in
     let tree : List ℕ = c .before .before .before .before .before .before .before .before .before .before .before .args .tree .now in
-    refused-parts s tree _ _ _ _ (c .before .before .before .before .before .before .if2 .left) (c .before .before .before .before .word-at .ensures) (c .before .before .before .before .before .label-end .ensures .is) (c .before .before .before .shape-of .ensures) (c .before .before .parts .ensures .is) (c .enum-told .given .1)
+    refused-parts s tree _ _ _ _ (c .before .before .before .before .before .before .if2 .left) (c .before .before .before .before .word-at .ensures) (c .before .before .before .before .before .next-word .ensures .is) (c .before .before .before .shape-of .ensures) (c .before .before .parts .ensures .is) (c .enum-told .given .1)
 
 tree-place-requires : tie.Need-tree-place-requires
 tree-place-requires c κs =
@@ -68,7 +68,7 @@ returns-4 : tie.Need-returns-4
 returns-4 c =
     let s : List ℕ = c .before .before .before .before .before .before .before .before .before .before .before .before .before .before .before .before .before .before .args .s .now in
     let tree : List ℕ = c .before .before .before .before .before .before .before .before .before .before .before .before .before .before .before .before .before .before .args .tree .now in
-    read-parts s tree _ _ _ _ (c .before .before .before .before .before .before .before .before .before .before .before .before .before .if2 .left) (c .before .before .before .before .before .before .before .before .before .before .before .word-at .ensures) (c .before .before .before .before .before .before .before .before .before .before .before .before .label-end .ensures .is) (c .before .before .before .before .before .before .before .before .before .before .shape-of .ensures) (c .before .before .before .before .before .before .before .before .before .parts .ensures .is) _ _ _ _ _ _ _ _ (c .before .before .before .before .before .before .before .e1 .given .1) (c .before .before .before .before .before .tree-place .ensures) (c .before .before .before .put-tree-at .ensures) (c .build .ensures)
+    read-parts s tree _ _ _ _ (c .before .before .before .before .before .before .before .before .before .before .before .before .before .if2 .left) (c .before .before .before .before .before .before .before .before .before .before .before .word-at .ensures) (c .before .before .before .before .before .before .before .before .before .before .before .before .next-word .ensures .is) (c .before .before .before .before .before .before .before .before .before .before .shape-of .ensures) (c .before .before .before .before .before .before .before .before .before .parts .ensures .is) _ _ _ _ _ _ _ _ (c .before .before .before .before .before .before .before .e1 .given .1) (c .before .before .before .before .before .tree-place .ensures) (c .before .before .before .put-tree-at .ensures) (c .build .ensures)
 
 pub read-form-spec : {M : Type 1} → statement M
 read-form-spec =
@@ -77,7 +77,7 @@ read-form-spec =
     returns
     shared-slice-read-if2
     returns-2
-    label-end-requires
+    next-word-requires
     word-at-requires
     shape-of-requires
     parts-requires

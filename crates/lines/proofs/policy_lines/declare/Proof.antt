@@ -11,7 +11,7 @@ use Rattle.lines.specs.PolicyEdit.{subjectNamed, withSubject}
 use Rattle.lines.specs.State.{policyIn, policyBytes, withPolicy}
 use Rattle.lines.specs.declared.policy_edit.Found.the-variants.{Unknown}
 use Rattle.lines.proofs.StateLaws.{store-held, subjects-at}
-use Rattle.lines.proofs.StepLaws.{made-at, refused, made-fits, made-short, subject-known, subject-full, subject-restricted, subject-new, subject-put, name-whole}
+use Rattle.lines.proofs.StepLaws.{made-at, refused, made-fits, made-short, subject-known, subject-full, subject-restricted, subject-new, subject-put, found-named}
 use borrow.Author.Needs.{needs}
 use Rattle.lines.proofs.policy_lines.declare.Statement.{statement}
 use Rattle.lines.proofs.policy_lines.declare.Tie as tie
@@ -40,7 +40,7 @@ same-length c = search needs
 
 returns : tie.Need-returns
 returns c = let a = c .before .before .before .before .before .before .before .before .before .args in
-    made-at (subject-known _ _ _ _ _ (sym (name-whole (a .state .now) (a .name .now)) ∙ sym (c .before .before .find-name .ensures) ∙ c .enum-told2 .given .1)) refused
+    made-at (subject-known _ _ _ _ _ (found-named (a .state .now) (a .name .now) (c .before .before .find-name .ensures) (c .enum-told2 .given .1))) refused
 
 slice-read-wide : tie.Need-slice-read-wide
 slice-read-wide c = omega (arith, store-held _ _ (c .before .before .before .before .before .before .before .before .before .before .pre .0) .size)
@@ -57,7 +57,7 @@ returns-2 c = let a = c .before .before .before .before .before .before .before 
     let s = a .state .now in
     let t = a .table .now in
     let n = a .name .now in
-    let k : subjectNamed (policyIn s) n ≡ Unknown = sym (name-whole s n) ∙ sym (c .before .before .before .before .before .find-name .ensures) ∙ c .before .before .before .enum-told .given .1 in
+    let k : subjectNamed (policyIn s) n ≡ Unknown = found-named s n (c .before .before .before .before .before .find-name .ensures) (c .before .before .before .enum-told .given .1) in
     made-at (subject-full s t _ n k (omega (arith, c .before .wide .ensures))) refused
 
 is-restricted-requires : tie.Need-is-restricted-requires
@@ -72,7 +72,7 @@ returns-3 c = let a = c .before .before .before .before .before .before .before 
     let s = a .state .now in
     let t = a .table .now in
     let n = a .name .now in
-    let k : subjectNamed (policyIn s) n ≡ Unknown = sym (name-whole s n) ∙ sym (c .before .before .before .before .before .before .before .find-name .ensures) ∙ c .before .before .before .before .before .enum-told .given .1 in
+    let k : subjectNamed (policyIn s) n ≡ Unknown = found-named s n (c .before .before .before .before .before .before .before .find-name .ensures) (c .before .before .before .before .before .enum-told .given .1) in
     made-at (subject-restricted s t _ n k (omega (arith, c .before .before .before .wide .ensures)) (ap (λ x. sameLabel x restricted) (sym (take-length n)) ∙ sym (c .before .is-restricted .ensures) ∙ c .if2 .taken)) refused
 
 answer-ok-requires : tie.Need-answer-ok-requires
@@ -90,7 +90,7 @@ returns-4 c = let a = c .before .before .before .before .before .before .before 
     let s = a .state .now in
     let t = a .table .now in
     let n = a .name .now in
-    let k : subjectNamed (policyIn s) n ≡ Unknown = sym (name-whole s n) ∙ sym (c .before .before .before .before .before .before .before .before .before .before .before .before .find-name .ensures) ∙ c .before .before .before .before .before .before .before .before .before .before .enum-told .given .1 in
+    let k : subjectNamed (policyIn s) n ≡ Unknown = found-named s n (c .before .before .before .before .before .before .before .before .before .before .before .before .find-name .ensures) (c .before .before .before .before .before .before .before .before .before .before .enum-told .given .1) in
     made-at (subject-new s t _ n k (omega (arith, c .before .before .before .before .before .before .before .before .wide .ensures)) (ap (λ x. sameLabel x restricted) (sym (take-length n)) ∙ sym (c .before .before .before .before .before .before .is-restricted .ensures) ∙ c .before .before .before .before .before .if2 .left))
     (made-short okText _ _ s t (withPolicy (withSubject (policyBytes s) n) s) _ (c .before .before .before .answer-ok .ensures) (c .if3 .taken))
 
@@ -121,7 +121,7 @@ returns-5 c = let a = c .before .before .before .before .before .before .before 
     let s = a .state .now in
     let t = a .table .now in
     let n = a .name .now in
-    let k : subjectNamed (policyIn s) n ≡ Unknown = sym (name-whole s n) ∙ sym (c .before .before .before .before .before .before .before .before .before .before .before .before .before .before .before .before .find-name .ensures) ∙ c .before .before .before .before .before .before .before .before .before .before .before .before .before .before .enum-told .given .1 in
+    let k : subjectNamed (policyIn s) n ≡ Unknown = found-named s n (c .before .before .before .before .before .before .before .before .before .before .before .before .before .before .before .before .find-name .ensures) (c .before .before .before .before .before .before .before .before .before .before .before .before .before .before .enum-told .given .1) in
     made-at (subject-new s t _ n k (omega (arith, c .before .before .before .before .before .before .before .before .before .before .before .before .wide .ensures)) (ap (λ x. sameLabel x restricted) (sym (take-length n)) ∙ sym (c .before .before .before .before .before .before .before .before .before .before .is-restricted .ensures) ∙ c .before .before .before .before .before .before .before .before .before .if2 .left))
     (rw (subject-put s n _ (c .before .before .add-subject .ensures)) (made-fits okText _ _ s t (withPolicy (withSubject (policyBytes s) n) s) _ (c .before .before .before .before .before .before .before .answer-ok .ensures) (c .before .before .before .before .if3 .left)))
 

@@ -9,7 +9,7 @@ use Rattle.lines.specs.PolicyEdit.{subjectNamed, isaHeld, withIsa}
 use Rattle.lines.specs.State.{policyIn, policyBytes, withPolicy}
 use Rattle.lines.specs.declared.policy_edit.Found.the-variants.{Subject, Unknown}
 use Rattle.lines.proofs.StateLaws.{store-held}
-use Rattle.lines.proofs.StepLaws.{made-at, refused, made-fits, made-short, isa-no-member, isa-no-role, isa-not-before, isa-repeated, isa-full, isa-new, isa-at, held-part, isa-put, found-declared, name-whole}
+use Rattle.lines.proofs.StepLaws.{made-at, refused, made-fits, made-short, isa-no-member, isa-no-role, isa-not-before, isa-repeated, isa-full, isa-new, isa-at, isa-put, found-declared, found-named, held-is}
 use borrow.Author.Needs.{needs}
 use Rattle.lines.proofs.policy_lines.relate.Statement.{statement}
 use Rattle.lines.proofs.policy_lines.relate.Tie as tie
@@ -37,7 +37,7 @@ same-length c = search needs
 
 returns : tie.Need-returns
 returns c = let a = c .before .before .before .before .before .before .before .before .before .before .args in
-    made-at (isa-no-member _ _ _ _ _ (sym (name-whole (a .state .now) (a .member .now)) ∙ sym (c .before .before .find-name .ensures) ∙ c .enum-told .given .1)) refused
+    made-at (isa-no-member _ _ _ _ _ (found-named (a .state .now) (a .member .now) (c .before .before .find-name .ensures) (c .enum-told .given .1))) refused
 
 sub-find-name-2 : tie.Need-sub-find-name-2
 sub-find-name-2 c = omega (arith, store-held _ _ (c .before .before .before .before .before .before .before .before .before .before .before .pre) .size)
@@ -68,8 +68,8 @@ returns-2 c = let a = c .before .before .before .before .before .before .before 
     let m = a .member .now in
     let l = a .role .now in
     let n = c .before .before .before .before .before .before .n .given .0 .0 in
-    let e : subjectNamed (policyIn s) m ≡ Subject n = sym (name-whole s m) ∙ sym (c .before .before .before .before .before .before .before .before .find-name .ensures) ∙ c .before .before .before .before .before .before .n .given .1 in
-    made-at (isa-no-role s t _ m l n e (sym (name-whole s l) ∙ sym (c .before .before .find-name2 .ensures) ∙ c .enum-told2 .given .1)) refused
+    let e : subjectNamed (policyIn s) m ≡ Subject n = found-named s m (c .before .before .before .before .before .before .before .before .find-name .ensures) (c .before .before .before .before .before .before .n .given .1) in
+    made-at (isa-no-role s t _ m l n e (found-named s l (c .before .before .find-name2 .ensures) (c .enum-told2 .given .1))) refused
 
 same-length-3 : tie.Need-same-length-3
 same-length-3 c = search needs
@@ -82,9 +82,9 @@ returns-3 c = let a = c .before .before .before .before .before .before .before 
     let m = a .member .now in
     let l = a .role .now in
     let n = c .before .before .before .before .before .before .before .before .n .given .0 .0 in
-    let e : subjectNamed (policyIn s) m ≡ Subject n = sym (name-whole s m) ∙ sym (c .before .before .before .before .before .before .before .before .before .before .find-name .ensures) ∙ c .before .before .before .before .before .before .before .before .n .given .1 in
+    let e : subjectNamed (policyIn s) m ≡ Subject n = found-named s m (c .before .before .before .before .before .before .before .before .before .before .find-name .ensures) (c .before .before .before .before .before .before .before .before .n .given .1) in
     let r = c .before .before .r .given .0 .0 in
-    let q : subjectNamed (policyIn s) l ≡ Subject r = sym (name-whole s l) ∙ sym (c .before .before .before .before .find-name2 .ensures) ∙ c .before .before .r .given .1 in
+    let q : subjectNamed (policyIn s) l ≡ Subject r = found-named s l (c .before .before .before .before .find-name2 .ensures) (c .before .before .r .given .1) in
     made-at (isa-not-before s t _ m l n e r q (c .if1 .taken)) refused
 
 sub-isa-held : tie.Need-sub-isa-held
@@ -110,10 +110,10 @@ returns-4 c = let a = c .before .before .before .before .before .before .before 
     let m = a .member .now in
     let l = a .role .now in
     let n = c .before .before .before .before .before .before .before .before .before .before .before .before .n .given .0 .0 in
-    let e : subjectNamed (policyIn s) m ≡ Subject n = sym (name-whole s m) ∙ sym (c .before .before .before .before .before .before .before .before .before .before .before .before .before .before .find-name .ensures) ∙ c .before .before .before .before .before .before .before .before .before .before .before .before .n .given .1 in
+    let e : subjectNamed (policyIn s) m ≡ Subject n = found-named s m (c .before .before .before .before .before .before .before .before .before .before .before .before .before .before .find-name .ensures) (c .before .before .before .before .before .before .before .before .before .before .before .before .n .given .1) in
     let r = c .before .before .before .before .before .before .r .given .0 .0 in
-    let q : subjectNamed (policyIn s) l ≡ Subject r = sym (name-whole s l) ∙ sym (c .before .before .before .before .before .before .before .before .find-name2 .ensures) ∙ c .before .before .before .before .before .before .r .given .1 in
-    made-at (isa-repeated s t _ m l n e r q (c .before .before .before .before .if1 .left) (sym (held-part s n r) ∙ sym (c .before .isa-held .ensures) ∙ c .if2 .taken)) refused
+    let q : subjectNamed (policyIn s) l ≡ Subject r = found-named s l (c .before .before .before .before .before .before .before .before .find-name2 .ensures) (c .before .before .before .before .before .before .r .given .1) in
+    made-at (isa-repeated s t _ m l n e r q (c .before .before .before .before .if1 .left) (held-is s n r (c .before .isa-held .ensures) (c .if2 .taken))) refused
 
 add-wide : tie.Need-add-wide
 add-wide c = search needs
@@ -135,10 +135,10 @@ returns-5 c = let a = c .before .before .before .before .before .before .before 
     let m = a .member .now in
     let l = a .role .now in
     let n = c .before .before .before .before .before .before .before .before .before .before .before .before .before .before .before .n .given .0 .0 in
-    let e : subjectNamed (policyIn s) m ≡ Subject n = sym (name-whole s m) ∙ sym (c .before .before .before .before .before .before .before .before .before .before .before .before .before .before .before .before .before .find-name .ensures) ∙ c .before .before .before .before .before .before .before .before .before .before .before .before .before .before .before .n .given .1 in
+    let e : subjectNamed (policyIn s) m ≡ Subject n = found-named s m (c .before .before .before .before .before .before .before .before .before .before .before .before .before .before .before .before .before .find-name .ensures) (c .before .before .before .before .before .before .before .before .before .before .before .before .before .before .before .n .given .1) in
     let r = c .before .before .before .before .before .before .before .before .before .r .given .0 .0 in
-    let q : subjectNamed (policyIn s) l ≡ Subject r = sym (name-whole s l) ∙ sym (c .before .before .before .before .before .before .before .before .before .before .before .find-name2 .ensures) ∙ c .before .before .before .before .before .before .before .before .before .r .given .1 in
-    made-at (isa-full s t _ m l n e r q (c .before .before .before .before .before .before .before .if1 .left) (sym (held-part s n r) ∙ sym (c .before .before .before .before .isa-held .ensures) ∙ c .before .before .before .if2 .left) (omega (arith, c .before .wide .ensures))) refused
+    let q : subjectNamed (policyIn s) l ≡ Subject r = found-named s l (c .before .before .before .before .before .before .before .before .before .before .before .find-name2 .ensures) (c .before .before .before .before .before .before .before .before .before .r .given .1) in
+    made-at (isa-full s t _ m l n e r q (c .before .before .before .before .before .before .before .if1 .left) (held-is s n r (c .before .before .before .before .isa-held .ensures) (c .before .before .before .if2 .left)) (omega (arith, c .before .wide .ensures))) refused
 
 answer-ok-requires : tie.Need-answer-ok-requires
 answer-ok-requires c κs = search needs
@@ -157,10 +157,10 @@ returns-6 c = let a = c .before .before .before .before .before .before .before 
     let m = a .member .now in
     let l = a .role .now in
     let n = c .before .before .before .before .before .before .before .before .before .before .before .before .before .before .before .before .before .before .before .before .n .given .0 .0 in
-    let e : subjectNamed (policyIn s) m ≡ Subject n = sym (name-whole s m) ∙ sym (c .before .before .before .before .before .before .before .before .before .before .before .before .before .before .before .before .before .before .before .before .before .before .find-name .ensures) ∙ c .before .before .before .before .before .before .before .before .before .before .before .before .before .before .before .before .before .before .before .before .n .given .1 in
+    let e : subjectNamed (policyIn s) m ≡ Subject n = found-named s m (c .before .before .before .before .before .before .before .before .before .before .before .before .before .before .before .before .before .before .before .before .before .before .find-name .ensures) (c .before .before .before .before .before .before .before .before .before .before .before .before .before .before .before .before .before .before .before .before .n .given .1) in
     let r = c .before .before .before .before .before .before .before .before .before .before .before .before .before .before .r .given .0 .0 in
-    let q : subjectNamed (policyIn s) l ≡ Subject r = sym (name-whole s l) ∙ sym (c .before .before .before .before .before .before .before .before .before .before .before .before .before .before .before .before .find-name2 .ensures) ∙ c .before .before .before .before .before .before .before .before .before .before .before .before .before .before .r .given .1 in
-    made-at (isa-new s t _ m l n e r q (c .before .before .before .before .before .before .before .before .before .before .before .before .if1 .left) (sym (held-part s n r) ∙ sym (c .before .before .before .before .before .before .before .before .before .isa-held .ensures) ∙ c .before .before .before .before .before .before .before .before .if2 .left) (omega (arith, c .before .before .before .before .before .before .wide .ensures)))
+    let q : subjectNamed (policyIn s) l ≡ Subject r = found-named s l (c .before .before .before .before .before .before .before .before .before .before .before .before .before .before .before .before .find-name2 .ensures) (c .before .before .before .before .before .before .before .before .before .before .before .before .before .before .r .given .1) in
+    made-at (isa-new s t _ m l n e r q (c .before .before .before .before .before .before .before .before .before .before .before .before .if1 .left) (held-is s n r (c .before .before .before .before .before .before .before .before .before .isa-held .ensures) (c .before .before .before .before .before .before .before .before .if2 .left)) (omega (arith, c .before .before .before .before .before .before .wide .ensures)))
     (made-short okText _ _ s t (withPolicy (withIsa (policyBytes s) n r) s) _ (c .before .before .before .answer-ok .ensures) (c .if4 .taken))
 
 sub-add-isa : tie.Need-sub-add-isa
@@ -180,9 +180,9 @@ add-isa-requires c κs = let a = c .before .before .before .before .before .befo
     let m = a .member .now in
     let l = a .role .now in
     let n = c .before .before .before .before .before .before .before .before .before .before .before .before .before .before .before .before .before .before .before .before .before .n .given .0 .0 in
-    let e : subjectNamed (policyIn s) m ≡ Subject n = sym (name-whole s m) ∙ sym (c .before .before .before .before .before .before .before .before .before .before .before .before .before .before .before .before .before .before .before .before .before .before .before .find-name .ensures) ∙ c .before .before .before .before .before .before .before .before .before .before .before .before .before .before .before .before .before .before .before .before .before .n .given .1 in
+    let e : subjectNamed (policyIn s) m ≡ Subject n = found-named s m (c .before .before .before .before .before .before .before .before .before .before .before .before .before .before .before .before .before .before .before .before .before .before .before .find-name .ensures) (c .before .before .before .before .before .before .before .before .before .before .before .before .before .before .before .before .before .before .before .before .before .n .given .1) in
     let r = c .before .before .before .before .before .before .before .before .before .before .before .before .before .before .before .r .given .0 .0 in
-    let q : subjectNamed (policyIn s) l ≡ Subject r = sym (name-whole s l) ∙ sym (c .before .before .before .before .before .before .before .before .before .before .before .before .before .before .before .before .before .find-name2 .ensures) ∙ c .before .before .before .before .before .before .before .before .before .before .before .before .before .before .before .r .given .1 in
+    let q : subjectNamed (policyIn s) l ≡ Subject r = found-named s l (c .before .before .before .before .before .before .before .before .before .before .before .before .before .before .before .before .before .find-name2 .ensures) (c .before .before .before .before .before .before .before .before .before .before .before .before .before .before .before .r .given .1) in
     rw (rest-of s 8) (store-held s t g .policy, omega (arith, c .before .before .before .before .before .before .before .wide .ensures, isa-at s), found-declared s t m n g e, found-declared s t l r g q)
 
 same-length-8 : tie.Need-same-length-8
@@ -199,10 +199,10 @@ returns-7 c = let a = c .before .before .before .before .before .before .before 
     let m = a .member .now in
     let l = a .role .now in
     let n = c .before .before .before .before .before .before .before .before .before .before .before .before .before .before .before .before .before .before .before .before .before .before .before .before .n .given .0 .0 in
-    let e : subjectNamed (policyIn s) m ≡ Subject n = sym (name-whole s m) ∙ sym (c .before .before .before .before .before .before .before .before .before .before .before .before .before .before .before .before .before .before .before .before .before .before .before .before .before .before .find-name .ensures) ∙ c .before .before .before .before .before .before .before .before .before .before .before .before .before .before .before .before .before .before .before .before .before .before .before .before .n .given .1 in
+    let e : subjectNamed (policyIn s) m ≡ Subject n = found-named s m (c .before .before .before .before .before .before .before .before .before .before .before .before .before .before .before .before .before .before .before .before .before .before .before .before .before .before .find-name .ensures) (c .before .before .before .before .before .before .before .before .before .before .before .before .before .before .before .before .before .before .before .before .before .before .before .before .n .given .1) in
     let r = c .before .before .before .before .before .before .before .before .before .before .before .before .before .before .before .before .before .before .r .given .0 .0 in
-    let q : subjectNamed (policyIn s) l ≡ Subject r = sym (name-whole s l) ∙ sym (c .before .before .before .before .before .before .before .before .before .before .before .before .before .before .before .before .before .before .before .before .find-name2 .ensures) ∙ c .before .before .before .before .before .before .before .before .before .before .before .before .before .before .before .before .before .before .r .given .1 in
-    made-at (isa-new s t _ m l n e r q (c .before .before .before .before .before .before .before .before .before .before .before .before .before .before .before .before .if1 .left) (sym (held-part s n r) ∙ sym (c .before .before .before .before .before .before .before .before .before .before .before .before .before .isa-held .ensures) ∙ c .before .before .before .before .before .before .before .before .before .before .before .before .if2 .left) (omega (arith, c .before .before .before .before .before .before .before .before .before .before .wide .ensures)))
+    let q : subjectNamed (policyIn s) l ≡ Subject r = found-named s l (c .before .before .before .before .before .before .before .before .before .before .before .before .before .before .before .before .before .before .before .before .find-name2 .ensures) (c .before .before .before .before .before .before .before .before .before .before .before .before .before .before .before .before .before .before .r .given .1) in
+    made-at (isa-new s t _ m l n e r q (c .before .before .before .before .before .before .before .before .before .before .before .before .before .before .before .before .if1 .left) (held-is s n r (c .before .before .before .before .before .before .before .before .before .before .before .before .before .isa-held .ensures) (c .before .before .before .before .before .before .before .before .before .before .before .before .if2 .left)) (omega (arith, c .before .before .before .before .before .before .before .before .before .before .wide .ensures)))
     (rw (isa-put s _ n r (c .before .before .add-isa .ensures)) (made-fits okText _ _ s t (withPolicy (withIsa (policyBytes s) n r) s) _ (c .before .before .before .before .before .before .before .answer-ok .ensures) (c .before .before .before .before .if4 .left)))
 
 pub relate-spec : {M : Type 1} → statement M

@@ -11,7 +11,7 @@ use Rattle.lines.specs.State.{policyIn, policyBytes, withPolicy, withSta
 use Rattle.lines.specs.declared.policy_edit.Found.the-variants.{Subject, Unknown}
 use Rattle.lines.proofs.StateLaws.{store-held}
 use Rattle.lines.proofs.StoredPaths.{plain}
-use Rattle.lines.proofs.StepLaws.{made-at, refused, made-fits, made-short, not-path, is-path, rule-no-path, rule-no-name, rule-bracket, rule-full, rule-restricted, rule-new, rule-put, put-room, rules-byte, found-declared, name-whole}
+use Rattle.lines.proofs.StepLaws.{made-at, refused, made-fits, made-short, not-path, is-path, rule-no-path, rule-no-name, rule-bracket, rule-full, rule-restricted, rule-new, rule-put, put-room, rules-byte, found-declared, found-named}
 use borrow.Author.Needs.{needs}
 use Rattle.lines.proofs.policy_lines.rule.Statement.{statement}
 use Rattle.lines.proofs.policy_lines.rule.Tie as tie
@@ -58,7 +58,7 @@ returns-2 c = let a = c .before .before .before .before .before .before .before 
     let n = a .name .now in
     let w = sym (c .before .before .before .before .before .before .before .check-path .ensures) ∙ c .before .before .before .before .before .enum-told .given .1 in
     let p = is-path (pathOf (a .path .now)) _ w in
-    made-at (rule-no-name s t _ _ _ _ n p (sym (name-whole s n) ∙ sym (c .before .before .find-name .ensures) ∙ c .enum-told3 .given .1)) refused
+    made-at (rule-no-name s t _ _ _ _ n p (found-named s n (c .before .before .find-name .ensures) (c .enum-told3 .given .1))) refused
 
 has-bracket-requires : tie.Need-has-bracket-requires
 has-bracket-requires c κs = search needs
@@ -75,7 +75,7 @@ returns-3 c = let a = c .before .before .before .before .before .before .before 
     let w = sym (c .before .before .before .before .before .before .before .before .before .before .check-path .ensures) ∙ c .before .before .before .before .before .before .before .before .enum-told .given .1 in
     let p = is-path (pathOf (a .path .now)) _ w in
     let u = c .before .before .before .u .given .0 .0 in
-    let e : subjectNamed (policyIn s) n ≡ Subject u = sym (name-whole s n) ∙ sym (c .before .before .before .before .before .find-name .ensures) ∙ c .before .before .before .u .given .1 in
+    let e : subjectNamed (policyIn s) n ≡ Subject u = found-named s n (c .before .before .before .before .before .find-name .ensures) (c .before .before .before .u .given .1) in
     made-at (rule-bracket s t _ _ _ _ n p u e (sym (c .before .has-bracket .ensures) ∙ c .if1 .taken)) refused
 
 add-wide : tie.Need-add-wide
@@ -99,7 +99,7 @@ returns-4 c = let a = c .before .before .before .before .before .before .before 
     let w = sym (c .before .before .before .before .before .before .before .before .before .before .before .before .before .check-path .ensures) ∙ c .before .before .before .before .before .before .before .before .before .before .before .enum-told .given .1 in
     let p = is-path (pathOf (a .path .now)) _ w in
     let u = c .before .before .before .before .before .before .u .given .0 .0 in
-    let e : subjectNamed (policyIn s) n ≡ Subject u = sym (name-whole s n) ∙ sym (c .before .before .before .before .before .before .before .before .find-name .ensures) ∙ c .before .before .before .before .before .before .u .given .1 in
+    let e : subjectNamed (policyIn s) n ≡ Subject u = found-named s n (c .before .before .before .before .before .before .before .before .find-name .ensures) (c .before .before .before .before .before .before .u .given .1) in
     let b = sym (c .before .before .before .before .has-bracket .ensures) ∙ c .before .before .before .if1 .left in
     made-at (rule-full s t _ _ _ _ n p u e b (omega (arith, c .before .wide .ensures))) refused
 
@@ -112,7 +112,7 @@ path-restricted-requires c κs = let a = c .before .before .before .before .befo
     let w = sym (c .before .before .before .before .before .before .before .before .before .before .before .before .before .check-path .ensures) ∙ c .before .before .before .before .before .before .before .before .before .before .before .enum-told .given .1 in
     let p = is-path (pathOf (a .path .now)) _ w in
     let u = c .before .before .before .before .before .before .u .given .0 .0 in
-    let e : subjectNamed (policyIn s) n ≡ Subject u = sym (name-whole s n) ∙ sym (c .before .before .before .before .before .before .before .before .find-name .ensures) ∙ c .before .before .before .before .before .before .u .given .1 in
+    let e : subjectNamed (policyIn s) n ≡ Subject u = found-named s n (c .before .before .before .before .before .before .before .before .find-name .ensures) (c .before .before .before .before .before .before .u .given .1) in
     let b = sym (c .before .before .before .before .has-bracket .ensures) ∙ c .before .before .before .if1 .left in
     plain (a .path .now) _ w b
 
@@ -128,7 +128,7 @@ returns-5 c = let a = c .before .before .before .before .before .before .before 
     let w = sym (c .before .before .before .before .before .before .before .before .before .before .before .before .before .before .before .check-path .ensures) ∙ c .before .before .before .before .before .before .before .before .before .before .before .before .before .enum-told .given .1 in
     let p = is-path (pathOf (a .path .now)) _ w in
     let u = c .before .before .before .before .before .before .before .before .u .given .0 .0 in
-    let e : subjectNamed (policyIn s) n ≡ Subject u = sym (name-whole s n) ∙ sym (c .before .before .before .before .before .before .before .before .before .before .find-name .ensures) ∙ c .before .before .before .before .before .before .before .before .u .given .1 in
+    let e : subjectNamed (policyIn s) n ≡ Subject u = found-named s n (c .before .before .before .before .before .before .before .before .before .before .find-name .ensures) (c .before .before .before .before .before .before .before .before .u .given .1) in
     let b = sym (c .before .before .before .before .before .before .has-bracket .ensures) ∙ c .before .before .before .before .before .if1 .left in
     made-at (rule-restricted s t _ _ _ _ n p u e b (omega (arith, c .before .before .before .wide .ensures)) (sym (c .before .path-restricted .ensures) ∙ c .if3 .taken)) refused
 
@@ -150,7 +150,7 @@ returns-6 c = let a = c .before .before .before .before .before .before .before 
     let w = sym (c .before .before .before .before .before .before .before .before .before .before .before .before .before .before .before .before .before .before .before .before .check-path .ensures) ∙ c .before .before .before .before .before .before .before .before .before .before .before .before .before .before .before .before .before .before .enum-told .given .1 in
     let p = is-path (pathOf (a .path .now)) _ w in
     let u = c .before .before .before .before .before .before .before .before .before .before .before .before .before .u .given .0 .0 in
-    let e : subjectNamed (policyIn s) n ≡ Subject u = sym (name-whole s n) ∙ sym (c .before .before .before .before .before .before .before .before .before .before .before .before .before .before .before .find-name .ensures) ∙ c .before .before .before .before .before .before .before .before .before .before .before .before .before .u .given .1 in
+    let e : subjectNamed (policyIn s) n ≡ Subject u = found-named s n (c .before .before .before .before .before .before .before .before .before .before .before .before .before .before .before .find-name .ensures) (c .before .before .before .before .before .before .before .before .before .before .before .before .before .u .given .1) in
     let b = sym (c .before .before .before .before .before .before .before .before .before .before .before .has-bracket .ensures) ∙ c .before .before .before .before .before .before .before .before .before .before .if1 .left in
     made-at (rule-new s t _ _ _ _ n p u e b (omega (arith, c .before .before .before .before .before .before .before .before .wide .ensures)) (sym (c .before .before .before .before .before .before .path-restricted .ensures) ∙ c .before .before .before .before .before .if3 .left))
     (made-short okText _ _ s t (withStage 1 (withPolicy (withRule (policyBytes s) (a .accept) (a .right) u (stepsIn (a .path .now))) s)) _ (c .before .before .before .answer-ok .ensures) (c .if4 .taken))
@@ -173,7 +173,7 @@ add-rule-requires c κs = let a = c .before .before .before .before .before .bef
     let w = sym (c .before .before .before .before .before .before .before .before .before .before .before .before .before .before .before .before .before .before .before .before .before .check-path .ensures) ∙ c .before .before .before .before .before .before .before .before .before .before .before .before .before .before .before .before .before .before .before .enum-told .given .1 in
     let p = is-path (pathOf (a .path .now)) _ w in
     let u = c .before .before .before .before .before .before .before .before .before .before .before .before .before .before .u .given .0 .0 in
-    let e : subjectNamed (policyIn s) n ≡ Subject u = sym (name-whole s n) ∙ sym (c .before .before .before .before .before .before .before .before .before .before .before .before .before .before .before .before .find-name .ensures) ∙ c .before .before .before .before .before .before .before .before .before .before .before .before .before .before .u .given .1 in
+    let e : subjectNamed (policyIn s) n ≡ Subject u = found-named s n (c .before .before .before .before .before .before .before .before .before .before .before .before .before .before .before .before .find-name .ensures) (c .before .before .before .before .before .before .before .before .before .before .before .before .before .before .u .given .1) in
     let b = sym (c .before .before .before .before .before .before .before .before .before .before .before .before .has-bracket .ensures) ∙ c .before .before .before .before .before .before .before .before .before .before .before .if1 .left in
     rw (rest-of s 8) (store-held s t g .policy, omega (arith, c .before .before .before .before .before .before .before .before .before .wide .ensures, rules-byte s), found-declared s t n u g e, plain (a .path .now) _ w b)
 
@@ -197,7 +197,7 @@ returns-7 c = let a = c .before .before .before .before .before .before .before 
     let w = sym (c .before .before .before .before .before .before .before .before .before .before .before .before .before .before .before .before .before .before .before .before .before .before .before .before .check-path .ensures) ∙ c .before .before .before .before .before .before .before .before .before .before .before .before .before .before .before .before .before .before .before .before .before .before .enum-told .given .1 in
     let p = is-path (pathOf (a .path .now)) _ w in
     let u = c .before .before .before .before .before .before .before .before .before .before .before .before .before .before .before .before .before .u .given .0 .0 in
-    let e : subjectNamed (policyIn s) n ≡ Subject u = sym (name-whole s n) ∙ sym (c .before .before .before .before .before .before .before .before .before .before .before .before .before .before .before .before .before .before .before .find-name .ensures) ∙ c .before .before .before .before .before .before .before .before .before .before .before .before .before .before .before .before .before .u .given .1 in
+    let e : subjectNamed (policyIn s) n ≡ Subject u = found-named s n (c .before .before .before .before .before .before .before .before .before .before .before .before .before .before .before .before .before .before .before .find-name .ensures) (c .before .before .before .before .before .before .before .before .before .before .before .before .before .before .before .before .before .u .given .1) in
     let b = sym (c .before .before .before .before .before .before .before .before .before .before .before .before .before .before .before .has-bracket .ensures) ∙ c .before .before .before .before .before .before .before .before .before .before .before .before .before .before .if1 .left in
     made-at (rule-new s t _ _ _ _ n p u e b (omega (arith, c .before .before .before .before .before .before .before .before .before .before .before .before .wide .ensures)) (sym (c .before .before .before .before .before .before .before .before .before .before .path-restricted .ensures) ∙ c .before .before .before .before .before .before .before .before .before .if3 .left))
     (rw (rule-put s (a .path .now) _ (a .accept) (a .right) u (omega (arith, store-held s t g .size)) (c .before .before .add-rule .ensures)) (made-fits okText _ _ s t (withStage 1 (withPolicy (withRule (policyBytes s) (a .accept) (a .right) u (stepsIn (a .path .now))) s)) _ (c .before .before .before .before .before .before .before .answer-ok .ensures) (c .before .before .before .before .if4 .left)))

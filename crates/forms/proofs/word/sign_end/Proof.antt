@@ -1,4 +1,4 @@
--- `lines::part::sign_end` meets its contract.
+-- `lines::word::sign_end` meets its contract.
 use mathlib.Core.Path.{_≡_, refl, sym, ap, _∙_}
 use mathlib.Core.List.{List}
 use native.Mathlib.Omega.{arith}
@@ -8,8 +8,8 @@ use Rattle.rights.proofs.PathLaws.{bad-onward, at-onward}
 use Rattle.forms.specs.Part.{isSign}
 use Rattle.forms.proofs.PartLaws.{sign-none, sign-good}
 use borrow.Author.Needs.{needs}
-use Rattle.forms.proofs.part.sign_end.Statement.{statement}
-use Rattle.forms.proofs.part.sign_end.Tie as tie
+use Rattle.forms.proofs.word.sign_end.Statement.{statement}
+use Rattle.forms.proofs.word.sign_end.Tie as tie
 
 sign-at-requires : tie.Need-sign-at-requires
 sign-at-requires c κs = search needs
@@ -17,14 +17,14 @@ sign-at-requires c κs = search needs
 is-sign-requires : tie.Need-is-sign-requires
 is-sign-requires c κs = search needs
 
-label-end-requires : tie.Need-label-end-requires
-label-end-requires c κs = search needs
+next-word-requires : tie.Need-next-word-requires
+next-word-requires c κs = search needs
 
 returns : tie.Need-returns
 returns c =
     let s : List ℕ = c .before .before .before .before .before .args .s .now in
     let at : ℕ = c .before .before .before .before .before .args .at in
-    at-onward _ _ _ (sign-good s at (sym (c .before .before .is-sign .ensures ∙ ap isSign (c .before .before .before .sign-at .ensures)) ∙ c .before .if1 .taken) ∙ ap At (sym (c .label-end .ensures .is))) (omega arith) (omega arith)
+    at-onward _ _ _ (sign-good s at (sym (c .before .before .is-sign .ensures ∙ ap isSign (c .before .before .before .sign-at .ensures)) ∙ c .before .if1 .taken) ∙ ap At (sym (c .next-word .ensures .is))) (omega arith) (omega arith)
 
 returns-2 : tie.Need-returns-2
 returns-2 c =
@@ -34,4 +34,4 @@ returns-2 c =
 
 pub sign-end-spec : {M : Type 1} → statement M
 sign-end-spec =
-    tie.close (tie.spec sign-at-requires is-sign-requires label-end-requires returns returns-2)
+    tie.close (tie.spec sign-at-requires is-sign-requires next-word-requires returns returns-2)
