@@ -16,7 +16,7 @@ import subprocess
 import sys
 
 ROOT = os.path.dirname(os.path.dirname(os.path.abspath(__file__)))
-PAGES = ["README.md", "docs/GUIDE.md", "docs/REFUSALS-part.md"]
+PAGES = ["README.md", "docs/GUIDE.md"]
 MAN_PAGE = "docs/timetable.1"
 TEST_COMMANDS = {"bash tests/all", "bash bench/run"}
 SETTING_UP = ("(subject ", "(isa ", "(rule ", "(root ", "(child ", "(user ")
