@@ -24,6 +24,8 @@ FEW, MOST = 1024, 16384
 LINES = 100_000
 SECONDS_BOUND, RATIO_BOUND, GROWTH_BOUND = 10, 1.5, 20
 COUNTED_LINES = 5_000
+# callgrind counts `rep stosb` and `rep movsb` once a byte: with this the C library sets and copies by vector instructions while it counts
+NO_REP = "glibc.cpu.x86_rep_stosb_threshold=1000000000:glibc.cpu.x86_rep_movsb_threshold=1000000000"
 
 POLICY_AND_TREE = """\
 (subject staff)
@@ -98,7 +100,8 @@ def times(work, libraries, case, capacity, runs):
 
 def collected(work, options, command, text=""):
     """The instructions that callgrind counts; its output file stays in `work`."""
-    run("valgrind", "--tool=callgrind", f"--callgrind-out-file={work / 'callgrind'}", f"--log-file={work / 'log'}", *options, *command, input=text)
+    output = [f"--callgrind-out-file={work / 'callgrind'}", f"--log-file={work / 'log'}"]
+    run("valgrind", "--tool=callgrind", *output, *options, *command, input=text, env=dict(os.environ, GLIBC_TUNABLES=NO_REP))
     return int(re.search(r"Collected : (\d+)", (work / "log").read_text()).group(1))
 
 
@@ -150,8 +153,8 @@ HEAD = """\
 
 Written by `bash bench/run`. The Rattle library (`rt staticlib louvretansy`) and program beside the straightforward Rust version of docs/src (opt-level 3), both
 through the same C call, turn by turn in one process, from the same bytes; both left the same bytes in every case. A time is the median of CPU times; the ratio
-is Rattle over Rust, so below 1 Rattle is faster. Instructions are counted by callgrind, which other work on the machine does not disturb. Growth is from a full
-table of 1,024 records to one of 16,384, 16 times as many.
+is Rattle over Rust, so below 1 Rattle is faster. Instructions are counted by callgrind, which other work on the machine does not disturb, with the C library
+kept from `rep stosb` and `rep movsb`, which callgrind would count once a byte. Growth is from a full table of 1,024 records to one of 16,384, 16 times as many.
 
 The tree is deep (chains under the root, a node a level down to level 11; a label a level), for `//*[5000]` flat. Queries and changes run for one subject under
 five rules `//*`, one a right, so that selecting and changing show; the first two rows have 64 subjects, 128 isa lines and 128 rules, all of subjects that the
