@@ -65,5 +65,5 @@ def plot(rows, few, most):
         out.append(text(LEFT - 14, y + 4.5, name.replace("`", ""), "end"))
         out.append(rule(at(ms[0]), y, at(ms[1]), y, FAINT, 1.5))
         out.append(dot(at(ms[1]), y, RUST, True) + dot(at(ms[0]), y, RATTLE))
-        out.append(dot(grown(growth[1]), y, RUST, True) + dot(grown(growth[0]), y, RATTLE))
+        out.append(dot(grown(growth[1]), y + 7, RUST, True) + dot(grown(growth[0]), y - 6, RATTLE))
     return "\n".join(out + ["</svg>", ""])

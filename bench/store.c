@@ -1,4 +1,5 @@
-// Runs one line on a built state and table through each given library, and prints a line a library: the CPU nanoseconds of the median run, the number returned.
+// Runs one line on a built state and table through each given library, and prints a line a library: the CPU nanoseconds of
+// the median run, of the lower and of the upper quartile, and the number returned.
 //   store SHAPE NODES CAPACITY RULES LINE RUNS LIBRARY.so..
 // SHAPE: `deep` (chains under the root, one node a level down to level 11, each level with its label) or `flat` (siblings under the root).
 // RULES: `five` (one subject, //* for each right), `all` (64 subjects, 128 isa lines, 128 rules //*, all applying to the user on every node) or `labels` (the
@@ -97,7 +98,8 @@ int main(int argc, char **argv) {
         }
     for (int k = 0; k < libraries; k++) {
         qsort(ns[k], (size_t)runs, sizeof ns[k][0], ascending);
-        printf("%lld %lld\n", (long long)ns[k][runs / 2], (long long)returned[k]);
+        int64_t *t = ns[k];
+        printf("%lld %lld %lld %lld\n", (long long)t[runs / 2], (long long)t[runs / 4], (long long)t[runs * 3 / 4], (long long)returned[k]);
     }
     return 0;
 }

@@ -93,9 +93,10 @@ def words(case, capacity, runs):
 
 
 def times(work, libraries, case, capacity, runs):
-    """The CPU milliseconds of each library."""
+    """The CPU milliseconds of each library: of the median run, and of the quartiles."""
     out = run(work / "store", *words(case, capacity, runs), *libraries)
-    return [int(line.split()[0]) / 1e6 for line in out.splitlines()]
+    found = [[int(word) / 1e6 for word in line.split()[:3]] for line in out.splitlines()]
+    return [x[0] for x in found], [x[1:] for x in found]
 
 
 def collected(work, options, command, text=""):
@@ -110,9 +111,11 @@ def count(work, library, case, capacity):
 
 
 def hot(work):
-    """The three functions with most of the instructions counted last."""
-    found = re.findall(r"^ *[\d,]+ \( *([\d.]+)%\) +\S*?:(\S.*?)(?: \[.*)?$", run("callgrind_annotate", work / "callgrind"), re.M)
-    return ", ".join(f"`{name}` {share} %" for share, name in found[:3])
+    """The three functions with most of the instructions counted last. callgrind names a recursive call apart, by `'2`."""
+    shares = {}
+    for share, name in re.findall(r"^ *[\d,]+ \( *([\d.]+)%\) +\S*?:(\S.*?)(?:'\d+)?(?: \[.*)?$", run("callgrind_annotate", work / "callgrind"), re.M):
+        shares[name] = shares.get(name, 0) + float(share)
+    return ", ".join(f"`{name}` {share:.0f} %" for name, share in sorted(shares.items(), key=lambda item: -item[1])[:3])
 
 
 def example(lines):
@@ -158,18 +161,20 @@ kept from `rep stosb` and `rep movsb`, which callgrind would count once a byte. 
 
 The tree is deep (chains under the root, a node a level down to level 11; a label a level), for `//*[5000]` flat. Queries and changes run for one subject under
 five rules `//*`, one a right, so that selecting and changing show; the first two rows have 64 subjects, 128 isa lines and 128 rules, all of subjects that the
-user is.
+user is. The append starts with 15,016 records, so that a node for each of 1,365 places fits. On a loaded machine times move from run
+to run, by more than the quartiles of one run show; the counts do not.
 
 """
 
 
-def report(rows, program, above, about):
+def report(rows, spreads, program, above, about):
     """docs/BENCHMARK.md"""
     text = HEAD + about + "\n\n## One line on a full table\n\n"
-    text += f"At {MOST:,} records, ms of CPU and millions of instructions; growth of CPU time and of instructions from {FEW:,} records.\n\n"
+    text += f"At {MOST:,} records, ms of CPU (median, and quartiles) and millions of instructions; growth of CPU time and of instructions from {FEW:,} records.\n\n"
     text += "| line | Rattle ms | Rust ms | ratio | Rattle instr. | Rust instr. | ratio | growth Rattle | growth Rust |\n|---|---|---|---|---|---|---|---|---|\n"
-    for name, few, most, few_i, most_i in rows:
-        text += f"| {name} | {most[0]:.2f} | {most[1]:.2f} | {most[0] / most[1]:.2f} | {most_i[0] / 1e6:.1f} | {most_i[1] / 1e6:.1f} | {most_i[0] / most_i[1]:.2f} "
+    for (name, few, most, few_i, most_i), spread in zip(rows, spreads):
+        ms = [f"{x:.2f} ({low:.2f} to {high:.2f})" for x, (low, high) in zip(most, spread)]
+        text += f"| {name} | {ms[0]} | {ms[1]} | {most[0] / most[1]:.2f} | {most_i[0] / 1e6:.1f} | {most_i[1] / 1e6:.1f} | {most_i[0] / most_i[1]:.2f} "
         text += f"| {most[0] / few[0]:.1f}, {most_i[0] / few_i[0]:.1f} | {most[1] / few[1]:.1f}, {most_i[1] / few_i[1]:.1f} |\n"
     cpu, wall, counts = program
     text += f"\n## The program\n\nThe example of document 01, its stage E lines repeated to {LINES:,} lines; at most {SECONDS_BOUND} s are allowed. "
@@ -202,9 +207,9 @@ def main():
         work = Path(folder)
         about = machine(options.runs)
         libraries, programs = build(work, options.archive, options.program)
-        rows, above = [], []
+        rows, spreads, above = [], [], []
         for case in CASES:
-            few, most = (times(work, libraries, case, capacity, options.runs) for capacity in (FEW, MOST))
+            (few, _), (most, quartiles) = (times(work, libraries, case, capacity, options.runs) for capacity in (FEW, MOST))
             ratio = most[0] / most[1]
             bound(ratio <= RATIO_BOUND, f"{case[0]}: {most[0]:.2f} ms, Rust {most[1]:.2f} ms, ratio {ratio:.2f}, at most {RATIO_BOUND}")
             if options.quick:
@@ -216,6 +221,7 @@ def main():
             if ratio > RATIO_BOUND:
                 above.append((case[0], hot(work)))
             rows.append((case[0], few, most, few_i, most_i))
+            spreads.append(quartiles)
         cpu, wall = program_times(work, programs, 3 if options.quick else 7)
         bound(wall[0] <= SECONDS_BOUND, f"{LINES:,} lines of the program: {wall[0]:.2f} s, at most {SECONDS_BOUND}; CPU {cpu[0]:.2f} s, Rust {cpu[1]:.2f} s")
         bound(cpu[0] <= RATIO_BOUND * cpu[1], f"the program: ratio {cpu[0] / cpu[1]:.2f}, at most {RATIO_BOUND}")
@@ -223,7 +229,7 @@ def main():
             counts = [collected(work, [], [program], example(COUNTED_LINES)) for program in reversed(programs)][::-1]
             if cpu[0] > RATIO_BOUND * cpu[1]:
                 above.append(("the program", hot(work)))
-            (ROOT / "docs/BENCHMARK.md").write_text(report(rows, (cpu, wall, counts), above, about))
+            (ROOT / "docs/BENCHMARK.md").write_text(report(rows, spreads, (cpu, wall, counts), above, about))
             (ROOT / "docs/benchmark.svg").write_text(plot(rows, FEW, MOST))
     sys.exit(failed)
 
