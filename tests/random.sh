@@ -1,9 +1,10 @@
 #!/usr/bin/env bash
-# random.sh [ARCHIVE]: the random testers. Without an archive they test the straightforward Rust version (docs/src) and themselves; with libtimetable.a they test
-# the functions in it. Ends with `N passed, M failed`. Needs cargo, and gcc for an archive.
+# random.sh [ARCHIVE]: the random testers. Without an archive they test the straightforward Rust version (docs/src) and themselves; with liblouvretansy.a they test
+# the functions in it. The seed is fixed. Ends with `N passed, M failed`. Needs cargo, and gcc for an archive.
 set -u
 source=$(cd "$(dirname "${BASH_SOURCE[0]}")/../docs/src" && pwd)
 work=$(mktemp -d)
+seed=20261115
 trap 'rm -rf "$work"' EXIT
 passed=0
 failed=0
@@ -32,10 +33,10 @@ fails() {
 cargo build --quiet --release --offline --manifest-path "$source/Cargo.toml" --bins --example shared || { echo "0 passed, 1 failed"; exit 1; }
 bin=$source/target/release
 if [ $# -gt 0 ]; then
-    library=$work/libtimetable.so
+    library=$work/liblouvretansy.so
     gcc -shared -o "$library" -Wl,--whole-archive "$1" -Wl,--no-whole-archive || { echo "0 passed, 1 failed"; exit 1; }
-    run 'demand 3 on the library' "$bin/demand3" --library "$library"
-    run 'the library and the straightforward version' "$bin/compare" --library "$library"
+    run 'demand 3 on the library' "$bin/demand3" --seed "$seed" --lines 100000 --library "$library"
+    run 'the library and the straightforward version' "$bin/compare" --seed "$seed" --lines 20000 --library "$library"
 else
     run 'demand 3 on the straightforward version' "$bin/demand3"
     run 'each false reading is found by the demand-3 tester' "$bin/demand3" --self-test

@@ -10,3 +10,4 @@ pub mod FormParts
 pub mod TreeStepLaws
 pub mod LineLaws
 pub mod ChangeLaws
+pub mod AnswerRoom

@@ -416,6 +416,7 @@ fn state_place(random: &mut Random, bytes: &[u8]) -> usize {
 
 fn damage_state(random: &mut Random, bytes: &mut Vec<u8>) {
     let subjects = bytes[8] as usize;
+    let rules = usize::from(bytes[10]).min(RULES_MAXIMUM); // the count may be damaged already
     match random.below(12) {
         0 => {
             bytes.truncate(*random.pick(&[0, 1, 8, STATE_BYTES - 1]));
@@ -429,8 +430,8 @@ fn damage_state(random: &mut Random, bytes: &mut Vec<u8>) {
             let at = 16 + 32 * random.below(subjects);
             write_record(&mut bytes[at..at + 32], 0, b"RESTRICTED");
         }
-        4 if bytes[10] > 0 => {
-            let at = 16 + 32 * 64 + 256 + 520 * random.below(bytes[10] as usize) + 8;
+        4 if rules > 0 => {
+            let at = 16 + 32 * 64 + 256 + 520 * random.below(rules) + 8;
             let text: &[u8] = random.pick::<&[u8]>(&[b"RESTRICTED", b"*", b"$", b"**", b"$a", b"[1]", b"a/b"]);
             write_record(&mut bytes[at..at + 32], 1, text);
         }

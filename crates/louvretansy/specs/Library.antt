@@ -1,0 +1,23 @@
+-- What the library returns and leaves (document 01, "What is written", "Who can be turned down").
+use Prim.Native.Nat.{ℕ}
+use mathlib.Core.Path.{_≡_}
+use mathlib.Core.List.{List}
+use lib.IntN.{ℤ, pos, negℤ}
+use lib.ListN.{length}
+use Rattle.lines.specs.Step.{Reply, says, refuses, Outcome, areaAfter}
+
+-- the bytes of a state: of the length that 13 asks for (crates/lines/specs/State.antt, `storeOk`)
+abbrev pub stateBytes : ℕ
+stateBytes = 68880
+
+-- "An accepted line returns the answer's length"; of a refused one "the number is returned", with a minus sign
+abbrev pub numberOf : Reply → ℤ
+numberOf (says b) = pos (length b)
+numberOf (refuses n) = negℤ (pos n)
+
+-- what is returned and left is what the outcome says
+pub record Returned (o : Outcome) (before : List ℕ) (r : ℤ) (state' table' area' : List ℕ) : Type 0 where
+  pub number : r ≡ numberOf (o .reply)
+  pub state : state' ≡ o .state
+  pub table : table' ≡ o .table
+  pub area : area' ≡ areaAfter (o .reply) before

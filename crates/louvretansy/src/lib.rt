@@ -1,0 +1,41 @@
+// The library for C and Rust: one call for every line, and the size of a state. Each slice is lent as a pointer and a length; include/timetable.h tells callers.
+use lines::limits::STATE_BYTES;
+use lines::line::Answer;
+ghost use mathlib.Core.Path.{_≡_};
+ghost use lib.IntN.{pos, negℤ};
+ghost use lib.ListN.{length};
+ghost use Rattle.answers.specs.AnswerChoice.{chosen};
+ghost use Rattle.lines.specs.Line.{step};
+ghost use Rattle.louvretansy.specs.Library.{stateBytes, Returned};
+
+// Minus the number of a refusal.
+fn refused(number: u8) -> i64
+    ensures { λ r. ⌜ r ≡ negℤ (pos number) ⌝ }
+{
+    -(number as i64)
+}
+
+// One line: the answer's length, its bytes at the front of the area; or minus the refusal's number, and every byte as it was.
+#[no_mangle]
+pub extern "C" fn timetable_line(
+    state: &mut [u8],
+    table: &mut [u8],
+    line: &[u8],
+    area: &mut [u8],
+) -> i64
+    ensures { λ r. ⌜ Returned (step chosen (now (state .entry)) (now (table .entry)) (now (line .entry)) (length (now (area .entry)))) (now (area .entry)) r (now (state .exit)) (now (table .exit)) (now (area .exit)) ⌝ }
+{
+    let answer = lines::line::line(state, table, line, area);
+    match answer {
+        Answer::Accepted(n) => n as i64,
+        Answer::Refused(number) => refused(number),
+    }
+}
+
+// The bytes of a state.
+#[no_mangle]
+pub extern "C" fn timetable_state_bytes() -> usize
+    ensures { λ r. ⌜ r ≡ stateBytes ⌝ }
+{
+    STATE_BYTES
+}

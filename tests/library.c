@@ -1,0 +1,466 @@
+/* Tests of the library through its C interface: answers, areas that are too short (12), damaged states and tables (13). Every lent area lies between guard
+ * bytes. Prints the number of calls, or the first failure. The places of bytes are those of docs/FORMAT.md.
+ */
+#include "timetable.h"
+
+#include <stdio.h>
+#include <stdlib.h>
+#include <string.h>
+
+enum {
+    GUARD_BYTES = 64,
+    GUARD = 0x5a,
+    OLD = 0xa5, /* what an area holds before a call */
+    STATE_BYTES = 68880,
+    RECORD_BYTES = 32,
+    RECORDS_MAX = 16384,
+    STAGE = 0,
+    USER = 1,
+    SUBJECT_COUNT = 8,
+    ISA_COUNT = 9,
+    RULE_COUNT = 10,
+    SUBJECTS = 16,
+    ISA_LINES = 2064,
+    RULES = 2320,
+    RULE_BYTES = 520,
+    STEPS = 8,
+    SPARE = 26, /* of a record: 6 zero bytes */
+    RECORDS = 4,
+    SCHOOL_NODES = 9
+};
+
+enum stage { A, B, C, D, E };
+
+#define CHECK(what, fact)                                                                                                                                     \
+    do {                                                                                                                                                      \
+        if (!(fact)) {                                                                                                                                        \
+            fprintf(stderr, "FAILED: %s (%s:%d): %s\n", what, __FILE__, __LINE__, #fact);                                                                     \
+            exit(1);                                                                                                                                          \
+        }                                                                                                                                                     \
+    } while (0)
+
+static unsigned long calls = 0;
+
+/* Lent bytes between guards */
+
+struct lent {
+    uint8_t *bytes;
+    size_t length;
+};
+
+static struct lent lend(size_t length, uint8_t filled) {
+    uint8_t *block = malloc(length + 2 * GUARD_BYTES);
+    CHECK("memory", block != NULL);
+    memset(block, GUARD, length + 2 * GUARD_BYTES);
+    memset(block + GUARD_BYTES, filled, length);
+    struct lent made = {block + GUARD_BYTES, length};
+    return made;
+}
+
+static struct lent lend_copy(const void *bytes, size_t length) {
+    struct lent made = lend(length, 0);
+    memcpy(made.bytes, bytes, length);
+    return made;
+}
+
+static int guarded(struct lent lent) {
+    for (size_t i = 0; i < GUARD_BYTES; i++) {
+        if (lent.bytes[lent.length + i] != GUARD || *(lent.bytes - 1 - i) != GUARD) {
+            return 0;
+        }
+    }
+    return 1;
+}
+
+static int same(struct lent one, struct lent other) {
+    return one.length == other.length && memcmp(one.bytes, other.bytes, one.length) == 0;
+}
+
+static void give_back(struct lent lent) {
+    free(lent.bytes - GUARD_BYTES);
+}
+
+struct store {
+    struct lent state;
+    struct lent table;
+};
+
+static struct store new_store(size_t table_bytes) {
+    struct store made = {lend(STATE_BYTES, 0), lend(table_bytes, 0)};
+    return made;
+}
+
+static struct store copy_store(struct store store) {
+    struct store made = {lend_copy(store.state.bytes, store.state.length), lend_copy(store.table.bytes, store.table.length)};
+    return made;
+}
+
+static void give_back_store(struct store store) {
+    give_back(store.state);
+    give_back(store.table);
+}
+
+/* Calls */
+
+/* One line, with what holds for every call: guards and line are kept, the answer lies in the area and what is behind it is kept, a refusal keeps every byte. */
+static int64_t call(struct store store, const char *text, struct lent area) {
+    struct store before = copy_store(store);
+    struct lent old = lend_copy(area.bytes, area.length);
+    struct lent line = lend_copy(text, strlen(text));
+    int64_t returned =
+        timetable_line(store.state.bytes, store.state.length, store.table.bytes, store.table.length, line.bytes, line.length, area.bytes, area.length);
+    calls++;
+    CHECK(text, guarded(store.state) && guarded(store.table) && guarded(line) && guarded(area));
+    CHECK(text, memcmp(line.bytes, text, line.length) == 0);
+    if (returned < 0) {
+        CHECK(text, returned >= -13);
+        CHECK(text, same(store.state, before.state) && same(store.table, before.table) && same(area, old));
+    } else {
+        size_t length = (size_t)returned;
+        CHECK(text, length >= 5 && length <= area.length && area.bytes[length - 1] == '\n');
+        CHECK(text, memcmp(area.bytes + length, old.bytes + length, area.length - length) == 0);
+    }
+    give_back_store(before);
+    give_back(old);
+    give_back(line);
+    return returned;
+}
+
+static void expect_refusal(struct store store, const char *text, size_t room, int number, const char *what) {
+    struct lent area = lend(room, OLD);
+    int64_t returned = call(store, text, area);
+    if (returned != -number) {
+        fprintf(stderr, "FAILED: %s: %s returns %ld, not %d\n", what, text, (long)returned, -number);
+        exit(1);
+    }
+    give_back(area);
+}
+
+static void expect_answer(struct store store, const char *text, size_t room, const char *answer) {
+    struct lent area = lend(room, OLD);
+    int64_t returned = call(store, text, area);
+    if (returned != (int64_t)strlen(answer) || memcmp(area.bytes, answer, strlen(answer)) != 0) {
+        fprintf(stderr, "FAILED: %s returns %ld: %.*s", text, (long)returned, returned > 0 ? (int)returned : 0, (const char *)area.bytes);
+        exit(1);
+    }
+    give_back(area);
+}
+
+/* The small school of document 01 */
+
+struct example {
+    const char *line;
+    const char *answer;
+};
+
+static const struct example EXAMPLE[] = {
+    {"(subject staff)", "(ok)\n"},
+    {"(subject SHA)", "(ok)\n"},
+    {"(isa SHA staff)", "(ok)\n"},
+    {"(rule accept read //* staff)", "(ok)\n"},
+    {"(rule deny read //note/* staff)", "(ok)\n"},
+    {"(rule accept position //note/* staff)", "(ok)\n"},
+    {"(rule accept update //room/* staff)", "(ok)\n"},
+    {"(root school)", "(ok)\n"},
+    {"(child (mon (lesson (class (10B)) (room (R12)) (note (ill)))))", "(ok)\n"},
+    {"(user SHA)", "(ok)\n"},
+    {"(view)", "(root school)\n(child (mon (lesson (class (10B)) (room (R12)) (note (RESTRICTED)))))\n(end 9)\n"},
+    {"(update //room R14)", "(done 1 1)\n"},
+    {"(query //lesson/*)", "(hit 3 class)\n(hit 3 room)\n(hit 3 note)\n(end 3)\n"},
+    {"(rename //note/* cold)", "(done 1 0)\n"},
+    {"(find //room/R14)", "(hit 4 R14)\n"},
+    {"(find //R12)", "(none)\n"},
+};
+
+enum { POLICY_LINES = 7, TREE_LINES = 9, LOGGED_IN = 10, EXAMPLE_LINES = sizeof EXAMPLE / sizeof EXAMPLE[0] };
+
+static struct store school(size_t lines, size_t table_bytes) {
+    struct store made = new_store(table_bytes);
+    for (size_t i = 0; i < lines; i++) {
+        expect_answer(made, EXAMPLE[i].line, 100, EXAMPLE[i].answer);
+    }
+    return made;
+}
+
+static struct store full_school(void) {
+    return school(LOGGED_IN, TIMETABLE_TABLE_BYTES(20) + 5);
+}
+
+static void write_label(uint8_t *record, const char *label) {
+    memset(record + 1, 0, RECORD_BYTES - 1);
+    record[1] = (uint8_t)strlen(label);
+    memcpy(record + 2, label, strlen(label));
+}
+
+/* 12: every area shorter than the answer, byte for byte; then the very length */
+static void short_areas(void) {
+    struct store store = new_store(TIMETABLE_TABLE_BYTES(20));
+    for (size_t i = 0; i < EXAMPLE_LINES; i++) {
+        size_t length = strlen(EXAMPLE[i].answer);
+        for (size_t room = 0; room < length; room++) {
+            expect_refusal(store, EXAMPLE[i].line, room, TIMETABLE_AREA_SHORT, "a short area");
+        }
+        expect_answer(store, EXAMPLE[i].line, length, EXAMPLE[i].answer);
+    }
+    /* a smaller number comes first */
+    expect_refusal(store, "(query a)", 0, TIMETABLE_BAD_PATH, "a short area");
+    give_back_store(store);
+}
+
+/* 13, whatever the line and the area are; 13 comes first */
+static void expect_damaged(struct store store, const char *what) {
+    char long_line[1026];
+    memset(long_line, 'x', sizeof long_line - 1);
+    long_line[sizeof long_line - 1] = '\0';
+    const char *const lines[] = {"(view)", "(subject x)", "(root r)", "(user SHA)", "", "\n", long_line};
+    for (size_t i = 0; i < sizeof lines / sizeof lines[0]; i++) {
+        expect_refusal(store, lines[i], i % 2 == 0 ? 100 : 0, TIMETABLE_BAD_STORE, what);
+    }
+}
+
+static void damaged_byte(struct store sound, int in_table, size_t at, uint8_t value, const char *what) {
+    struct store store = copy_store(sound);
+    struct lent lent = in_table ? store.table : store.state;
+    CHECK(what, at < lent.length && lent.bytes[at] != value);
+    lent.bytes[at] = value;
+    expect_damaged(store, what);
+    give_back_store(store);
+}
+
+static void damaged_state(struct store sound, size_t at, uint8_t value, const char *what) {
+    damaged_byte(sound, 0, at, value, what);
+}
+
+static void damaged_table(struct store sound, size_t at, uint8_t value, const char *what) {
+    damaged_byte(sound, 1, at, value, what);
+}
+
+static void state_lengths(void) {
+    const size_t lengths[] = {0, 1, 8, STATE_BYTES - 1, STATE_BYTES + 1, 2 * STATE_BYTES};
+    for (size_t i = 0; i < sizeof lengths / sizeof lengths[0]; i++) {
+        struct store store = {lend(lengths[i], 0), lend(TIMETABLE_TABLE_BYTES(20), 0)};
+        expect_damaged(store, "a state of another length");
+        give_back_store(store);
+    }
+}
+
+static void damaged_sessions(void) {
+    struct store policy = school(POLICY_LINES, TIMETABLE_TABLE_BYTES(20));
+    struct store tree = school(TREE_LINES, TIMETABLE_TABLE_BYTES(20));
+    struct store user = full_school();
+    damaged_state(policy, USER, 2, "a user at stage B");
+    damaged_state(policy, STAGE, A, "a rule at stage A");
+    damaged_state(policy, STAGE, C, "the root line without a root");
+    damaged_state(policy, STAGE, D, "a child line without a root");
+    damaged_state(policy, STAGE, E, "stage E without user and root");
+    damaged_state(tree, STAGE, A, "a root without the root line, at stage A");
+    damaged_state(tree, STAGE, B, "a root without the root line");
+    damaged_state(tree, STAGE, E, "stage E without a user");
+    damaged_state(tree, USER, 1, "a user at stage D");
+    damaged_state(user, STAGE, D, "a user at stage D");
+    damaged_state(user, STAGE, 5, "a stage past E");
+    damaged_state(user, USER, 0, "stage E without a user");
+    damaged_state(user, USER, 3, "a user who is not declared");
+    for (size_t at = 2; at < 8; at++) {
+        damaged_state(user, at, 1, "a spare byte of the session");
+    }
+    give_back_store(policy);
+    give_back_store(tree);
+    give_back_store(user);
+}
+
+static void damaged_policies(void) {
+    struct store sound = full_school();
+    size_t last_step = RULES + 1 * RULE_BYTES + STEPS + RECORD_BYTES; /* rule 1 has two */
+    damaged_state(sound, SUBJECT_COUNT, 65, "65 subjects");
+    damaged_state(sound, SUBJECT_COUNT, 3, "a subject without a name");
+    damaged_state(sound, SUBJECT_COUNT, 1, "a name behind the subjects");
+    damaged_state(sound, ISA_COUNT, 129, "129 isa lines");
+    damaged_state(sound, ISA_COUNT, 2, "an isa line of a subject and itself");
+    damaged_state(sound, ISA_COUNT, 0, "an isa line behind the isa lines");
+    damaged_state(sound, RULE_COUNT, 129, "129 rules");
+    damaged_state(sound, RULE_COUNT, 5, "a rule without steps");
+    damaged_state(sound, RULE_COUNT, 3, "a rule behind the rules");
+    for (size_t at = RULE_COUNT + 1; at < SUBJECTS; at++) {
+        damaged_state(sound, at, 1, "a spare byte of the policy");
+    }
+    damaged_state(sound, SUBJECTS, 1, "a subject at level 1");
+    damaged_state(sound, SUBJECTS + 1, 0, "a name of no bytes");
+    damaged_state(sound, SUBJECTS + 1, 25, "a name of 25 bytes");
+    damaged_state(sound, SUBJECTS + 1, 4, "a byte behind a name");
+    damaged_state(sound, SUBJECTS + 1, 6, "a zero byte in a name");
+    damaged_state(sound, SUBJECTS + 2, '*', "a name that is no label");
+    damaged_state(sound, SUBJECTS + SPARE, 1, "a spare byte of a subject");
+    damaged_state(sound, ISA_LINES, 0, "an isa line of a subject and itself");
+    damaged_state(sound, ISA_LINES, 2, "an isa line of an unknown name");
+    damaged_state(sound, ISA_LINES + 1, 1, "an isa line whose R is not before N");
+    damaged_state(sound, RULES, 2, "a rule that neither accepts nor denies");
+    damaged_state(sound, RULES + 1, 0, "a rule without a right");
+    damaged_state(sound, RULES + 1, 3, "a rule with two rights");
+    damaged_state(sound, RULES + 1, 32, "a rule with a sixth right");
+    damaged_state(sound, RULES + 2, 2, "a rule of an unknown name");
+    damaged_state(sound, RULES + 3, 0, "a rule of no steps");
+    damaged_state(sound, RULES + 3, 2, "a step without a label");
+    damaged_state(sound, RULES + 3, 17, "a rule of 17 steps");
+    for (size_t at = RULES + 4; at < RULES + STEPS; at++) {
+        damaged_state(sound, at, 1, "a spare byte of a rule");
+    }
+    damaged_state(sound, RULES + STEPS, 2, "a step that is neither / nor //");
+    damaged_state(sound, RULES + STEPS + 2, '[', "a bracket in a rule");
+    damaged_state(sound, last_step + RECORD_BYTES, 1, "a byte behind a rule's steps");
+    damaged_state(sound, STATE_BYTES - 1, 1, "the last byte");
+    for (size_t at = RULES + 4 * RULE_BYTES; at < STATE_BYTES; at += 997) {
+        damaged_state(sound, at, 1, "a byte that is not in use");
+    }
+
+    struct store store = copy_store(sound);
+    write_label(store.state.bytes + SUBJECTS + RECORD_BYTES, "staff");
+    expect_damaged(store, "a name declared twice");
+    write_label(store.state.bytes + SUBJECTS + RECORD_BYTES, "RESTRICTED");
+    expect_damaged(store, "RESTRICTED as a name");
+    give_back_store(store);
+
+    store = copy_store(sound);
+    write_label(store.state.bytes + RULES + RULE_BYTES + STEPS, "RESTRICTED");
+    expect_damaged(store, "RESTRICTED in a rule");
+    give_back_store(store);
+
+    store = copy_store(sound);
+    store.state.bytes[ISA_COUNT] = 2;
+    store.state.bytes[ISA_LINES + 2] = 1;
+    expect_damaged(store, "an isa line repeated");
+    give_back_store(store);
+    give_back_store(sound);
+}
+
+static void damaged_tables(void) {
+    struct store sound = full_school();
+    size_t mon = RECORDS + RECORD_BYTES;
+    size_t behind = RECORDS + SCHOOL_NODES * RECORD_BYTES;
+    damaged_table(sound, 0, SCHOOL_NODES - 1, "a record behind the last");
+    damaged_table(sound, 0, SCHOOL_NODES + 1, "a record without a label");
+    damaged_table(sound, 0, 21, "a count above the capacity");
+    damaged_table(sound, 3, 255, "a count above the capacity");
+    damaged_table(sound, RECORDS, 1, "a root at level 1");
+    damaged_table(sound, mon, 0, "two roots");
+    damaged_table(sound, mon, 2, "a level left out");
+    damaged_table(sound, mon + 1, 0, "a label of no bytes");
+    damaged_table(sound, mon + 1, 25, "a label of 25 bytes");
+    damaged_table(sound, mon + 1, 2, "a byte behind a label");
+    damaged_table(sound, mon + 1, 4, "a zero byte in a label");
+    damaged_table(sound, mon + 2, ' ', "a space in a label");
+    damaged_table(sound, mon + 2, 200, "a byte of a label that is not ASCII");
+    for (size_t at = mon + SPARE; at < mon + RECORD_BYTES; at++) {
+        damaged_table(sound, at, 1, "a spare byte of a record");
+    }
+    for (size_t at = behind; at < sound.table.length; at++) {
+        damaged_table(sound, at, 1, "a tail that is not zero");
+    }
+
+    struct store store = copy_store(sound);
+    write_label(store.table.bytes + mon, "RESTRICTED");
+    expect_damaged(store, "RESTRICTED as a label");
+    give_back_store(store);
+
+    store = school(LOGGED_IN, TIMETABLE_TABLE_BYTES(SCHOOL_NODES));
+    expect_refusal(store, "(child (x))", 100, TIMETABLE_WRONG_STAGE, "a full table");
+    store.table.bytes[0] = SCHOOL_NODES + 1;
+    expect_damaged(store, "a count one above the capacity");
+    give_back_store(store);
+
+    store = new_store(TIMETABLE_TABLE_BYTES(13));
+    store.state.bytes[STAGE] = C;
+    store.table.bytes[0] = 13;
+    for (uint8_t level = 0; level < 13; level++) {
+        store.table.bytes[RECORDS + level * RECORD_BYTES] = level;
+        write_label(store.table.bytes + RECORDS + level * RECORD_BYTES, "x");
+    }
+    expect_damaged(store, "a level above 11");
+    give_back_store(store);
+
+    for (size_t length = 0; length < 4; length++) {
+        store = new_store(length);
+        expect_damaged(store, "a table under 4 bytes");
+        give_back_store(store);
+    }
+    give_back_store(sound);
+}
+
+/* What 13 lets pass at the edges */
+static void sound_stores(void) {
+    struct store store = new_store(4);
+    expect_answer(store, "(subject x)", 5, "(ok)\n");
+    expect_refusal(store, "(root r)", 5, TIMETABLE_TABLE_FULL, "a table of 4 bytes");
+    give_back_store(store);
+
+    store = new_store(TIMETABLE_TABLE_BYTES(1));
+    store.state.bytes[STAGE] = B; /* no rule is needed for it */
+    expect_refusal(store, "(subject x)", 5, TIMETABLE_WRONG_STAGE, "stage B");
+    expect_answer(store, "(root r)", 5, "(ok)\n");
+    give_back_store(store);
+}
+
+static void lines_of_1024(void) {
+    struct store store = new_store(TIMETABLE_TABLE_BYTES(20));
+    char line[1026];
+    memset(line, 'x', 1025);
+    line[1025] = '\0';
+    expect_refusal(store, line, 100, TIMETABLE_LINE_BYTES, "1,025 bytes");
+    line[1024] = '\0';
+    expect_refusal(store, line, 100, TIMETABLE_NO_FORM, "1,024 bytes");
+    expect_refusal(store, "", 100, TIMETABLE_NO_FORM, "no bytes");
+    expect_refusal(store, "(subject x)\n", 100, TIMETABLE_LINE_BYTES, "a line feed");
+    expect_refusal(store, "(subject \x7f)", 100, TIMETABLE_LINE_BYTES, "byte 127");
+    give_back_store(store);
+}
+
+/* A table of all 16,384 records with the longest labels: the longest view, and the most stack. */
+static void largest_table(void) {
+    static const char label[] = "abcdefghijklmnopqrstuvwx";
+    struct store store = new_store(TIMETABLE_TABLE_BYTES(RECORDS_MAX + 1) + 31);
+    struct lent area = lend(TIMETABLE_AREA_BYTES(RECORDS_MAX), OLD);
+    expect_answer(store, "(subject x)", 5, "(ok)\n");
+    expect_answer(store, "(rule accept read //* x)", 5, "(ok)\n");
+    expect_answer(store, "(rule accept update //* x)", 5, "(ok)\n");
+    expect_answer(store, "(rule accept insert //* x)", 5, "(ok)\n");
+    expect_answer(store, "(root abcdefghijklmnopqrstuvwx)", 5, "(ok)\n");
+    store.table.bytes[0] = RECORDS_MAX & 255;
+    store.table.bytes[1] = RECORDS_MAX >> 8;
+    for (size_t i = 1; i < RECORDS_MAX; i++) {
+        store.table.bytes[RECORDS + i * RECORD_BYTES] = 1;
+        write_label(store.table.bytes + RECORDS + i * RECORD_BYTES, label);
+    }
+    expect_refusal(store, "(child (x))", 5, TIMETABLE_TABLE_FULL, "16,384 records");
+    expect_answer(store, "(user x)", 5, "(ok)\n");
+
+    size_t length = strlen("(root )\n") + 24 + (RECORDS_MAX - 1) * (strlen("(child ())\n") + 24) + strlen("(end 16384)\n");
+    CHECK("the longest view", call(store, "(view)", area) == (int64_t)length && length <= area.length);
+    expect_refusal(store, "(view)", length - 1, TIMETABLE_AREA_SHORT, "the longest view");
+    CHECK("the longest query", call(store, "(query //*)", area) > 0);
+
+    char nested[512] = "(update //*";
+    for (int depth = 0; depth < 3; depth++) {
+        strcat(nested, "[*//*//*//*//*//*//*//*//*//*//*//*//*//*//*//*");
+    }
+    strcat(nested, "]]] y)");
+    expect_answer(store, nested, 100, "(done 0 0)\n");
+    expect_answer(store, "(update /*[*[1]][*[1]] y)", 100, "(done 1 16383)\n");
+    expect_refusal(store, "(append //*[1] (a (b (c))))", 100, TIMETABLE_TABLE_FULL, "16,384 records");
+    expect_answer(store, "(update /* z)", 100, "(done 1 16383)\n");
+    give_back(area);
+    give_back_store(store);
+}
+
+int main(void) {
+    CHECK("the bytes of a state", timetable_state_bytes() == STATE_BYTES);
+    short_areas();
+    state_lengths();
+    damaged_sessions();
+    damaged_policies();
+    damaged_tables();
+    sound_stores();
+    lines_of_1024();
+    largest_table();
+    printf("%lu calls as expected\n", calls);
+    return 0;
+}
