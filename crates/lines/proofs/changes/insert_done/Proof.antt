@@ -16,7 +16,6 @@ turned-down-requires c κs = search needs
 same-length : tie.Need-same-length
 same-length c = search needs
 
--- antt refused `returns` as it was built: the module's report says why
 returns : tie.Need-returns
 returns c = let g = c .before .before .before .before .before .before .before .before .pre in
     let a = c .before .before .before .before .before .before .before .before .args in
@@ -35,7 +34,6 @@ same-length-2 c = search needs
 same-length-3 : tie.Need-same-length-3
 same-length-3 c = search needs
 
--- antt refused `returns-2` as it was built: the module's report says why
 returns-2 : tie.Need-returns-2
 returns-2 c = let g = c .before .before .before .before .before .before .before .before .before .before .before .before .before .before .pre in
     let a = c .before .before .before .before .before .before .before .before .before .before .before .before .before .before .args in
@@ -46,7 +44,6 @@ returns-2 c = let g = c .before .before .before .before .before .before .before 
     made-at (insert-done (a .place) k (a .m) (a .tree .now) t _ (c .before .before .before .before .before .before .before .turned-down .ensures) text s s (length (a .area .now)) (c .before .before .before .before .before .before .if1 .left))
     (made-kept text (a .area .now) _ s t s (changed t (placed (a .place) (a .m) (a .tree .now) k (records t))) _ (c .before .before .before .answer-change .ensures) (c .if2 .taken))
 
--- antt refused `insert-marked-requires` as it was built: the module's report says why
 insert-marked-requires : tie.Need-insert-marked-requires
 insert-marked-requires c κs = let g = c .before .before .before .before .before .before .before .before .before .before .before .before .before .before .before .pre in
     let a = c .before .before .before .before .before .before .before .before .before .before .before .before .before .before .before .args in
@@ -60,7 +57,6 @@ same-length-4 c = search needs
 same-length-5 : tie.Need-same-length-5
 same-length-5 c = search needs
 
--- antt refused `returns-3` as it was built: the module's report says why
 returns-3 : tie.Need-returns-3
 returns-3 c = let g = c .before .before .before .before .before .before .before .before .before .before .before .before .before .before .before .before .before .before .pre in
     let a = c .before .before .before .before .before .before .before .before .before .before .before .before .before .before .before .before .before .before .args in
@@ -71,7 +67,6 @@ returns-3 c = let g = c .before .before .before .before .before .before .before 
     made-at (insert-done (a .place) k (a .m) (a .tree .now) t _ (c .before .before .before .before .before .before .before .before .before .before .before .turned-down .ensures) text s s (length (a .area .now)) (c .before .before .before .before .before .before .before .before .before .before .if1 .left))
     (made-table text (a .area .now) _ s t (changed t (placed (a .place) (a .m) (a .tree .now) k (records t))) _ _ (c .before .before .insert-marked .ensures) (c .before .before .before .before .before .before .before .answer-change .ensures) (c .before .before .before .before .if2 .left))
 
--- antt refused `insert-done-spec` as it was built: the module's report says why
 pub insert-done-spec : {M : Type 1} → statement M
 insert-done-spec =
     tie.close

@@ -13,7 +13,6 @@ change-at-requires c κs = search needs
 mark-change-requires : tie.Need-mark-change-requires
 mark-change-requires c κs = search needs
 
--- antt refused `count-of-requires` as it was built: the module's report says why
 count-of-requires : tie.Need-count-of-requires
 count-of-requires c κs = table-long _ (store-held _ _ (c .before .before .before .before .before .before .before .before .before .before .before .before .before .before .before .before .before .before .before .before .before .before .before .before .before .before .before .before .before .pre .0) .table)
 
@@ -23,7 +22,6 @@ sub-insert-done c = search needs
 part-insert-done-start : tie.Need-part-insert-done-start
 part-insert-done-start c = search needs
 
--- antt refused `part-insert-done-end` as it was built: the module's report says why
 part-insert-done-end : tie.Need-part-insert-done-end
 part-insert-done-end c = let g = c .before .before .before .before .before .before .before .before .before .before .before .before .before .before .before .before .before .before .before .before .before .before .before .before .before .before .before .before .before .before .before .before .pre in
     let a = c .before .before .before .before .before .before .before .before .before .before .before .before .before .before .before .before .before .before .before .before .before .before .before .before .before .before .before .before .before .before .before .before .args in
@@ -33,7 +31,6 @@ part-insert-done-end c = let g = c .before .before .before .before .before .befo
     let r = c .before .before .before .before .before .before .before .before .before .before .before .before .before .before .mark-change .ensures in
     done-reach _ s t p (a .done .now) _ _ _ r (c .before .before .count-of .ensures)
 
--- antt refused `insert-done-requires` as it was built: the module's report says why
 insert-done-requires : tie.Need-insert-done-requires
 insert-done-requires c κs = let g = c .before .before .before .before .before .before .before .before .before .before .before .before .before .before .before .before .before .before .before .before .before .before .before .before .before .before .before .before .before .before .before .before .before .before .pre in
     let a = c .before .before .before .before .before .before .before .before .before .before .before .before .before .before .before .before .before .before .before .before .before .before .before .before .before .before .before .before .before .before .before .before .before .before .args in
@@ -64,7 +61,6 @@ same-length-6 c = search needs
 same-length-7 : tie.Need-same-length-7
 same-length-7 c = search needs
 
--- antt refused `returns` as it was built: the module's report says why
 returns : tie.Need-returns
 returns c = let g = c .before .before .before .before .before .before .before .before .before .before .before .before .before .before .before .before .before .before .before .before .before .before .before .before .before .before .before .before .before .before .before .before .before .before .before .before .before .before .before .pre in
     let a = c .before .before .before .before .before .before .before .before .before .before .before .before .before .before .before .before .before .before .before .before .before .before .before .before .before .before .before .before .before .before .before .before .before .before .before .before .before .before .before .args in
@@ -74,7 +70,6 @@ returns c = let g = c .before .before .before .before .before .before .before .b
     let r = c .before .before .before .before .before .before .before .before .before .before .before .before .before .before .before .before .before .before .before .before .before .mark-change .ensures in
     made-at (insert-parts _ s t p (a .done .now) _ _ _ r (c .before .before .before .before .before .before .before .before .before .count-of .ensures) (a .place) (c .before .before .before .before .before .before .before .before .before .before .before .before .before .before .before .before .before .before .before .before .before .before .before .before .before .before .before .before .change-at .ensures) (a .m) (a .tree .now) (length (a .area .now))) (c .before .before .before .before .insert-done .ensures)
 
--- antt refused `insert-with-spec` as it was built: the module's report says why
 pub insert-with-spec : {M : Type 1} → statement M
 insert-with-spec =
     tie.close
