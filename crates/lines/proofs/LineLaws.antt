@@ -22,7 +22,7 @@ use Rattle.forms.specs.TreeText as text
 use Rattle.forms.specs.TreeText.{GoodTree, GoodTrees, GoodLabel, nodesOf, nodesIn}
 use Rattle.forms.specs.Form.{readForm, treeIn}
 use Rattle.answers.specs.AnswerChoice.{Choice}
-use Rattle.lines.specs.State.{stage, storeOk}
+use Rattle.lines.specs.State.{stageE, stage, storeOk}
 use Rattle.lines.specs.Step.{Outcome, refusal, stepSubject, stepIsa, stepRule, stepUser, stepView, stepQuery, stepFind}
 use Rattle.lines.specs.StepTree.{stepRoot, stepChild, stepRename, stepInsert, stepRemove}
 use Rattle.lines.specs.Line.{stageOf, inStage, isNoForm, bytesOf, acceptByte, stepForm, stepRead, step}
@@ -107,6 +107,13 @@ stage-even k g h = rw (le-leb g k h)
 
 pub stage-tested : (f : Form) (g k : ℕ) {b x : Bool} → k ≡ stageOf f → b ≡ inStage k g → b ≡ x → inStage (stageOf f) g ≡ x
 stage-tested f g k p q r = ap (λ j. inStage j g) (sym p) ∙ sym q ∙ r
+
+-- a form of stage E is none of an earlier stage, and the reverse
+pub not-early : {f g : Form} → stageOf f < stageE → f ≡ g → stageOf g ≡ stageE → ⊥
+not-early h e q = omega (arith, h, ap stageOf e, q)
+
+pub not-late : {f g : Form} → stageE ≤ stageOf f → f ≡ g → stageOf g < stageE → ⊥
+not-late h e q = omega (arith, h, ap stageOf e, q)
 
 -- a line that is short enough finds room for its tree
 pub form-room : (line : List ℕ) → lineOk line ≡ true → 16 * length line ≤ length (replicate {A = ℕ} 16384 0)

@@ -27,14 +27,14 @@ use views::done::Change;
 use views::insert::Place;
 ghost use mathlib.Core.Path.{_≡_};
 ghost use mathlib.Core.Bool.{true, false, not};
-ghost use Prim.Native.Nat.{_*_, _≤_};
+ghost use Prim.Native.Nat.{_*_, _≤_, _<_};
 ghost use lib.ListN.{length, take, replicate};
 ghost use Rattle.rights.specs.Record.{pasted};
 ghost use Rattle.forms.specs.Text.{lineOk};
 ghost use Rattle.forms.specs.Tree.{recordsOf};
 ghost use Rattle.forms.specs.Form.{readForm, treeIn};
 ghost use Rattle.answers.specs.AnswerChoice.{chosen};
-ghost use Rattle.lines.specs.State.{stage, storeOk};
+ghost use Rattle.lines.specs.State.{stageE, stage, storeOk};
 ghost use Rattle.lines.specs.Step.{Made};
 ghost use Rattle.lines.specs.Line.{stageOf, inStage, isNoForm, bytesOf, acceptByte, stepForm, step};
 
@@ -128,8 +128,8 @@ fn tree_of(tree: &[u8], m: usize) -> &[u8]
     &tree[0..end]
 }
 
-// The line's own work, one arm a form; `tree` begins with the records of the line's tree.
-fn run(
+// The work of a line of stages A to D, one arm a form; `tree` begins with the records of the line's tree. No other form comes here.
+fn run_early(
     state: &mut [u8],
     table: &mut [u8],
     line: &[u8],
@@ -137,7 +137,7 @@ fn run(
     area: &mut [u8],
     f: Form,
 ) -> Answer
-    requires { ⌜ (storeOk (now state) (now table) ≡ true) × (lineOk (now line) ≡ true) × (f ≡ readForm (now line)) × (isNoForm f ≡ false) × (inStage (stageOf f) (stage (now state)) ≡ true) × (now tree ≡ pasted (replicate 16384 0) 0 (recordsOf (treeIn (now line)))) ⌝ }
+    requires { ⌜ (storeOk (now state) (now table) ≡ true) × (lineOk (now line) ≡ true) × (f ≡ readForm (now line)) × (stageOf f < stageE) × (inStage (stageOf f) (stage (now state)) ≡ true) × (now tree ≡ pasted (replicate 16384 0) 0 (recordsOf (treeIn (now line)))) ⌝ }
     ensures { λ r. ⌜ Made (stepForm chosen f (now (state .entry)) (now (table .entry)) (length (now (area .entry))) (now (line .entry)) (recordsOf (treeIn (now (line .entry))))) (now (area .entry)) r (now (state .exit)) (now (table .exit)) (now (area .exit)) ⌝ }
 {
     match f {
@@ -154,6 +154,38 @@ fn run(
         ),
         Form::Root(l) => root(state, table, part_of(line, l), area),
         Form::Child(m) => child(state, table, tree_of(tree, m), m, area),
+        Form::User(_) => Answer::Refused(2),
+        Form::View => Answer::Refused(2),
+        Form::Query(_) => Answer::Refused(2),
+        Form::Find(_) => Answer::Refused(2),
+        Form::Rename(_, _) => Answer::Refused(2),
+        Form::Update(_, _) => Answer::Refused(2),
+        Form::Append(_, _) => Answer::Refused(2),
+        Form::Before(_, _) => Answer::Refused(2),
+        Form::After(_, _) => Answer::Refused(2),
+        Form::Remove(_) => Answer::Refused(2),
+        Form::NoForm => Answer::Refused(2),
+    }
+}
+
+// The work of a line of stage E, one arm a form; `tree` begins with the records of the line's tree. No other form comes here.
+fn run_session(
+    state: &mut [u8],
+    table: &mut [u8],
+    line: &[u8],
+    tree: &[u8],
+    area: &mut [u8],
+    f: Form,
+) -> Answer
+    requires { ⌜ (storeOk (now state) (now table) ≡ true) × (lineOk (now line) ≡ true) × (f ≡ readForm (now line)) × (stageE ≤ stageOf f) × (now tree ≡ pasted (replicate 16384 0) 0 (recordsOf (treeIn (now line)))) ⌝ }
+    ensures { λ r. ⌜ Made (stepForm chosen f (now (state .entry)) (now (table .entry)) (length (now (area .entry))) (now (line .entry)) (recordsOf (treeIn (now (line .entry))))) (now (area .entry)) r (now (state .exit)) (now (table .exit)) (now (area .exit)) ⌝ }
+{
+    match f {
+        Form::Subject(_) => Answer::Refused(2),
+        Form::Isa(_, _) => Answer::Refused(2),
+        Form::Rule(_, _, _, _) => Answer::Refused(2),
+        Form::Root(_) => Answer::Refused(2),
+        Form::Child(_) => Answer::Refused(2),
         Form::User(n) => log_in(state, table, part_of(line, n), area),
         Form::View => view(state, table, area),
         Form::Query(p) => query(state, table, part_of(line, p), area),
@@ -204,6 +236,24 @@ fn run(
         Form::Remove(p) => remove(state, table, part_of(line, p), area),
         Form::NoForm => Answer::Refused(2),
     }
+}
+
+// The line's own work; `tree` begins with the records of the line's tree.
+fn run(
+    state: &mut [u8],
+    table: &mut [u8],
+    line: &[u8],
+    tree: &[u8],
+    area: &mut [u8],
+    f: Form,
+) -> Answer
+    requires { ⌜ (storeOk (now state) (now table) ≡ true) × (lineOk (now line) ≡ true) × (f ≡ readForm (now line)) × (inStage (stageOf f) (stage (now state)) ≡ true) × (now tree ≡ pasted (replicate 16384 0) 0 (recordsOf (treeIn (now line)))) ⌝ }
+    ensures { λ r. ⌜ Made (stepForm chosen f (now (state .entry)) (now (table .entry)) (length (now (area .entry))) (now (line .entry)) (recordsOf (treeIn (now (line .entry))))) (now (area .entry)) r (now (state .exit)) (now (table .exit)) (now (area .exit)) ⌝ }
+{
+    if stage_of(f) < STAGE_E {
+        return run_early(state, table, line, tree, area, f);
+    }
+    run_session(state, table, line, tree, area, f)
 }
 
 // One line: the answer's bytes are put at the front of the area. Whatever is lent, what is returned and left is `step` at the program's choice of a hit for `find`.

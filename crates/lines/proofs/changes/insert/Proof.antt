@@ -43,22 +43,10 @@ returns-3 c = let g = c .before .before .before .before .before .before .before 
 slice-aggregate-insert-with : tie.Need-slice-aggregate-insert-with
 slice-aggregate-insert-with c = search needs
 
-slice-aggregate-insert-with-2 : tie.Need-slice-aggregate-insert-with-2
-slice-aggregate-insert-with-2 c = search needs
-
-slice-aggregate-insert-with-3 : tie.Need-slice-aggregate-insert-with-3
-slice-aggregate-insert-with-3 c = search needs
-
-slice-aggregate-insert-with-4 : tie.Need-slice-aggregate-insert-with-4
-slice-aggregate-insert-with-4 c = search needs
-
-slice-aggregate-insert-with-5 : tie.Need-slice-aggregate-insert-with-5
-slice-aggregate-insert-with-5 c = search needs
-
 insert-with-requires : tie.Need-insert-with-requires
-insert-with-requires c κs = let g = c .before .before .before .before .before .before .before .before .before .before .before .before .before .before .before .before .before .before .before .pre in
-    let a = c .before .before .before .before .before .before .before .before .before .before .before .before .before .before .before .before .before .before .before .args in
-    (g .0, ne-eqb _ _ (c .before .before .before .before .before .before .before .before .before .if1 .left), is-path (pathOf (a .path .now)) _ (sym (c .before .before .before .before .before .before .before .before .before .before .before .before .before .check-path .ensures) ∙ c .before .before .before .before .before .before .before .before .before .before .before .enum-told .given .1), refl, refl, refl, refl, refl, g .1, g .2)
+insert-with-requires c κs = let g = c .before .before .before .before .before .before .before .before .before .before .before .before .before .before .before .pre in
+    let a = c .before .before .before .before .before .before .before .before .before .before .before .before .before .before .before .args in
+    (g .0, ne-eqb _ _ (c .before .before .before .before .before .if1 .left), is-path (pathOf (a .path .now)) _ (sym (c .before .before .before .before .before .before .before .before .before .check-path .ensures) ∙ c .before .before .before .before .before .before .before .enum-told .given .1), refl {a = 16384}, g .1, g .2)
 
 same-length : tie.Need-same-length
 same-length c = search needs
@@ -67,9 +55,9 @@ same-length-2 : tie.Need-same-length-2
 same-length-2 c = search needs
 
 returns-4 : tie.Need-returns-4
-returns-4 c = let g = c .before .before .before .before .before .before .before .before .before .before .before .before .before .before .before .before .before .before .before .before .before .before .before .before .before .before .before .before .before .pre in
-    let a = c .before .before .before .before .before .before .before .before .before .before .before .before .before .before .before .before .before .before .before .before .before .before .before .before .before .before .before .before .before .args in
-    made-at (insert-seen (a .place) (a .state .now) (a .table .now) (length (a .area .now)) (a .path .now) (a .m) (a .tree .now) (is-path (pathOf (a .path .now)) _ (sym (c .before .before .before .before .before .before .before .before .before .before .before .before .before .before .before .before .before .before .before .before .before .before .before .check-path .ensures) ∙ c .before .before .before .before .before .before .before .before .before .before .before .before .before .before .before .before .before .before .before .before .before .enum-told .given .1)) (ne-eqb _ _ (c .before .before .before .before .before .before .before .before .before .before .before .before .before .before .before .before .before .before .before .if1 .left)) (sym (c .before .before .before .before .before .before .before .before .before .before .before .before .before .before .before .before .before .before .tree-restricted .ensures) ∙ c .before .before .before .before .before .before .before .before .before .before .before .before .before .before .before .before .before .if2 .left)) (c .before .before .before .before .before .before .before .before .before .insert-with .ensures)
+returns-4 c = let g = c .before .before .before .before .before .before .before .before .before .before .before .before .before .before .before .before .before .before .before .before .before .pre in
+    let a = c .before .before .before .before .before .before .before .before .before .before .before .before .before .before .before .before .before .before .before .before .before .args in
+    made-at (insert-seen (a .place) (a .state .now) (a .table .now) (length (a .area .now)) (a .path .now) (a .m) (a .tree .now) (is-path (pathOf (a .path .now)) _ (sym (c .before .before .before .before .before .before .before .before .before .before .before .before .before .before .before .check-path .ensures) ∙ c .before .before .before .before .before .before .before .before .before .before .before .before .before .enum-told .given .1)) (ne-eqb _ _ (c .before .before .before .before .before .before .before .before .before .before .before .if1 .left)) (sym (c .before .before .before .before .before .before .before .before .before .before .tree-restricted .ensures) ∙ c .before .before .before .before .before .before .before .before .before .if2 .left)) (c .before .before .before .before .before .insert-with .ensures)
 
 pub insert-spec : {M : Type 1} → statement M
 insert-spec =
@@ -84,10 +72,6 @@ insert-spec =
     tree-restricted-requires
     returns-3
     slice-aggregate-insert-with
-    slice-aggregate-insert-with-2
-    slice-aggregate-insert-with-3
-    slice-aggregate-insert-with-4
-    slice-aggregate-insert-with-5
     insert-with-requires
     same-length
     same-length-2

@@ -11,10 +11,10 @@ change-at-requires : tie.Need-change-at-requires
 change-at-requires c κs = search needs
 
 mark-change-requires : tie.Need-mark-change-requires
-mark-change-requires c κs = search needs
+mark-change-requires c κs = let g = c .before .before .before .before .before .before .before .before .before .pre in (g .0, g .1, g .2, g .3)
 
 count-of-requires : tie.Need-count-of-requires
-count-of-requires c κs = table-long _ (store-held _ _ (c .before .before .before .before .before .before .before .before .before .before .before .before .before .before .before .before .before .before .before .before .before .before .before .before .before .before .before .before .before .pre .0) .table)
+count-of-requires c κs = table-long _ (store-held _ _ (c .before .before .before .before .before .before .before .before .before .before .before .before .before .pre .0) .table)
 
 sub-insert-done : tie.Need-sub-insert-done
 sub-insert-done c = search needs
@@ -23,22 +23,22 @@ part-insert-done-start : tie.Need-part-insert-done-start
 part-insert-done-start c = search needs
 
 part-insert-done-end : tie.Need-part-insert-done-end
-part-insert-done-end c = let g = c .before .before .before .before .before .before .before .before .before .before .before .before .before .before .before .before .before .before .before .before .before .before .before .before .before .before .before .before .before .before .before .before .pre in
-    let a = c .before .before .before .before .before .before .before .before .before .before .before .before .before .before .before .before .before .before .before .before .before .before .before .before .before .before .before .before .before .before .before .before .args in
+part-insert-done-end c = let g = c .before .before .before .before .before .before .before .before .before .before .before .before .before .before .before .before .pre in
+    let a = c .before .before .before .before .before .before .before .before .before .before .before .before .before .before .before .before .args in
     let s = a .state .now in
     let t = a .table .now in
     let p = a .path .now in
-    let r = c .before .before .before .before .before .before .before .before .before .before .before .before .before .before .mark-change .ensures in
+    let r = c .before .before .before .before .before .before .mark-change .ensures in
     done-reach _ s t p (a .done .now) _ _ _ r (c .before .before .count-of .ensures)
 
 insert-done-requires : tie.Need-insert-done-requires
-insert-done-requires c κs = let g = c .before .before .before .before .before .before .before .before .before .before .before .before .before .before .before .before .before .before .before .before .before .before .before .before .before .before .before .before .before .before .before .before .before .before .pre in
-    let a = c .before .before .before .before .before .before .before .before .before .before .before .before .before .before .before .before .before .before .before .before .before .before .before .before .before .before .before .before .before .before .before .before .before .before .args in
+insert-done-requires c κs = let g = c .before .before .before .before .before .before .before .before .before .before .before .before .before .before .before .before .before .before .pre in
+    let a = c .before .before .before .before .before .before .before .before .before .before .before .before .before .before .before .before .before .before .args in
     let s = a .state .now in
     let t = a .table .now in
     let p = a .path .now in
-    let r = c .before .before .before .before .before .before .before .before .before .before .before .before .before .before .before .before .mark-change .ensures in
-    (store-held _ _ (g .0) .table, done-cover _ s t p (a .done .now) _ _ _ r (c .before .before .before .before .count-of .ensures), g .8, g .9)
+    let r = c .before .before .before .before .before .before .before .before .mark-change .ensures in
+    (store-held _ _ (g .0) .table, done-cover _ s t p (a .done .now) _ _ _ r (c .before .before .before .before .count-of .ensures), g .4, g .5)
 
 same-length : tie.Need-same-length
 same-length c = search needs
@@ -49,26 +49,14 @@ same-length-2 c = search needs
 same-length-3 : tie.Need-same-length-3
 same-length-3 c = search needs
 
-same-length-4 : tie.Need-same-length-4
-same-length-4 c = search needs
-
-same-length-5 : tie.Need-same-length-5
-same-length-5 c = search needs
-
-same-length-6 : tie.Need-same-length-6
-same-length-6 c = search needs
-
-same-length-7 : tie.Need-same-length-7
-same-length-7 c = search needs
-
 returns : tie.Need-returns
-returns c = let g = c .before .before .before .before .before .before .before .before .before .before .before .before .before .before .before .before .before .before .before .before .before .before .before .before .before .before .before .before .before .before .before .before .before .before .before .before .before .before .before .pre in
-    let a = c .before .before .before .before .before .before .before .before .before .before .before .before .before .before .before .before .before .before .before .before .before .before .before .before .before .before .before .before .before .before .before .before .before .before .before .before .before .before .before .args in
+returns c = let g = c .before .before .before .before .before .before .before .before .before .before .before .before .before .before .before .before .before .before .before .before .before .before .before .pre in
+    let a = c .before .before .before .before .before .before .before .before .before .before .before .before .before .before .before .before .before .before .before .before .before .before .before .args in
     let s = a .state .now in
     let t = a .table .now in
     let p = a .path .now in
-    let r = c .before .before .before .before .before .before .before .before .before .before .before .before .before .before .before .before .before .before .before .before .before .mark-change .ensures in
-    made-at (insert-parts _ s t p (a .done .now) _ _ _ r (c .before .before .before .before .before .before .before .before .before .count-of .ensures) (a .place) (c .before .before .before .before .before .before .before .before .before .before .before .before .before .before .before .before .before .before .before .before .before .before .before .before .before .before .before .before .change-at .ensures) (a .m) (a .tree .now) (length (a .area .now))) (c .before .before .before .before .insert-done .ensures)
+    let r = c .before .before .before .before .before .before .before .before .before .before .before .before .before .mark-change .ensures in
+    made-at (insert-parts _ s t p (a .done .now) _ _ _ r (c .before .before .before .before .before .before .before .before .before .count-of .ensures) (a .place) (c .before .before .before .before .before .before .before .before .before .before .before .before .before .before .before .before .change-at .ensures) (a .m) (a .tree .now) (length (a .area .now))) (c .before .before .before .before .insert-done .ensures)
 
 pub insert-with-spec : {M : Type 1} → statement M
 insert-with-spec =
@@ -84,8 +72,4 @@ insert-with-spec =
     same-length
     same-length-2
     same-length-3
-    same-length-4
-    same-length-5
-    same-length-6
-    same-length-7
     returns)

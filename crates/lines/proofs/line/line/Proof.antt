@@ -73,7 +73,7 @@ slice-aggregate-run : tie.Need-slice-aggregate-run
 slice-aggregate-run c = search needs
 
 run-requires : tie.Need-run-requires
-run-requires c κs = ((sym (c .before .before .before .before .before .before .before .before .before .before .before .before .before .before .before .before .store-ok .ensures) ∙ not-false _ (c .before .before .before .before .before .before .before .before .before .before .before .before .before .before .before .if1 .left)), (sym (c .before .before .before .before .before .before .before .before .before .before .before .before .before .before .line-ok .ensures) ∙ not-false _ (c .before .before .before .before .before .before .before .before .before .before .before .before .before .if2 .left)), c .before .before .before .before .before .before .before .before .before .before .before .read-form .ensures .0, (sym (c .before .before .before .before .before .before .before .before .before .is-no-form .ensures) ∙ c .before .before .before .before .before .before .before .before .if3 .left), (stage-tested (c .before .before .before .before .before .before .before .before .before .before .before .read-form .result) (stage (c .before .before .before .before .before .before .before .before .before .before .before .before .before .before .before .before .before .before .before .before .before .before .before .args .state .now)) (c .before .before .before .before .before .before .before .stage-of .result) (c .before .before .before .before .before .before .before .stage-of .ensures) (c .before .before .before .before .before .in-stage .ensures) (not-false _ (c .before .before .before .before .if4 .left))), c .before .before .before .before .before .before .before .before .before .before .before .read-form .ensures .1)
+run-requires c κs = ((sym (c .before .before .before .before .before .before .before .before .before .before .before .before .before .before .before .before .store-ok .ensures) ∙ not-false _ (c .before .before .before .before .before .before .before .before .before .before .before .before .before .before .before .if1 .left)), (sym (c .before .before .before .before .before .before .before .before .before .before .before .before .before .before .line-ok .ensures) ∙ not-false _ (c .before .before .before .before .before .before .before .before .before .before .before .before .before .if2 .left)), c .before .before .before .before .before .before .before .before .before .before .before .read-form .ensures .0, (stage-tested (c .before .before .before .before .before .before .before .before .before .before .before .read-form .result) (stage (c .before .before .before .before .before .before .before .before .before .before .before .before .before .before .before .before .before .before .before .before .before .before .before .args .state .now)) (c .before .before .before .before .before .before .before .stage-of .result) (c .before .before .before .before .before .before .before .stage-of .ensures) (c .before .before .before .before .before .in-stage .ensures) (not-false _ (c .before .before .before .before .if4 .left))), c .before .before .before .before .before .before .before .before .before .before .before .read-form .ensures .1)
 
 same-length-9 : tie.Need-same-length-9
 same-length-9 c = search needs
