@@ -80,18 +80,35 @@ module _ (t : Nodes) (f : ℕ → Bool) (i level : ℕ) (at : level ≡ levelAt 
       (λ q. rw (add-one i, ← at, le-ltb level l (omega arith), eq-eqb level l q, ← q) (getD-set-same b level v 0 (omega arith) ∙ omega (arith, e, g level s)))
       (λ q. rw (add-one i, ← at, le-ltb level l (omega arith), ne-eqb level l (λ z. omega arith)) (getD-set-other b level l v 0 (λ z. omega arith) ∙ fl .below l (omega arith) ∙ g l h ∙ omega arith))
 
-  pub above-more : (a b : List ℕ) (way : Bool) (v : ℕ) → Filled a b (level + 1) 16 v → level < 16 → v ≡ bit (f i || (way && eqb (getD a level 0) 1))
-      → ((l : ℕ) → l < 16 → getD a l 0 ≡ bit (above t (axisBy way) f l i)) → (l : ℕ) → l < 16 → getD b l 0 ≡ bit (above t (axisBy way) f l (i + 1))
-  unfolding above
-  above-more a b way v fl s e g l h =
-      compared level l (getD b l 0 ≡ bit (above t (axisBy way) f l (i + 1)))
-      (λ q. rw (add-one i, ← at, lt-ltb level l q) (fl .inside l (omega arith) h ∙ e ∙ same way (one-bit _ _ (g level s))))
-      (λ q. rw (add-one i, ← at, le-ltb level l (omega arith)) (fl .below l (omega arith) ∙ g l h))
-      (λ q. rw (add-one i, ← at, le-ltb level l (omega arith)) (fl .below l (omega arith) ∙ g l h))
-    where
-      same : (y : Bool) {x z : Bool} → x ≡ z → bit (f i || (y && x)) ≡ bit (f i || (far (axisBy y) && z))
-      same true p = rw p
-      same false p = refl
+  same : (y : Bool) {x z : Bool} → x ≡ z → bit (f i || (y && x)) ≡ bit (f i || (far (axisBy y) && z))
+  same true p = rw p
+  same false p = refl
+
+  -- flags up to a level stand for all levels, the last of them for the deeper ones: they are filled up to the node's level, and one more is set
+  module _ (a b : List ℕ) (way : Bool) (top : ℕ) (fl : Filled a b (top + 1) (level + 1) (getD a top 0))
+      (upto : (l : ℕ) → l ≤ top → getD a l 0 ≡ bit (above t (axisBy way) f l i)) (deeper : (l : ℕ) → top ≤ l → getD a top 0 ≡ bit (above t (axisBy way) f l i)) where
+    pub above-filled : (l : ℕ) → l ≤ level → getD b l 0 ≡ bit (above t (axisBy way) f l i)
+    above-filled l h =
+        compared l top (getD b l 0 ≡ bit (above t (axisBy way) f l i))
+        (λ q. fl .below l (omega arith) ∙ upto l (omega arith))
+        (λ q. fl .below l (omega arith) ∙ upto l (omega arith))
+        (λ q. fl .inside l (omega arith) (omega arith) ∙ deeper l (omega arith))
+
+    module _ (v : ℕ) (e : v ≡ bit (f i || (way && eqb (getD b level 0) 1))) where
+      above-next : (l : ℕ) → level < l → v ≡ bit (above t (axisBy way) f l (i + 1))
+      unfolding above
+      above-next l q = rw (add-one i, ← at, lt-ltb level l q) (e ∙ same way (one-bit _ _ (above-filled level (omega arith))))
+
+      pub above-upto : level + 1 < length b → (l : ℕ) → l ≤ level + 1 → getD (set b (level + 1) v) l 0 ≡ bit (above t (axisBy way) f l (i + 1))
+      unfolding above
+      above-upto s l h =
+          compared l (level + 1) (getD (set b (level + 1) v) l 0 ≡ bit (above t (axisBy way) f l (i + 1)))
+          (λ q. rw (add-one i, ← at, le-ltb level l (omega arith)) (getD-set-other b (level + 1) l v 0 (λ z. omega arith) ∙ above-filled l (omega arith)))
+          (λ q. rw q (getD-set-same b (level + 1) v 0 s ∙ above-next (level + 1) (omega arith)))
+          (λ q. absurd (omega arith))
+
+      pub above-deeper : level + 1 < length b → (l : ℕ) → level + 1 ≤ l → getD (set b (level + 1) v) (level + 1) 0 ≡ bit (above t (axisBy way) f l (i + 1))
+      above-deeper s l h = getD-set-same b (level + 1) v 0 s ∙ above-next l (omega arith)
 
   low : (x y : Bool) (s : Bool) (a b d : List ℕ) (l : ℕ) → l ≤ level → l < 16 → Filled a b (level + 1) 16 0 → Filled b d (firstOf x y level) (level + 1) 1 → getD a l 0 ≡ bit s → getD d l 0 ≡ bit (((far (axisBy y) || eqb level l) && x) || s)
   low true true s a b d l h u p q e = q .inside l (omega arith) (omega arith)
@@ -283,9 +300,9 @@ pub no-count : (t : Nodes) (f : ℕ → Bool) (l : ℕ) → l < 16 → getD (rep
 unfolding before
 no-count t f l h = zeros l _ h refl
 
-pub nothing-above : (t : Nodes) (ax : Axis) (f : ℕ → Bool) (l : ℕ) → l < 16 → getD (replicate 16 0) l 0 ≡ bit (above t ax f l 0)
+pub nothing-above : (t : Nodes) (ax : Axis) (f : ℕ → Bool) (l k : ℕ) → k < 16 → getD (replicate 16 0) k 0 ≡ bit (above t ax f l 0)
 unfolding above
-nothing-above t ax f l h = zeros l _ h refl
+nothing-above t ax f l k h = zeros k _ h refl
 
 -- tests that were read
 pub test-is-any : (s : List ℕ) (at e : ℕ) (x : Test) → getD s at 0 ≡ 42 → readTest s at ≡ got x e → x ≡ any
