@@ -274,20 +274,25 @@ fn passed_on(on: u8, far: bool, flag: u16) -> u16
     0
 }
 
-// The nodes whose parent, or some ancestor of which, is marked. flags[l] is what above says of level l.
+// The nodes whose parent, or some ancestor of which, is marked. flags[l] is what above says of level l, up to `top`; flags[top] is what it says of
+// every deeper level, so that in a tree, where no level is skipped, a node sets one flag.
 pub fn mark_under(table: &[u8], shown: &[u16], far: bool, marks: &mut [u8])
     requires { ⌜ Fits (now table) (now shown) × (length (now shown) ≤ length (now marks)) ⌝ }
     ensures { λ _. ⌜ ((f : ℕ → Bool) → Marked (now (marks .entry)) f (length (now (shown .entry))) → Marked (now (marks .exit)) (under (axisBy far) f (viewOf (now (table .entry)) (now (shown .entry)))) (length (now (shown .entry)))) ⌝ }
 {
     let mut flags = [0u16; 16];
+    let mut top = 0;
     let mut i = 0;
     while i < shown.len() {
         let level = level_at(table, shown, i);
+        let deepest = flags[top];
+        fill(&mut flags, top + 1, level + 1, deepest);
         let on = marks[i];
         let flag = flags[level];
         let next = passed_on(on, far, flag);
         marks[i] = mark_of(flag);
-        fill(&mut flags, level + 1, 16, next);
+        flags[level + 1] = next;
+        top = level + 1;
         i += 1;
     }
 }
