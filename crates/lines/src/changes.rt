@@ -43,35 +43,27 @@ fn mark_selected(
     table: &[u8],
     path: &[u8],
     rights: &mut [u8],
-    shown: &mut [u16],
-    marks: &mut [u8],
     selected: &mut [u8],
 ) -> usize
-    requires { ⌜ (storeOk (now state) (now table) ≡ true) × (noUser (now state) ≡ false) × (notPath (pathOf (now path)) ≡ false) × (length (now rights) ≡ 16384) × (length (now shown) ≡ 16384) × (length (now marks) ≡ 16384) × (length (now selected) ≡ 16384) ⌝ }
+    requires { ⌜ (storeOk (now state) (now table) ≡ true) × (noUser (now state) ≡ false) × (notPath (pathOf (now path)) ≡ false) × (length (now rights) ≡ 16384) × (length (now selected) ≡ 16384) ⌝ }
     ensures { λ r. ⌜ Selected (now (state .entry)) (now (table .entry)) (now (path .entry)) (now (rights .entry)) (now (selected .entry)) r (now (rights .exit)) (now (selected .exit)) ⌝ }
 {
-    let k = select_user(state, table, path, rights, shown, marks);
+    let mut shown = [0u16; RECORDS_MAX];
+    let mut marks = [0u8; RECORDS_MAX];
+    let k = select_user(state, table, path, rights, &mut shown, &mut marks);
     let n = count_of(table);
-    mark_records(shown, k, &marks[0..k], n, selected);
-    count_marks(marks, k)
+    mark_records(&shown, k, &marks[0..k], n, selected);
+    count_marks(&marks, k)
 }
 
 // Writes the marks of the records that the change does, and returns how many nodes are selected.
-fn mark_change(
-    state: &[u8],
-    table: &[u8],
-    change: Change,
-    path: &[u8],
-    rights: &mut [u8],
-    shown: &mut [u16],
-    marks: &mut [u8],
-    selected: &mut [u8],
-    done: &mut [u8],
-) -> usize
-    requires { ⌜ (storeOk (now state) (now table) ≡ true) × (noUser (now state) ≡ false) × (notPath (pathOf (now path)) ≡ false) × (length (now rights) ≡ 16384) × (length (now shown) ≡ 16384) × (length (now marks) ≡ 16384) × (length (now selected) ≡ 16384) × (length (now done) ≡ 16384) ⌝ }
+fn mark_change(state: &[u8], table: &[u8], change: Change, path: &[u8], done: &mut [u8]) -> usize
+    requires { ⌜ (storeOk (now state) (now table) ≡ true) × (noUser (now state) ≡ false) × (notPath (pathOf (now path)) ≡ false) × (length (now done) ≡ 16384) ⌝ }
     ensures { λ r. ⌜ Decided change (now (state .entry)) (now (table .entry)) (now (path .entry)) (now (done .entry)) r (now (done .exit)) ⌝ }
 {
-    let k = mark_selected(state, table, path, rights, shown, marks, selected);
+    let mut rights = [0u8; RECORDS_MAX];
+    let mut selected = [0u8; RECORDS_MAX];
+    let k = mark_selected(state, table, path, &mut rights, &mut selected);
     let n = count_of(table);
     mark_done(
         change,
@@ -105,34 +97,20 @@ fn is_barred(state: &[u8], table: &[u8], label: &[u8]) -> bool
     is_policy_word(&state[POLICY_AT..], label, 0, label.len())
 }
 
-// `(rename P L)` and `(update P L)`, with room for rights, numbers and marks.
+// `(rename P L)` and `(update P L)`, with room for marks.
 fn rename_with(
     state: &[u8],
     table: &mut [u8],
     change: Change,
     path: &[u8],
     label: &[u8],
-    rights: &mut [u8],
-    shown: &mut [u16],
-    marks: &mut [u8],
-    selected: &mut [u8],
     done: &mut [u8],
     area: &mut [u8],
 ) -> Answer
-    requires { ⌜ (storeOk (now state) (now table) ≡ true) × (noUser (now state) ≡ false) × (notPath (pathOf (now path)) ≡ false) × (length (now rights) ≡ 16384) × (length (now shown) ≡ 16384) × (length (now marks) ≡ 16384) × (length (now selected) ≡ 16384) × (length (now done) ≡ 16384) × (length (now label) ≤ 24) ⌝ }
+    requires { ⌜ (storeOk (now state) (now table) ≡ true) × (noUser (now state) ≡ false) × (notPath (pathOf (now path)) ≡ false) × (length (now done) ≡ 16384) × (length (now label) ≤ 24) ⌝ }
     ensures { λ r. ⌜ Made (finish (length (now (area .entry))) (countText change (now (state .entry)) (now (table .entry)) (now (path .entry))) (now (state .entry)) (changed (now (table .entry)) (renamed (now (label .entry)) (doneIn change (now (state .entry)) (now (table .entry)) (now (path .entry))) (records (now (table .entry))))) (now (state .entry)) (now (table .entry))) (now (area .entry)) r (now (state .entry)) (now (table .exit)) (now (area .exit)) ⌝ }
 {
-    let k = mark_change(
-        state,
-        table,
-        change,
-        path,
-        rights,
-        shown,
-        marks,
-        selected,
-        done,
-    );
+    let k = mark_change(state, table, change, path, done);
     let n = count_of(table);
     let need = answer_change(table, k, &done[0..n], area);
     if area.len() < need {
@@ -163,52 +141,22 @@ pub fn rename(
     if is_barred(state, table, label) {
         return Answer::Refused(9);
     }
-    let mut rights = [0u8; RECORDS_MAX];
-    let mut shown = [0u16; RECORDS_MAX];
-    let mut marks = [0u8; RECORDS_MAX];
-    let mut selected = [0u8; RECORDS_MAX];
     let mut done = [0u8; RECORDS_MAX];
-    rename_with(
-        state,
-        table,
-        change,
-        path,
-        label,
-        &mut rights,
-        &mut shown,
-        &mut marks,
-        &mut selected,
-        &mut done,
-        area,
-    )
+    rename_with(state, table, change, path, label, &mut done, area)
 }
 
-// `(remove P)`, with room for rights, numbers and marks.
+// `(remove P)`, with room for marks.
 fn remove_with(
     state: &[u8],
     table: &mut [u8],
     path: &[u8],
-    rights: &mut [u8],
-    shown: &mut [u16],
-    marks: &mut [u8],
-    selected: &mut [u8],
     done: &mut [u8],
     area: &mut [u8],
 ) -> Answer
-    requires { ⌜ (storeOk (now state) (now table) ≡ true) × (noUser (now state) ≡ false) × (notPath (pathOf (now path)) ≡ false) × (length (now rights) ≡ 16384) × (length (now shown) ≡ 16384) × (length (now marks) ≡ 16384) × (length (now selected) ≡ 16384) × (length (now done) ≡ 16384) ⌝ }
+    requires { ⌜ (storeOk (now state) (now table) ≡ true) × (noUser (now state) ≡ false) × (notPath (pathOf (now path)) ≡ false) × (length (now done) ≡ 16384) ⌝ }
     ensures { λ r. ⌜ Made (finish (length (now (area .entry))) (countText change.Remove (now (state .entry)) (now (table .entry)) (now (path .entry))) (now (state .entry)) (changed (now (table .entry)) (removed (doneIn change.Remove (now (state .entry)) (now (table .entry)) (now (path .entry))) (records (now (table .entry))))) (now (state .entry)) (now (table .entry))) (now (area .entry)) r (now (state .entry)) (now (table .exit)) (now (area .exit)) ⌝ }
 {
-    let k = mark_change(
-        state,
-        table,
-        Change::Remove,
-        path,
-        rights,
-        shown,
-        marks,
-        selected,
-        done,
-    );
+    let k = mark_change(state, table, Change::Remove, path, done);
     let n = count_of(table);
     let need = answer_change(table, k, &done[0..n], area);
     if area.len() < need {
@@ -229,22 +177,8 @@ pub fn remove(state: &[u8], table: &mut [u8], path: &[u8], area: &mut [u8]) -> A
     if state[1] == 0 {
         return Answer::Refused(8);
     }
-    let mut rights = [0u8; RECORDS_MAX];
-    let mut shown = [0u16; RECORDS_MAX];
-    let mut marks = [0u8; RECORDS_MAX];
-    let mut selected = [0u8; RECORDS_MAX];
     let mut done = [0u8; RECORDS_MAX];
-    remove_with(
-        state,
-        table,
-        path,
-        &mut rights,
-        &mut shown,
-        &mut marks,
-        &mut selected,
-        &mut done,
-        area,
-    )
+    remove_with(state, table, path, &mut done, area)
 }
 
 // The change that inserts at a place.
@@ -284,7 +218,7 @@ fn insert_done(
     Answer::Accepted(need)
 }
 
-// `(append P TREE)`, `(before P TREE)` and `(after P TREE)`, with room for rights, numbers and marks.
+// `(append P TREE)`, `(before P TREE)` and `(after P TREE)`, with room for marks.
 fn insert_with(
     state: &[u8],
     table: &mut [u8],
@@ -292,28 +226,14 @@ fn insert_with(
     path: &[u8],
     tree: &[u8],
     m: usize,
-    rights: &mut [u8],
-    shown: &mut [u16],
-    marks: &mut [u8],
-    selected: &mut [u8],
     done: &mut [u8],
     area: &mut [u8],
 ) -> Answer
-    requires { ⌜ (storeOk (now state) (now table) ≡ true) × (noUser (now state) ≡ false) × (notPath (pathOf (now path)) ≡ false) × (length (now rights) ≡ 16384) × (length (now shown) ≡ 16384) × (length (now marks) ≡ 16384) × (length (now selected) ≡ 16384) × (length (now done) ≡ 16384) × (m * 32 ≤ length (now tree)) × (m ≤ 16384) ⌝ }
+    requires { ⌜ (storeOk (now state) (now table) ≡ true) × (noUser (now state) ≡ false) × (notPath (pathOf (now path)) ≡ false) × (length (now done) ≡ 16384) × (m * 32 ≤ length (now tree)) × (m ≤ 16384) ⌝ }
     ensures { λ r. ⌜ Made (inserting place (doneIn (changeAt place) (now (state .entry)) (now (table .entry)) (now (path .entry))) m (now (tree .entry)) (countText (changeAt place) (now (state .entry)) (now (table .entry)) (now (path .entry))) (now (state .entry)) (now (state .entry)) (now (table .entry)) (length (now (area .entry)))) (now (area .entry)) r (now (state .entry)) (now (table .exit)) (now (area .exit)) ⌝ }
 {
     let change = change_at(place);
-    let k = mark_change(
-        state,
-        table,
-        change,
-        path,
-        rights,
-        shown,
-        marks,
-        selected,
-        done,
-    );
+    let k = mark_change(state, table, change, path, done);
     let n = count_of(table);
     insert_done(state, table, place, k, &done[0..n], tree, m, area)
 }
@@ -340,23 +260,6 @@ pub fn insert(
     if tree_restricted(tree, m) {
         return Answer::Refused(9);
     }
-    let mut rights = [0u8; RECORDS_MAX];
-    let mut shown = [0u16; RECORDS_MAX];
-    let mut marks = [0u8; RECORDS_MAX];
-    let mut selected = [0u8; RECORDS_MAX];
     let mut done = [0u8; RECORDS_MAX];
-    insert_with(
-        state,
-        table,
-        place,
-        path,
-        tree,
-        m,
-        &mut rights,
-        &mut shown,
-        &mut marks,
-        &mut selected,
-        &mut done,
-        area,
-    )
+    insert_with(state, table, place, path, tree, m, &mut done, area)
 }

@@ -19,17 +19,14 @@ enum-told c = search needs
 enum-told-2 : tie.Need-enum-told-2
 enum-told-2 c = search needs
 
--- antt refused `returns` as it was built: the module's report says why
 returns : tie.Need-returns
 returns c = let g = c .before .before .before .before .before .before .before .before .pre in
     let a = c .before .before .before .before .before .before .before .before .args in
     made-at (insert-no-path (a .place) _ _ _ _ _ _ (not-path (pathOf (a .path .now)) (sym (c .before .before .check-path .ensures) ∙ c .enum-told2 .given .1))) refused
 
--- antt refused `shared-slice-read-if1` as it was built: the module's report says why
 shared-slice-read-if1 : tie.Need-shared-slice-read-if1
 shared-slice-read-if1 c = omega (arith, store-held _ _ (c .before .before .before .before .before .before .before .before .before .pre .0) .size)
 
--- antt refused `returns-2` as it was built: the module's report says why
 returns-2 : tie.Need-returns-2
 returns-2 c = let g = c .before .before .before .before .before .before .before .before .before .before .pre in
     let a = c .before .before .before .before .before .before .before .before .before .before .args in
@@ -38,7 +35,6 @@ returns-2 c = let g = c .before .before .before .before .before .before .before 
 tree-restricted-requires : tie.Need-tree-restricted-requires
 tree-restricted-requires c κs = search needs
 
--- antt refused `returns-3` as it was built: the module's report says why
 returns-3 : tie.Need-returns-3
 returns-3 c = let g = c .before .before .before .before .before .before .before .before .before .before .before .before .pre in
     let a = c .before .before .before .before .before .before .before .before .before .before .before .before .args in
@@ -47,23 +43,10 @@ returns-3 c = let g = c .before .before .before .before .before .before .before 
 slice-aggregate-insert-with : tie.Need-slice-aggregate-insert-with
 slice-aggregate-insert-with c = search needs
 
-slice-aggregate-insert-with-2 : tie.Need-slice-aggregate-insert-with-2
-slice-aggregate-insert-with-2 c = search needs
-
-slice-aggregate-insert-with-3 : tie.Need-slice-aggregate-insert-with-3
-slice-aggregate-insert-with-3 c = search needs
-
-slice-aggregate-insert-with-4 : tie.Need-slice-aggregate-insert-with-4
-slice-aggregate-insert-with-4 c = search needs
-
-slice-aggregate-insert-with-5 : tie.Need-slice-aggregate-insert-with-5
-slice-aggregate-insert-with-5 c = search needs
-
--- antt refused `insert-with-requires` as it was built: the module's report says why
 insert-with-requires : tie.Need-insert-with-requires
-insert-with-requires c κs = let g = c .before .before .before .before .before .before .before .before .before .before .before .before .before .before .before .before .before .before .before .pre in
-    let a = c .before .before .before .before .before .before .before .before .before .before .before .before .before .before .before .before .before .before .before .args in
-    (g .0, ne-eqb _ _ (c .before .before .before .before .before .before .before .before .before .if1 .left), is-path (pathOf (a .path .now)) _ (sym (c .before .before .before .before .before .before .before .before .before .before .before .before .before .check-path .ensures) ∙ c .before .before .before .before .before .before .before .before .before .before .before .enum-told .given .1), refl, refl, refl, refl, refl, g .1, g .2)
+insert-with-requires c κs = let g = c .before .before .before .before .before .before .before .before .before .before .before .before .before .before .before .pre in
+    let a = c .before .before .before .before .before .before .before .before .before .before .before .before .before .before .before .args in
+    (g .0, ne-eqb _ _ (c .before .before .before .before .before .if1 .left), is-path (pathOf (a .path .now)) _ (sym (c .before .before .before .before .before .before .before .before .before .check-path .ensures) ∙ c .before .before .before .before .before .before .before .enum-told .given .1), refl {a = 16384}, g .1, g .2)
 
 same-length : tie.Need-same-length
 same-length c = search needs
@@ -71,13 +54,11 @@ same-length c = search needs
 same-length-2 : tie.Need-same-length-2
 same-length-2 c = search needs
 
--- antt refused `returns-4` as it was built: the module's report says why
 returns-4 : tie.Need-returns-4
-returns-4 c = let g = c .before .before .before .before .before .before .before .before .before .before .before .before .before .before .before .before .before .before .before .before .before .before .before .before .before .before .before .before .before .pre in
-    let a = c .before .before .before .before .before .before .before .before .before .before .before .before .before .before .before .before .before .before .before .before .before .before .before .before .before .before .before .before .before .args in
-    made-at (insert-seen (a .place) (a .state .now) (a .table .now) (length (a .area .now)) (a .path .now) (a .m) (a .tree .now) (is-path (pathOf (a .path .now)) _ (sym (c .before .before .before .before .before .before .before .before .before .before .before .before .before .before .before .before .before .before .before .before .before .before .before .check-path .ensures) ∙ c .before .before .before .before .before .before .before .before .before .before .before .before .before .before .before .before .before .before .before .before .before .enum-told .given .1)) (ne-eqb _ _ (c .before .before .before .before .before .before .before .before .before .before .before .before .before .before .before .before .before .before .before .if1 .left)) (sym (c .before .before .before .before .before .before .before .before .before .before .before .before .before .before .before .before .before .before .tree-restricted .ensures) ∙ c .before .before .before .before .before .before .before .before .before .before .before .before .before .before .before .before .before .if2 .left)) (c .before .before .before .before .before .before .before .before .before .insert-with .ensures)
+returns-4 c = let g = c .before .before .before .before .before .before .before .before .before .before .before .before .before .before .before .before .before .before .before .before .before .pre in
+    let a = c .before .before .before .before .before .before .before .before .before .before .before .before .before .before .before .before .before .before .before .before .before .args in
+    made-at (insert-seen (a .place) (a .state .now) (a .table .now) (length (a .area .now)) (a .path .now) (a .m) (a .tree .now) (is-path (pathOf (a .path .now)) _ (sym (c .before .before .before .before .before .before .before .before .before .before .before .before .before .before .before .check-path .ensures) ∙ c .before .before .before .before .before .before .before .before .before .before .before .before .before .enum-told .given .1)) (ne-eqb _ _ (c .before .before .before .before .before .before .before .before .before .before .before .if1 .left)) (sym (c .before .before .before .before .before .before .before .before .before .before .tree-restricted .ensures) ∙ c .before .before .before .before .before .before .before .before .before .if2 .left)) (c .before .before .before .before .before .insert-with .ensures)
 
--- antt refused `insert-spec` as it was built: the module's report says why
 pub insert-spec : {M : Type 1} → statement M
 insert-spec =
     tie.close
@@ -91,10 +72,6 @@ insert-spec =
     tree-restricted-requires
     returns-3
     slice-aggregate-insert-with
-    slice-aggregate-insert-with-2
-    slice-aggregate-insert-with-3
-    slice-aggregate-insert-with-4
-    slice-aggregate-insert-with-5
     insert-with-requires
     same-length
     same-length-2

@@ -11,11 +11,10 @@ change-at-requires : tie.Need-change-at-requires
 change-at-requires c κs = search needs
 
 mark-change-requires : tie.Need-mark-change-requires
-mark-change-requires c κs = search needs
+mark-change-requires c κs = let g = c .before .before .before .before .before .before .before .before .before .pre in (g .0, g .1, g .2, g .3)
 
--- antt refused `count-of-requires` as it was built: the module's report says why
 count-of-requires : tie.Need-count-of-requires
-count-of-requires c κs = table-long _ (store-held _ _ (c .before .before .before .before .before .before .before .before .before .before .before .before .before .before .before .before .before .before .before .before .before .before .before .before .before .before .before .before .before .pre .0) .table)
+count-of-requires c κs = table-long _ (store-held _ _ (c .before .before .before .before .before .before .before .before .before .before .before .before .before .pre .0) .table)
 
 sub-insert-done : tie.Need-sub-insert-done
 sub-insert-done c = search needs
@@ -23,25 +22,23 @@ sub-insert-done c = search needs
 part-insert-done-start : tie.Need-part-insert-done-start
 part-insert-done-start c = search needs
 
--- antt refused `part-insert-done-end` as it was built: the module's report says why
 part-insert-done-end : tie.Need-part-insert-done-end
-part-insert-done-end c = let g = c .before .before .before .before .before .before .before .before .before .before .before .before .before .before .before .before .before .before .before .before .before .before .before .before .before .before .before .before .before .before .before .before .pre in
-    let a = c .before .before .before .before .before .before .before .before .before .before .before .before .before .before .before .before .before .before .before .before .before .before .before .before .before .before .before .before .before .before .before .before .args in
+part-insert-done-end c = let g = c .before .before .before .before .before .before .before .before .before .before .before .before .before .before .before .before .pre in
+    let a = c .before .before .before .before .before .before .before .before .before .before .before .before .before .before .before .before .args in
     let s = a .state .now in
     let t = a .table .now in
     let p = a .path .now in
-    let r = c .before .before .before .before .before .before .before .before .before .before .before .before .before .before .mark-change .ensures in
+    let r = c .before .before .before .before .before .before .mark-change .ensures in
     done-reach _ s t p (a .done .now) _ _ _ r (c .before .before .count-of .ensures)
 
--- antt refused `insert-done-requires` as it was built: the module's report says why
 insert-done-requires : tie.Need-insert-done-requires
-insert-done-requires c κs = let g = c .before .before .before .before .before .before .before .before .before .before .before .before .before .before .before .before .before .before .before .before .before .before .before .before .before .before .before .before .before .before .before .before .before .before .pre in
-    let a = c .before .before .before .before .before .before .before .before .before .before .before .before .before .before .before .before .before .before .before .before .before .before .before .before .before .before .before .before .before .before .before .before .before .before .args in
+insert-done-requires c κs = let g = c .before .before .before .before .before .before .before .before .before .before .before .before .before .before .before .before .before .before .pre in
+    let a = c .before .before .before .before .before .before .before .before .before .before .before .before .before .before .before .before .before .before .args in
     let s = a .state .now in
     let t = a .table .now in
     let p = a .path .now in
-    let r = c .before .before .before .before .before .before .before .before .before .before .before .before .before .before .before .before .mark-change .ensures in
-    (store-held _ _ (g .0) .table, done-cover _ s t p (a .done .now) _ _ _ r (c .before .before .before .before .count-of .ensures), g .8, g .9)
+    let r = c .before .before .before .before .before .before .before .before .mark-change .ensures in
+    (store-held _ _ (g .0) .table, done-cover _ s t p (a .done .now) _ _ _ r (c .before .before .before .before .count-of .ensures), g .4, g .5)
 
 same-length : tie.Need-same-length
 same-length c = search needs
@@ -52,29 +49,15 @@ same-length-2 c = search needs
 same-length-3 : tie.Need-same-length-3
 same-length-3 c = search needs
 
-same-length-4 : tie.Need-same-length-4
-same-length-4 c = search needs
-
-same-length-5 : tie.Need-same-length-5
-same-length-5 c = search needs
-
-same-length-6 : tie.Need-same-length-6
-same-length-6 c = search needs
-
-same-length-7 : tie.Need-same-length-7
-same-length-7 c = search needs
-
--- antt refused `returns` as it was built: the module's report says why
 returns : tie.Need-returns
-returns c = let g = c .before .before .before .before .before .before .before .before .before .before .before .before .before .before .before .before .before .before .before .before .before .before .before .before .before .before .before .before .before .before .before .before .before .before .before .before .before .before .before .pre in
-    let a = c .before .before .before .before .before .before .before .before .before .before .before .before .before .before .before .before .before .before .before .before .before .before .before .before .before .before .before .before .before .before .before .before .before .before .before .before .before .before .before .args in
+returns c = let g = c .before .before .before .before .before .before .before .before .before .before .before .before .before .before .before .before .before .before .before .before .before .before .before .pre in
+    let a = c .before .before .before .before .before .before .before .before .before .before .before .before .before .before .before .before .before .before .before .before .before .before .before .args in
     let s = a .state .now in
     let t = a .table .now in
     let p = a .path .now in
-    let r = c .before .before .before .before .before .before .before .before .before .before .before .before .before .before .before .before .before .before .before .before .before .mark-change .ensures in
-    made-at (insert-parts _ s t p (a .done .now) _ _ _ r (c .before .before .before .before .before .before .before .before .before .count-of .ensures) (a .place) (c .before .before .before .before .before .before .before .before .before .before .before .before .before .before .before .before .before .before .before .before .before .before .before .before .before .before .before .before .change-at .ensures) (a .m) (a .tree .now) (length (a .area .now))) (c .before .before .before .before .insert-done .ensures)
+    let r = c .before .before .before .before .before .before .before .before .before .before .before .before .before .mark-change .ensures in
+    made-at (insert-parts _ s t p (a .done .now) _ _ _ r (c .before .before .before .before .before .before .before .before .before .count-of .ensures) (a .place) (c .before .before .before .before .before .before .before .before .before .before .before .before .before .before .before .before .change-at .ensures) (a .m) (a .tree .now) (length (a .area .now))) (c .before .before .before .before .insert-done .ensures)
 
--- antt refused `insert-with-spec` as it was built: the module's report says why
 pub insert-with-spec : {M : Type 1} → statement M
 insert-with-spec =
     tie.close
@@ -89,8 +72,4 @@ insert-with-spec =
     same-length
     same-length-2
     same-length-3
-    same-length-4
-    same-length-5
-    same-length-6
-    same-length-7
     returns)

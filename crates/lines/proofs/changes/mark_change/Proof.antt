@@ -1,3 +1,5 @@
+use mathlib.Core.Path.{refl}
+use lib.ListN.{replicate}
 use native.Mathlib.Omega.{arith}
 use Rattle.lines.proofs.StateLaws.{store-held}
 use Rattle.rights.proofs.Facts.{table-long}
@@ -6,17 +8,23 @@ use borrow.Author.Needs.{needs}
 use Rattle.lines.proofs.changes.mark_change.Statement.{statement}
 use Rattle.lines.proofs.changes.mark_change.Tie as tie
 
+slice-aggregate-mark-selected : tie.Need-slice-aggregate-mark-selected
+slice-aggregate-mark-selected c = search needs
+
+slice-aggregate-mark-selected-2 : tie.Need-slice-aggregate-mark-selected-2
+slice-aggregate-mark-selected-2 c = search needs
+
 mark-selected-requires : tie.Need-mark-selected-requires
-mark-selected-requires c κs = search needs
+mark-selected-requires c κs = let g = c .before .before .before .before .before .before .pre in (g .0, g .1, g .2, refl {a = 16384}, refl {a = 16384})
 
 count-of-requires : tie.Need-count-of-requires
-count-of-requires c κs = table-long _ (store-held _ _ (c .before .before .before .before .before .before .before .before .before .before .before .before .before .before .before .before .before .before .before .before .before .pre .0) .table)
+count-of-requires c κs = table-long _ (store-held _ _ (c .before .before .before .before .before .before .before .before .before .pre .0) .table)
 
 sub-mark-done : tie.Need-sub-mark-done
-sub-mark-done c = omega (arith, store-held _ _ (c .before .before .before .before .before .before .before .before .before .before .before .before .before .before .before .before .before .before .before .before .before .before .pre .0) .size)
+sub-mark-done c = omega (arith, store-held _ _ (c .before .before .before .before .before .before .before .before .before .before .pre .0) .size)
 
 part-mark-done-start : tie.Need-part-mark-done-start
-part-mark-done-start c = omega (arith, store-held _ _ (c .before .before .before .before .before .before .before .before .before .before .before .before .before .before .before .before .before .before .before .before .before .before .pre .0) .size)
+part-mark-done-start c = omega (arith, store-held _ _ (c .before .before .before .before .before .before .before .before .before .before .pre .0) .size)
 
 part-mark-done-end : tie.Need-part-mark-done-end
 part-mark-done-end c = search needs
@@ -28,10 +36,10 @@ part-mark-done-start-2 : tie.Need-part-mark-done-start-2
 part-mark-done-start-2 c = search needs
 
 part-mark-done-end-2 : tie.Need-part-mark-done-end-2
-part-mark-done-end-2 c = let g = c .before .before .before .before .before .before .before .before .before .before .before .before .before .before .before .before .before .before .before .before .before .before .before .before .pre in
-    let a = c .before .before .before .before .before .before .before .before .before .before .before .before .before .before .before .before .before .before .before .before .before .before .before .before .args in
-    let r = c .before .before .before .before .before .before .before .before .before .before .before .mark-selected .ensures in
-    rights-reach (a .state .now) (a .table .now) (a .path .now) (g .0) (a .rights .now) _ (a .selected .now) _ _ _ r (c .before .before .count-of .ensures)
+part-mark-done-end-2 c = let g = c .before .before .before .before .before .before .before .before .before .before .before .before .pre in
+    let a = c .before .before .before .before .before .before .before .before .before .before .before .before .args in
+    let r = c .before .before .before .before .before .mark-selected .ensures in
+    rights-reach (a .state .now) (a .table .now) (a .path .now) (g .0) (replicate 16384 0) _ (replicate 16384 0) _ _ _ r (c .before .before .count-of .ensures)
 
 sub-mark-done-3 : tie.Need-sub-mark-done-3
 sub-mark-done-3 c = search needs
@@ -40,42 +48,32 @@ part-mark-done-start-3 : tie.Need-part-mark-done-start-3
 part-mark-done-start-3 c = search needs
 
 part-mark-done-end-3 : tie.Need-part-mark-done-end-3
-part-mark-done-end-3 c = let g = c .before .before .before .before .before .before .before .before .before .before .before .before .before .before .before .before .before .before .before .before .before .before .before .before .before .before .pre in
-    let a = c .before .before .before .before .before .before .before .before .before .before .before .before .before .before .before .before .before .before .before .before .before .before .before .before .before .before .args in
-    let r = c .before .before .before .before .before .before .before .before .before .before .before .before .before .mark-selected .ensures in
-    selected-reach (a .state .now) (a .table .now) (a .path .now) (g .0) (a .rights .now) _ (a .selected .now) _ _ _ r (c .before .before .before .before .count-of .ensures)
+part-mark-done-end-3 c = let g = c .before .before .before .before .before .before .before .before .before .before .before .before .before .before .pre in
+    let a = c .before .before .before .before .before .before .before .before .before .before .before .before .before .before .args in
+    let r = c .before .before .before .before .before .before .before .mark-selected .ensures in
+    selected-reach (a .state .now) (a .table .now) (a .path .now) (g .0) (replicate 16384 0) _ (replicate 16384 0) _ _ _ r (c .before .before .before .before .count-of .ensures)
 
 mark-done-requires : tie.Need-mark-done-requires
-mark-done-requires c κs = let g = c .before .before .before .before .before .before .before .before .before .before .before .before .before .before .before .before .before .before .before .before .before .before .before .before .before .before .before .before .pre in
-    let a = c .before .before .before .before .before .before .before .before .before .before .before .before .before .before .before .before .before .before .before .before .before .before .before .before .before .before .before .before .args in
-    let r = c .before .before .before .before .before .before .before .before .before .before .before .before .before .before .before .mark-selected .ensures in
-    done-asks (a .state .now) (a .table .now) (a .path .now) (g .0) (a .rights .now) _ (a .selected .now) _ _ _ r (c .before .before .before .before .before .before .count-of .ensures) (a .done .now) (g .7)
+mark-done-requires c κs = let g = c .before .before .before .before .before .before .before .before .before .before .before .before .before .before .before .before .pre in
+    let a = c .before .before .before .before .before .before .before .before .before .before .before .before .before .before .before .before .args in
+    let r = c .before .before .before .before .before .before .before .before .before .mark-selected .ensures in
+    done-asks (a .state .now) (a .table .now) (a .path .now) (g .0) (replicate 16384 0) _ (replicate 16384 0) _ _ _ r (c .before .before .before .before .before .before .count-of .ensures) (a .done .now) (g .3)
 
 same-length : tie.Need-same-length
 same-length c = search needs
 
-same-length-2 : tie.Need-same-length-2
-same-length-2 c = search needs
-
-same-length-3 : tie.Need-same-length-3
-same-length-3 c = search needs
-
-same-length-4 : tie.Need-same-length-4
-same-length-4 c = search needs
-
-same-length-5 : tie.Need-same-length-5
-same-length-5 c = search needs
-
 returns : tie.Need-returns
-returns c = let g = c .before .before .before .before .before .before .before .before .before .before .before .before .before .before .before .before .before .before .before .before .before .before .before .before .before .before .before .before .before .before .before .pre in
-    let a = c .before .before .before .before .before .before .before .before .before .before .before .before .before .before .before .before .before .before .before .before .before .before .before .before .before .before .before .before .before .before .before .args in
-    let r = c .before .before .before .before .before .before .before .before .before .before .before .before .before .before .before .before .before .before .mark-selected .ensures in
-    done-records (a .state .now) (a .table .now) (a .path .now) (g .0) (a .rights .now) _ (a .selected .now) _ _ _ r (c .before .before .before .before .before .before .before .before .before .count-of .ensures) (a .change) (a .done .now) _ (c .before .before .mark-done .ensures)
+returns c = let g = c .before .before .before .before .before .before .before .before .before .before .before .before .before .before .before .before .before .before .before .pre in
+    let a = c .before .before .before .before .before .before .before .before .before .before .before .before .before .before .before .before .before .before .before .args in
+    let r = c .before .before .before .before .before .before .before .before .before .before .before .before .mark-selected .ensures in
+    done-records (a .state .now) (a .table .now) (a .path .now) (g .0) (replicate 16384 0) _ (replicate 16384 0) _ _ _ r (c .before .before .before .before .before .before .before .before .before .count-of .ensures) (a .change) (a .done .now) _ (c .before .before .mark-done .ensures)
 
 pub mark-change-spec : {M : Type 1} → statement M
 mark-change-spec =
     tie.close
     (tie.spec
+    slice-aggregate-mark-selected
+    slice-aggregate-mark-selected-2
     mark-selected-requires
     count-of-requires
     sub-mark-done
@@ -89,8 +87,4 @@ mark-change-spec =
     part-mark-done-end-3
     mark-done-requires
     same-length
-    same-length-2
-    same-length-3
-    same-length-4
-    same-length-5
     returns)

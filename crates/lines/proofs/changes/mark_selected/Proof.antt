@@ -1,3 +1,5 @@
+use mathlib.Core.Path.{refl}
+use lib.ListN.{replicate}
 use native.Mathlib.Omega.{arith}
 use Rattle.lines.proofs.StateLaws.{store-held}
 use Rattle.rights.proofs.Facts.{table-long, table-few}
@@ -7,11 +9,20 @@ use borrow.Author.Needs.{needs}
 use Rattle.lines.proofs.changes.mark_selected.Statement.{statement}
 use Rattle.lines.proofs.changes.mark_selected.Tie as tie
 
+slice-aggregate-select-user : tie.Need-slice-aggregate-select-user
+slice-aggregate-select-user c = search needs
+
+slice-aggregate-select-user-2 : tie.Need-slice-aggregate-select-user-2
+slice-aggregate-select-user-2 c = search needs
+
 select-user-requires : tie.Need-select-user-requires
-select-user-requires c κs = search needs
+select-user-requires c κs = let g = c .before .before .before .before .before .before .before .before .pre in (g .0, g .1, g .2, g .3, refl {a = 16384}, refl {a = 16384})
 
 count-of-requires : tie.Need-count-of-requires
-count-of-requires c κs = table-long _ (store-held _ _ (c .before .before .before .before .before .before .before .before .before .before .before .before .before .before .before .before .before .pre .0) .table)
+count-of-requires c κs = table-long _ (store-held _ _ (c .before .before .before .before .before .before .before .before .before .before .before .before .before .pre .0) .table)
+
+slice-aggregate-mark-records : tie.Need-slice-aggregate-mark-records
+slice-aggregate-mark-records c = search needs
 
 sub-mark-records : tie.Need-sub-mark-records
 sub-mark-records c = search needs
@@ -20,21 +31,24 @@ part-mark-records-start : tie.Need-part-mark-records-start
 part-mark-records-start c = search needs
 
 part-mark-records-end : tie.Need-part-mark-records-end
-part-mark-records-end c = let g = c .before .before .before .before .before .before .before .before .before .before .before .before .before .before .before .before .before .before .before .before .pre in
-    let a = c .before .before .before .before .before .before .before .before .before .before .before .before .before .before .before .before .before .before .before .before .args in
-    let r = c .before .before .before .before .before .before .before .before .before .select-user .ensures .0 in
+part-mark-records-end c = let g = c .before .before .before .before .before .before .before .before .before .before .before .before .before .before .before .before .pre in
+    let a = c .before .before .before .before .before .before .before .before .before .before .before .before .before .before .before .before .args in
+    let r = c .before .before .before .before .before .before .before .select-user .ensures .0 in
     marks-long-enough (a .state .now) (a .table .now) (a .path .now) _ _ _ (g .0) (r .size) (r .picked)
 
 mark-records-requires : tie.Need-mark-records-requires
-mark-records-requires c κs = let g = c .before .before .before .before .before .before .before .before .before .before .before .before .before .before .before .before .before .before .before .before .before .before .pre in
-    let a = c .before .before .before .before .before .before .before .before .before .before .before .before .before .before .before .before .before .before .before .before .before .before .args in
-    let r = c .before .before .before .before .before .before .before .before .before .before .before .select-user .ensures .0 in
-    (shown-long (a .state .now) (a .table .now) (g .0) _ _ _ (r .size) (r .numbers), omega (arith, c .before .before .before .before .count-of .ensures, table-few (a .table .now) (store-held _ _ (g .0) .table), g .6))
+mark-records-requires c κs = let g = c .before .before .before .before .before .before .before .before .before .before .before .before .before .before .before .before .before .before .pre in
+    let a = c .before .before .before .before .before .before .before .before .before .before .before .before .before .before .before .before .before .before .args in
+    let r = c .before .before .before .before .before .before .before .before .before .select-user .ensures .0 in
+    (shown-long (a .state .now) (a .table .now) (g .0) _ _ _ (r .size) (r .numbers), omega (arith, c .before .before .before .before .count-of .ensures, table-few (a .table .now) (store-held _ _ (g .0) .table), g .4))
+
+slice-aggregate-count-marks : tie.Need-slice-aggregate-count-marks
+slice-aggregate-count-marks c = search needs
 
 count-marks-requires : tie.Need-count-marks-requires
-count-marks-requires c κs = let g = c .before .before .before .before .before .before .before .before .before .before .before .before .before .before .before .before .before .before .before .before .before .before .before .before .before .before .pre in
-    let a = c .before .before .before .before .before .before .before .before .before .before .before .before .before .before .before .before .before .before .before .before .before .before .before .before .before .before .args in
-    let r = c .before .before .before .before .before .before .before .before .before .before .before .before .before .before .before .select-user .ensures .0 in
+count-marks-requires c κs = let g = c .before .before .before .before .before .before .before .before .before .before .before .before .before .before .before .before .before .before .before .before .before .before .pre in
+    let a = c .before .before .before .before .before .before .before .before .before .before .before .before .before .before .before .before .before .before .before .before .before .before .args in
+    let r = c .before .before .before .before .before .before .before .before .before .before .before .before .before .select-user .ensures .0 in
     marks-long-enough (a .state .now) (a .table .now) (a .path .now) _ _ _ (g .0) (r .size) (r .picked)
 
 same-length : tie.Need-same-length
@@ -43,37 +57,33 @@ same-length c = search needs
 same-length-2 : tie.Need-same-length-2
 same-length-2 c = search needs
 
-same-length-3 : tie.Need-same-length-3
-same-length-3 c = search needs
-
-same-length-4 : tie.Need-same-length-4
-same-length-4 c = search needs
-
 returns : tie.Need-returns
-returns c = let g = c .before .before .before .before .before .before .before .before .before .before .before .before .before .before .before .before .before .before .before .before .before .before .before .before .before .before .before .pre in
-    let a = c .before .before .before .before .before .before .before .before .before .before .before .before .before .before .before .before .before .before .before .before .before .before .before .before .before .before .before .args in
-    let r = c .before .before .before .before .before .before .before .before .before .before .before .before .before .before .before .before .select-user .ensures in
+returns c = let g = c .before .before .before .before .before .before .before .before .before .before .before .before .before .before .before .before .before .before .before .before .before .before .before .pre in
+    let a = c .before .before .before .before .before .before .before .before .before .before .before .before .before .before .before .before .before .before .before .before .before .before .before .args in
+    let r = c .before .before .before .before .before .before .before .before .before .before .before .before .before .before .select-user .ensures in
     let s = a .state .now in
     let t = a .table .now in
     record {
-      size = selected-count s t (a .path .now) (g .0) (a .shown .now) (a .marks .now) _ _ _ (r .0) _ (c .count-marks .ensures .0);
+      size = selected-count s t (a .path .now) (g .0) (replicate 16384 0) (replicate 16384 0) _ _ _ (r .0) _ (c .count-marks .ensures .0);
       held = r .1;
-      picked = selected-records s t (a .path .now) (g .0) (a .shown .now) (a .marks .now) _ _ _ (r .0) (a .selected .now) _ _ (c .before .before .before .before .before .before .before .before .before .count-of .ensures) (c .before .before .before .before .mark-records .ensures);
+      picked = selected-records s t (a .path .now) (g .0) (replicate 16384 0) (replicate 16384 0) _ _ _ (r .0) (a .selected .now) _ _ (c .before .before .before .before .before .before .before .before .before .count-of .ensures) (c .before .before .before .before .mark-records .ensures);
     }
 
 pub mark-selected-spec : {M : Type 1} → statement M
 mark-selected-spec =
     tie.close
     (tie.spec
+    slice-aggregate-select-user
+    slice-aggregate-select-user-2
     select-user-requires
     count-of-requires
+    slice-aggregate-mark-records
     sub-mark-records
     part-mark-records-start
     part-mark-records-end
     mark-records-requires
+    slice-aggregate-count-marks
     count-marks-requires
     same-length
     same-length-2
-    same-length-3
-    same-length-4
     returns)

@@ -35,22 +35,10 @@ returns-2 c = let g = c .before .before .before .before .before .before .before 
 slice-aggregate-remove-with : tie.Need-slice-aggregate-remove-with
 slice-aggregate-remove-with c = search needs
 
-slice-aggregate-remove-with-2 : tie.Need-slice-aggregate-remove-with-2
-slice-aggregate-remove-with-2 c = search needs
-
-slice-aggregate-remove-with-3 : tie.Need-slice-aggregate-remove-with-3
-slice-aggregate-remove-with-3 c = search needs
-
-slice-aggregate-remove-with-4 : tie.Need-slice-aggregate-remove-with-4
-slice-aggregate-remove-with-4 c = search needs
-
-slice-aggregate-remove-with-5 : tie.Need-slice-aggregate-remove-with-5
-slice-aggregate-remove-with-5 c = search needs
-
 remove-with-requires : tie.Need-remove-with-requires
-remove-with-requires c κs = let g = c .before .before .before .before .before .before .before .before .before .before .before .before .before .before .before .before .pre in
-    let a = c .before .before .before .before .before .before .before .before .before .before .before .before .before .before .before .before .args in
-    (g, ne-eqb _ _ (c .before .before .before .before .before .before .before .if1 .left), is-path (pathOf (a .path .now)) _ (sym (c .before .before .before .before .before .before .before .before .before .before .before .check-path .ensures) ∙ c .before .before .before .before .before .before .before .before .before .enum-told .given .1), refl, refl, refl, refl, refl)
+remove-with-requires c κs = let g = c .before .before .before .before .before .before .before .before .before .before .before .before .pre in
+    let a = c .before .before .before .before .before .before .before .before .before .before .before .before .args in
+    (g, ne-eqb _ _ (c .before .before .before .if1 .left), is-path (pathOf (a .path .now)) _ (sym (c .before .before .before .before .before .before .before .check-path .ensures) ∙ c .before .before .before .before .before .enum-told .given .1), refl {a = 16384})
 
 same-length : tie.Need-same-length
 same-length c = search needs
@@ -59,9 +47,9 @@ same-length-2 : tie.Need-same-length-2
 same-length-2 c = search needs
 
 returns-3 : tie.Need-returns-3
-returns-3 c = let g = c .before .before .before .before .before .before .before .before .before .before .before .before .before .before .before .before .before .before .before .before .before .before .before .before .before .before .pre in
-    let a = c .before .before .before .before .before .before .before .before .before .before .before .before .before .before .before .before .before .before .before .before .before .before .before .before .before .before .args in
-    made-at (remove-seen (a .state .now) (a .table .now) (length (a .area .now)) (a .path .now) (is-path (pathOf (a .path .now)) _ (sym (c .before .before .before .before .before .before .before .before .before .before .before .before .before .before .before .before .before .before .before .before .before .check-path .ensures) ∙ c .before .before .before .before .before .before .before .before .before .before .before .before .before .before .before .before .before .before .before .enum-told .given .1)) (ne-eqb _ _ (c .before .before .before .before .before .before .before .before .before .before .before .before .before .before .before .before .before .if1 .left))) (c .before .before .before .before .before .before .before .before .before .remove-with .ensures)
+returns-3 c = let g = c .before .before .before .before .before .before .before .before .before .before .before .before .before .before .before .before .before .before .pre in
+    let a = c .before .before .before .before .before .before .before .before .before .before .before .before .before .before .before .before .before .before .args in
+    made-at (remove-seen (a .state .now) (a .table .now) (length (a .area .now)) (a .path .now) (is-path (pathOf (a .path .now)) _ (sym (c .before .before .before .before .before .before .before .before .before .before .before .before .before .check-path .ensures) ∙ c .before .before .before .before .before .before .before .before .before .before .before .enum-told .given .1)) (ne-eqb _ _ (c .before .before .before .before .before .before .before .before .before .if1 .left))) (c .before .before .before .before .before .remove-with .ensures)
 
 pub remove-spec : {M : Type 1} → statement M
 remove-spec =
@@ -74,10 +62,6 @@ remove-spec =
     shared-slice-read-if1
     returns-2
     slice-aggregate-remove-with
-    slice-aggregate-remove-with-2
-    slice-aggregate-remove-with-3
-    slice-aggregate-remove-with-4
-    slice-aggregate-remove-with-5
     remove-with-requires
     same-length
     same-length-2

@@ -11,10 +11,10 @@ use Rattle.lines.proofs.changes.remove_with.Statement.{statement}
 use Rattle.lines.proofs.changes.remove_with.Tie as tie
 
 mark-change-requires : tie.Need-mark-change-requires
-mark-change-requires c κs = search needs
+mark-change-requires c κs = let g = c .before .before .before .before .before .before .before .pre in (g .0, g .1, g .2, g .3)
 
 count-of-requires : tie.Need-count-of-requires
-count-of-requires c κs = table-long _ (store-held _ _ (c .before .before .before .before .before .before .before .before .before .before .before .before .before .before .before .before .before .before .before .before .before .before .before .before .before .before .before .pre .0) .table)
+count-of-requires c κs = table-long _ (store-held _ _ (c .before .before .before .before .before .before .before .before .before .before .before .pre .0) .table)
 
 sub-answer-change : tie.Need-sub-answer-change
 sub-answer-change c = search needs
@@ -23,21 +23,21 @@ part-answer-change-start : tie.Need-part-answer-change-start
 part-answer-change-start c = search needs
 
 part-answer-change-end : tie.Need-part-answer-change-end
-part-answer-change-end c = let g = c .before .before .before .before .before .before .before .before .before .before .before .before .before .before .before .before .before .before .before .before .before .before .before .before .before .before .before .before .before .before .pre in
-    let a = c .before .before .before .before .before .before .before .before .before .before .before .before .before .before .before .before .before .before .before .before .before .before .before .before .before .before .before .before .before .before .args in
+part-answer-change-end c = let g = c .before .before .before .before .before .before .before .before .before .before .before .before .before .before .pre in
+    let a = c .before .before .before .before .before .before .before .before .before .before .before .before .before .before .args in
     let s = a .state .now in
     let t = a .table .now in
     let p = a .path .now in
-    let r = c .before .before .before .before .before .before .before .before .before .before .before .before .before .before .mark-change .ensures in
+    let r = c .before .before .before .before .before .before .mark-change .ensures in
     done-reach Remove s t p (a .done .now) _ _ _ r (c .before .before .count-of .ensures)
 
 answer-change-requires : tie.Need-answer-change-requires
-answer-change-requires c κs = let g = c .before .before .before .before .before .before .before .before .before .before .before .before .before .before .before .before .before .before .before .before .before .before .before .before .before .before .before .before .before .before .before .before .pre in
-    let a = c .before .before .before .before .before .before .before .before .before .before .before .before .before .before .before .before .before .before .before .before .before .before .before .before .before .before .before .before .before .before .before .before .args in
+answer-change-requires c κs = let g = c .before .before .before .before .before .before .before .before .before .before .before .before .before .before .before .before .pre in
+    let a = c .before .before .before .before .before .before .before .before .before .before .before .before .before .before .before .before .args in
     let s = a .state .now in
     let t = a .table .now in
     let p = a .path .now in
-    let r = c .before .before .before .before .before .before .before .before .before .before .before .before .before .before .before .before .mark-change .ensures in
+    let r = c .before .before .before .before .before .before .before .before .mark-change .ensures in
     (store-held _ _ (g .0) .table, done-cover Remove s t p (a .done .now) _ _ _ r (c .before .before .before .before .count-of .ensures))
 
 same-length : tie.Need-same-length
@@ -49,25 +49,13 @@ same-length-2 c = search needs
 same-length-3 : tie.Need-same-length-3
 same-length-3 c = search needs
 
-same-length-4 : tie.Need-same-length-4
-same-length-4 c = search needs
-
-same-length-5 : tie.Need-same-length-5
-same-length-5 c = search needs
-
-same-length-6 : tie.Need-same-length-6
-same-length-6 c = search needs
-
-same-length-7 : tie.Need-same-length-7
-same-length-7 c = search needs
-
 returns : tie.Need-returns
-returns c = let g = c .before .before .before .before .before .before .before .before .before .before .before .before .before .before .before .before .before .before .before .before .before .before .before .before .before .before .before .before .before .before .before .before .before .before .before .before .pre in
-    let a = c .before .before .before .before .before .before .before .before .before .before .before .before .before .before .before .before .before .before .before .before .before .before .before .before .before .before .before .before .before .before .before .before .before .before .before .before .args in
+returns c = let g = c .before .before .before .before .before .before .before .before .before .before .before .before .before .before .before .before .before .before .before .before .pre in
+    let a = c .before .before .before .before .before .before .before .before .before .before .before .before .before .before .before .before .before .before .before .before .args in
     let s = a .state .now in
     let t = a .table .now in
     let p = a .path .now in
-    let r = c .before .before .before .before .before .before .before .before .before .before .before .before .before .before .before .before .before .before .before .before .mark-change .ensures in
+    let r = c .before .before .before .before .before .before .before .before .before .before .before .before .mark-change .ensures in
     made-kept (countText Remove s t p) (a .area .now) _ s t s (changed t (removed (doneIn Remove s t p) (records t))) _ (done-answered Remove s t p (a .done .now) _ _ _ r (c .before .before .before .before .before .before .before .before .count-of .ensures) (a .area .now) _ _ (c .before .before .before .answer-change .ensures)) (c .if1 .taken)
 
 sub-remove-marked : tie.Need-sub-remove-marked
@@ -77,52 +65,40 @@ part-remove-marked-start : tie.Need-part-remove-marked-start
 part-remove-marked-start c = search needs
 
 part-remove-marked-end : tie.Need-part-remove-marked-end
-part-remove-marked-end c = let g = c .before .before .before .before .before .before .before .before .before .before .before .before .before .before .before .before .before .before .before .before .before .before .before .before .before .before .before .before .before .before .before .before .before .before .before .before .before .before .pre in
-    let a = c .before .before .before .before .before .before .before .before .before .before .before .before .before .before .before .before .before .before .before .before .before .before .before .before .before .before .before .before .before .before .before .before .before .before .before .before .before .before .args in
+part-remove-marked-end c = let g = c .before .before .before .before .before .before .before .before .before .before .before .before .before .before .before .before .before .before .before .before .before .before .pre in
+    let a = c .before .before .before .before .before .before .before .before .before .before .before .before .before .before .before .before .before .before .before .before .before .before .args in
     let s = a .state .now in
     let t = a .table .now in
     let p = a .path .now in
-    let r = c .before .before .before .before .before .before .before .before .before .before .before .before .before .before .before .before .before .before .before .before .before .before .mark-change .ensures in
+    let r = c .before .before .before .before .before .before .before .before .before .before .before .before .before .before .mark-change .ensures in
     done-reach Remove s t p (a .done .now) _ _ _ r (c .before .before .before .before .before .before .before .before .before .before .count-of .ensures)
 
 remove-marked-requires : tie.Need-remove-marked-requires
-remove-marked-requires c κs = let g = c .before .before .before .before .before .before .before .before .before .before .before .before .before .before .before .before .before .before .before .before .before .before .before .before .before .before .before .before .before .before .before .before .before .before .before .before .before .before .before .pre in
-    let a = c .before .before .before .before .before .before .before .before .before .before .before .before .before .before .before .before .before .before .before .before .before .before .before .before .before .before .before .before .before .before .before .before .before .before .before .before .before .before .before .args in
+remove-marked-requires c κs = let g = c .before .before .before .before .before .before .before .before .before .before .before .before .before .before .before .before .before .before .before .before .before .before .before .pre in
+    let a = c .before .before .before .before .before .before .before .before .before .before .before .before .before .before .before .before .before .before .before .before .before .before .before .args in
     let s = a .state .now in
     let t = a .table .now in
     let p = a .path .now in
-    let r = c .before .before .before .before .before .before .before .before .before .before .before .before .before .before .before .before .before .before .before .before .before .before .before .mark-change .ensures in
+    let r = c .before .before .before .before .before .before .before .before .before .before .before .before .before .before .before .mark-change .ensures in
     let h = store-held _ _ (g .0) .table in
     (h, done-cover Remove s t p (a .done .now) _ _ _ r (c .before .before .before .before .before .before .before .before .before .before .before .count-of .ensures))
 
-same-length-8 : tie.Need-same-length-8
-same-length-8 c = search needs
+same-length-4 : tie.Need-same-length-4
+same-length-4 c = search needs
 
-same-length-9 : tie.Need-same-length-9
-same-length-9 c = search needs
+same-length-5 : tie.Need-same-length-5
+same-length-5 c = search needs
 
-same-length-10 : tie.Need-same-length-10
-same-length-10 c = search needs
-
-same-length-11 : tie.Need-same-length-11
-same-length-11 c = search needs
-
-same-length-12 : tie.Need-same-length-12
-same-length-12 c = search needs
-
-same-length-13 : tie.Need-same-length-13
-same-length-13 c = search needs
-
-same-length-14 : tie.Need-same-length-14
-same-length-14 c = search needs
+same-length-6 : tie.Need-same-length-6
+same-length-6 c = search needs
 
 returns-2 : tie.Need-returns-2
-returns-2 c = let g = c .before .before .before .before .before .before .before .before .before .before .before .before .before .before .before .before .before .before .before .before .before .before .before .before .before .before .before .before .before .before .before .before .before .before .before .before .before .before .before .before .before .before .pre in
-    let a = c .before .before .before .before .before .before .before .before .before .before .before .before .before .before .before .before .before .before .before .before .before .before .before .before .before .before .before .before .before .before .before .before .before .before .before .before .before .before .before .before .before .before .args in
+returns-2 c = let g = c .before .before .before .before .before .before .before .before .before .before .before .before .before .before .before .before .before .before .before .before .before .before .before .before .before .before .pre in
+    let a = c .before .before .before .before .before .before .before .before .before .before .before .before .before .before .before .before .before .before .before .before .before .before .before .before .before .before .args in
     let s = a .state .now in
     let t = a .table .now in
     let p = a .path .now in
-    let r = c .before .before .before .before .before .before .before .before .before .before .before .before .before .before .before .before .before .before .before .before .before .before .before .before .before .before .mark-change .ensures in
+    let r = c .before .before .before .before .before .before .before .before .before .before .before .before .before .before .before .before .before .before .mark-change .ensures in
     made-table (countText Remove s t p) (a .area .now) _ s t (changed t (removed (doneIn Remove s t p) (records t))) _ _ (removed-table Remove s t p (a .done .now) _ _ _ r (c .before .before .before .before .before .before .before .before .before .before .before .before .before .before .count-of .ensures) _ (c .before .before .remove-marked .ensures)) (done-answered Remove s t p (a .done .now) _ _ _ r (c .before .before .before .before .before .before .before .before .before .before .before .before .before .before .count-of .ensures) (a .area .now) _ _ (c .before .before .before .before .before .before .before .before .before .answer-change .ensures)) (c .before .before .before .before .before .before .if1 .left)
 
 pub remove-with-spec : {M : Type 1} → statement M
@@ -138,20 +114,12 @@ remove-with-spec =
     same-length
     same-length-2
     same-length-3
-    same-length-4
-    same-length-5
-    same-length-6
-    same-length-7
     returns
     sub-remove-marked
     part-remove-marked-start
     part-remove-marked-end
     remove-marked-requires
-    same-length-8
-    same-length-9
-    same-length-10
-    same-length-11
-    same-length-12
-    same-length-13
-    same-length-14
+    same-length-4
+    same-length-5
+    same-length-6
     returns-2)

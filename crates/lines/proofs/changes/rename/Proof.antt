@@ -46,22 +46,10 @@ returns-3 c = let g = c .before .before .before .before .before .before .before 
 slice-aggregate-rename-with : tie.Need-slice-aggregate-rename-with
 slice-aggregate-rename-with c = search needs
 
-slice-aggregate-rename-with-2 : tie.Need-slice-aggregate-rename-with-2
-slice-aggregate-rename-with-2 c = search needs
-
-slice-aggregate-rename-with-3 : tie.Need-slice-aggregate-rename-with-3
-slice-aggregate-rename-with-3 c = search needs
-
-slice-aggregate-rename-with-4 : tie.Need-slice-aggregate-rename-with-4
-slice-aggregate-rename-with-4 c = search needs
-
-slice-aggregate-rename-with-5 : tie.Need-slice-aggregate-rename-with-5
-slice-aggregate-rename-with-5 c = search needs
-
 rename-with-requires : tie.Need-rename-with-requires
-rename-with-requires c κs = let g = c .before .before .before .before .before .before .before .before .before .before .before .before .before .before .before .before .before .before .before .before .pre in
-    let a = c .before .before .before .before .before .before .before .before .before .before .before .before .before .before .before .before .before .before .before .before .args in
-    (g .0, ne-eqb _ _ (c .before .before .before .before .before .before .before .before .before .before .if1 .left), is-path (pathOf (a .path .now)) _ (sym (c .before .before .before .before .before .before .before .before .before .before .before .before .before .before .check-path .ensures) ∙ c .before .before .before .before .before .before .before .before .before .before .before .before .enum-told .given .1), refl, refl, refl, refl, refl, g .1)
+rename-with-requires c κs = let g = c .before .before .before .before .before .before .before .before .before .before .before .before .before .before .before .before .pre in
+    let a = c .before .before .before .before .before .before .before .before .before .before .before .before .before .before .before .before .args in
+    (g .0, ne-eqb _ _ (c .before .before .before .before .before .before .if1 .left), is-path (pathOf (a .path .now)) _ (sym (c .before .before .before .before .before .before .before .before .before .before .check-path .ensures) ∙ c .before .before .before .before .before .before .before .before .enum-told .given .1), refl {a = 16384}, g .1)
 
 same-length-2 : tie.Need-same-length-2
 same-length-2 c = search needs
@@ -70,9 +58,9 @@ same-length-3 : tie.Need-same-length-3
 same-length-3 c = search needs
 
 returns-4 : tie.Need-returns-4
-returns-4 c = let g = c .before .before .before .before .before .before .before .before .before .before .before .before .before .before .before .before .before .before .before .before .before .before .before .before .before .before .before .before .before .before .pre in
-    let a = c .before .before .before .before .before .before .before .before .before .before .before .before .before .before .before .before .before .before .before .before .before .before .before .before .before .before .before .before .before .before .args in
-    made-at (rename-seen (a .change) (a .state .now) (a .table .now) (length (a .area .now)) (a .path .now) (a .label .now) (is-path (pathOf (a .path .now)) _ (sym (c .before .before .before .before .before .before .before .before .before .before .before .before .before .before .before .before .before .before .before .before .before .before .before .before .check-path .ensures) ∙ c .before .before .before .before .before .before .before .before .before .before .before .before .before .before .before .before .before .before .before .before .before .before .enum-told .given .1)) (ne-eqb _ _ (c .before .before .before .before .before .before .before .before .before .before .before .before .before .before .before .before .before .before .before .before .if1 .left)) (sym (c .before .before .before .before .before .before .before .before .before .before .before .before .before .before .before .before .before .before .is-barred .ensures) ∙ c .before .before .before .before .before .before .before .before .before .before .before .before .before .before .before .before .before .if2 .left)) (c .before .before .before .before .before .before .before .before .before .rename-with .ensures)
+returns-4 c = let g = c .before .before .before .before .before .before .before .before .before .before .before .before .before .before .before .before .before .before .before .before .before .before .pre in
+    let a = c .before .before .before .before .before .before .before .before .before .before .before .before .before .before .before .before .before .before .before .before .before .before .args in
+    made-at (rename-seen (a .change) (a .state .now) (a .table .now) (length (a .area .now)) (a .path .now) (a .label .now) (is-path (pathOf (a .path .now)) _ (sym (c .before .before .before .before .before .before .before .before .before .before .before .before .before .before .before .before .check-path .ensures) ∙ c .before .before .before .before .before .before .before .before .before .before .before .before .before .before .enum-told .given .1)) (ne-eqb _ _ (c .before .before .before .before .before .before .before .before .before .before .before .before .if1 .left)) (sym (c .before .before .before .before .before .before .before .before .before .before .is-barred .ensures) ∙ c .before .before .before .before .before .before .before .before .before .if2 .left)) (c .before .before .before .before .before .rename-with .ensures)
 
 pub rename-spec : {M : Type 1} → statement M
 rename-spec =
@@ -88,10 +76,6 @@ rename-spec =
     same-length
     returns-3
     slice-aggregate-rename-with
-    slice-aggregate-rename-with-2
-    slice-aggregate-rename-with-3
-    slice-aggregate-rename-with-4
-    slice-aggregate-rename-with-5
     rename-with-requires
     same-length-2
     same-length-3
