@@ -43,18 +43,14 @@ fn show_user(state: &[u8], table: &[u8], rights: &mut [u8], shown: &mut [u16]) -
     show(table, &rights[..], shown)
 }
 
-// `(view)`, with room for rights and for numbers.
-fn view_with(
-    state: &[u8],
-    table: &[u8],
-    rights: &mut [u8],
-    shown: &mut [u16],
-    area: &mut [u8],
-) -> Answer
-    requires { ⌜ (storeOk (now state) (now table) ≡ true) × (noUser (now state) ≡ false) × (length (now rights) ≡ 16384) × (length (now shown) ≡ 16384) ⌝ }
+// `(view)` of the session's user.
+fn view_user(state: &[u8], table: &[u8], area: &mut [u8]) -> Answer
+    requires { ⌜ (storeOk (now state) (now table) ≡ true) × (noUser (now state) ≡ false) ⌝ }
     ensures { λ r. ⌜ Made (stepView (now (state .entry)) (now (table .entry)) (length (now (area .entry)))) (now (area .entry)) r (now (state .entry)) (now (table .entry)) (now (area .exit)) ⌝ }
 {
-    let k = show_user(state, table, rights, shown);
+    let mut rights = [0u8; RECORDS_MAX];
+    let mut shown = [0u16; RECORDS_MAX];
+    let k = show_user(state, table, &mut rights, &mut shown);
     let need = answer_view(table, &shown[0..k], area);
     finished(need, area.len())
 }
@@ -67,9 +63,7 @@ pub fn view(state: &[u8], table: &[u8], area: &mut [u8]) -> Answer
     if state[1] == 0 {
         return Answer::Refused(8);
     }
-    let mut rights = [0u8; RECORDS_MAX];
-    let mut shown = [0u16; RECORDS_MAX];
-    view_with(state, table, &mut rights, &mut shown, area)
+    view_user(state, table, area)
 }
 
 // Writes the user's rights on each node, the numbers of the nodes that the user is shown and the marks of those that a path selects, and returns how many
@@ -91,20 +85,15 @@ pub fn select_user(
     k
 }
 
-// `(query P)`, with room for rights, numbers and marks.
-fn query_with(
-    state: &[u8],
-    table: &[u8],
-    path: &[u8],
-    rights: &mut [u8],
-    shown: &mut [u16],
-    marks: &mut [u8],
-    area: &mut [u8],
-) -> Answer
-    requires { ⌜ (storeOk (now state) (now table) ≡ true) × (noUser (now state) ≡ false) × (notPath (pathOf (now path)) ≡ false) × (length (now rights) ≡ 16384) × (length (now shown) ≡ 16384) × (length (now marks) ≡ 16384) ⌝ }
+// `(query P)` of the session's user, with a path that is well formed.
+fn query_user(state: &[u8], table: &[u8], path: &[u8], area: &mut [u8]) -> Answer
+    requires { ⌜ (storeOk (now state) (now table) ≡ true) × (noUser (now state) ≡ false) × (notPath (pathOf (now path)) ≡ false) ⌝ }
     ensures { λ r. ⌜ Made (stepQuery (now (state .entry)) (now (table .entry)) (length (now (area .entry))) (now (path .entry))) (now (area .entry)) r (now (state .entry)) (now (table .entry)) (now (area .exit)) ⌝ }
 {
-    let k = select_user(state, table, path, rights, shown, marks);
+    let mut rights = [0u8; RECORDS_MAX];
+    let mut shown = [0u16; RECORDS_MAX];
+    let mut marks = [0u8; RECORDS_MAX];
+    let k = select_user(state, table, path, &mut rights, &mut shown, &mut marks);
     let need = answer_query(table, &shown[0..k], &marks[0..k], area);
     finished(need, area.len())
 }
@@ -120,34 +109,18 @@ pub fn query(state: &[u8], table: &[u8], path: &[u8], area: &mut [u8]) -> Answer
     if state[1] == 0 {
         return Answer::Refused(8);
     }
+    query_user(state, table, path, area)
+}
+
+// `(find P)` of the session's user, with a path that is well formed.
+fn find_user(state: &[u8], table: &[u8], path: &[u8], area: &mut [u8]) -> Answer
+    requires { ⌜ (storeOk (now state) (now table) ≡ true) × (noUser (now state) ≡ false) × (notPath (pathOf (now path)) ≡ false) ⌝ }
+    ensures { λ r. ⌜ Made (stepFind chosen (now (state .entry)) (now (table .entry)) (length (now (area .entry))) (now (path .entry))) (now (area .entry)) r (now (state .entry)) (now (table .entry)) (now (area .exit)) ⌝ }
+{
     let mut rights = [0u8; RECORDS_MAX];
     let mut shown = [0u16; RECORDS_MAX];
     let mut marks = [0u8; RECORDS_MAX];
-    query_with(
-        state,
-        table,
-        path,
-        &mut rights,
-        &mut shown,
-        &mut marks,
-        area,
-    )
-}
-
-// `(find P)`, with room for rights, numbers and marks.
-fn find_with(
-    state: &[u8],
-    table: &[u8],
-    path: &[u8],
-    rights: &mut [u8],
-    shown: &mut [u16],
-    marks: &mut [u8],
-    area: &mut [u8],
-) -> Answer
-    requires { ⌜ (storeOk (now state) (now table) ≡ true) × (noUser (now state) ≡ false) × (notPath (pathOf (now path)) ≡ false) × (length (now rights) ≡ 16384) × (length (now shown) ≡ 16384) × (length (now marks) ≡ 16384) ⌝ }
-    ensures { λ r. ⌜ Made (stepFind chosen (now (state .entry)) (now (table .entry)) (length (now (area .entry))) (now (path .entry))) (now (area .entry)) r (now (state .entry)) (now (table .entry)) (now (area .exit)) ⌝ }
-{
-    let k = select_user(state, table, path, rights, shown, marks);
+    let k = select_user(state, table, path, &mut rights, &mut shown, &mut marks);
     let need = answer_find(table, &shown[0..k], &marks[0..k], area);
     finished(need, area.len())
 }
@@ -163,16 +136,5 @@ pub fn find(state: &[u8], table: &[u8], path: &[u8], area: &mut [u8]) -> Answer
     if state[1] == 0 {
         return Answer::Refused(8);
     }
-    let mut rights = [0u8; RECORDS_MAX];
-    let mut shown = [0u16; RECORDS_MAX];
-    let mut marks = [0u8; RECORDS_MAX];
-    find_with(
-        state,
-        table,
-        path,
-        &mut rights,
-        &mut shown,
-        &mut marks,
-        area,
-    )
+    find_user(state, table, path, area)
 }

@@ -1,5 +1,5 @@
 use Rattle.rights.specs.PathReader.{pathOf}
-use mathlib.Core.Path.{_≡_, refl, sym, _∙_}
+use mathlib.Core.Path.{sym, _∙_}
 use native.Mathlib.Omega.{arith}
 use borrow.Author.Tests.{eq-eqb, ne-eqb}
 use Rattle.lines.proofs.StateLaws.{store-held}
@@ -26,17 +26,8 @@ shared-slice-read-if1 c = omega (arith, store-held _ _ (c .before .before .befor
 returns-2 : tie.Need-returns-2
 returns-2 c = let a = c .before .before .before .before .before .before .before .before .before .args in made-at (find-no-user _ _ _ _ _ (is-path (pathOf (a .path .now)) _ (sym (c .before .before .before .before .check-path .ensures) ∙ c .before .before .enum-told .given .1)) (eq-eqb _ _ (c .if1 .taken))) refused
 
-slice-aggregate-find-with : tie.Need-slice-aggregate-find-with
-slice-aggregate-find-with c = search needs
-
-slice-aggregate-find-with-2 : tie.Need-slice-aggregate-find-with-2
-slice-aggregate-find-with-2 c = search needs
-
-slice-aggregate-find-with-3 : tie.Need-slice-aggregate-find-with-3
-slice-aggregate-find-with-3 c = search needs
-
-find-with-requires : tie.Need-find-with-requires
-find-with-requires c κs = let a = c .before .before .before .before .before .before .before .before .before .before .before .before .before .args in (c .before .before .before .before .before .before .before .before .before .before .before .before .before .pre, ne-eqb _ _ (c .before .before .before .before .if1 .left), is-path (pathOf (a .path .now)) _ (sym (c .before .before .before .before .before .before .before .before .check-path .ensures) ∙ c .before .before .before .before .before .before .enum-told .given .1), refl, refl, refl)
+find-user-requires : tie.Need-find-user-requires
+find-user-requires c κs = let a = c .before .before .before .before .before .before .before .before .before .before .args in (c .before .before .before .before .before .before .before .before .before .before .pre, ne-eqb _ _ (c .before .if1 .left), is-path (pathOf (a .path .now)) _ (sym (c .before .before .before .before .before .check-path .ensures) ∙ c .before .before .before .enum-told .given .1))
 
 same-length : tie.Need-same-length
 same-length c = search needs
@@ -54,9 +45,6 @@ find-spec =
     returns
     shared-slice-read-if1
     returns-2
-    slice-aggregate-find-with
-    slice-aggregate-find-with-2
-    slice-aggregate-find-with-3
-    find-with-requires
+    find-user-requires
     same-length
     returns-3)

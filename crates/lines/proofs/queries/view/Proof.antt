@@ -1,4 +1,3 @@
-use mathlib.Core.Path.{_≡_, refl}
 use native.Mathlib.Omega.{arith}
 use borrow.Author.Tests.{eq-eqb, ne-eqb}
 use Rattle.lines.proofs.StateLaws.{store-held}
@@ -13,14 +12,8 @@ shared-slice-read-if1 c = omega (arith, store-held _ _ (c .before .before .befor
 returns : tie.Need-returns
 returns c = made-at (view-no-user _ _ _ (eq-eqb _ _ (c .if1 .taken))) refused
 
-slice-aggregate-view-with : tie.Need-slice-aggregate-view-with
-slice-aggregate-view-with c = search needs
-
-slice-aggregate-view-with-2 : tie.Need-slice-aggregate-view-with-2
-slice-aggregate-view-with-2 c = search needs
-
-view-with-requires : tie.Need-view-with-requires
-view-with-requires c κs = (c .before .before .before .before .before .before .before .before .pre, ne-eqb _ _ (c .before .before .before .if1 .left), refl, refl)
+view-user-requires : tie.Need-view-user-requires
+view-user-requires c κs = (c .before .before .before .before .before .before .pre, ne-eqb _ _ (c .before .if1 .left))
 
 same-length : tie.Need-same-length
 same-length c = search needs
@@ -34,8 +27,6 @@ view-spec =
     (tie.spec
     shared-slice-read-if1
     returns
-    slice-aggregate-view-with
-    slice-aggregate-view-with-2
-    view-with-requires
+    view-user-requires
     same-length
     returns-2)
