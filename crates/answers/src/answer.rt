@@ -2,10 +2,11 @@
 // area of one byte, and what does not fit is not written; so the area of an answer that is too long keeps its bytes (refusal 12).
 // The time is in proportion to the nodes looked at and the bytes of the answer.
 use rights::bytes::wide;
-use rights::limits::COUNT_BYTES;
 use rights::limits::LABEL_AT;
-use rights::limits::RECORD_BYTES;
 use rights::limits::RECORDS_MAX;
+use rights::nodes::level_at;
+use rights::nodes::record_place;
+use rights::nodes::wide_number;
 ghost use mathlib.Core.Path.{_≡_};
 ghost use mathlib.Core.List.{List, _∷_, [], _++_};
 ghost use Prim.Native.Nat.{ℕ, _+_, _-_, _*_, _%_, _^_, _≤_, _<_, suc};
@@ -75,28 +76,6 @@ fn put_decimal(area: &mut [u8], at: usize, k: usize, n: usize) -> usize
     }
     let next = put_decimal(area, at, k - 1, n / 10);
     put_byte(area, next, d)
-}
-
-fn wide_number(x: u16) -> usize
-    ensures { λ r. ⌜ r ≡ x ⌝ }
-{
-    x as usize
-}
-
-// Where the record of a shown node begins.
-fn record_place(x: u16) -> usize
-    ensures { λ r. ⌜ r ≡ recordPlace x ⌝ }
-{
-    COUNT_BYTES + wide_number(x) % RECORDS_MAX * RECORD_BYTES
-}
-
-// The level of shown node i.
-fn level_at(table: &[u8], shown: &[u16], i: usize) -> usize
-    requires { ⌜ (Fits (now table) (now shown)) × (i < length (now shown)) ⌝ }
-    ensures { λ r. ⌜ (r ≡ levelAt (viewOf (now (table .entry)) (now (shown .entry))) i) × (r < 12) ⌝ }
-{
-    let place = record_place(shown[i]);
-    wide(table[place])
 }
 
 // Puts the label that shown node i carries.

@@ -10,7 +10,8 @@ use Rattle.forms.specs.declared.word.Word.the-variants as word
 use Rattle.forms.specs.declared.form.PartEnds.the-variants.{Are}
 use Rattle.forms.specs.Word.{letters, accept, deny, wordAt, signAt, rightAt}
 use Rattle.forms.specs.Part.{isAccept}
-use Rattle.forms.specs.Tree.{Node, treeNodes}
+use Rattle.rights.specs.Nodes.{Node}
+use Rattle.forms.specs.Tree.{treeNodes}
 use Rattle.forms.specs.TreeText as text
 use Rattle.forms.specs.TreeText.{writeTree, GoodTree, nodesOf}
 use Rattle.forms.specs.Form.{treeIn, endsIn}

@@ -19,7 +19,8 @@ use Rattle.rights.proofs.PathLaws.{past}
 use Rattle.rights.proofs.PathTexts.{and-left, and-right}
 use Rattle.rights.proofs.RecordLaws.{length-record, pasted-pasted, pasted-none}
 use Rattle.forms.specs.Part.{labelEnd}
-use Rattle.forms.specs.Tree.{Node, node, _andThen_, openEnd, tailEnd, tailNodes, treeEnd, treeNodes, recordsOf, held, TailEnd, TailPut}
+use Rattle.rights.specs.Nodes.{Node, node}
+use Rattle.forms.specs.Tree.{_andThen_, openEnd, tailEnd, tailNodes, treeEnd, treeNodes, recordsOf, held, TailEnd, TailPut}
 
 pub rest-length : (s : List ℕ) (e : ℕ) → length (take (length s - e) (drop e s)) ≡ length s - e
 rest-length s e = rw (rest-of s e, length-drop e s)

@@ -18,7 +18,8 @@ use Rattle.rights.specs.declared.path.Read.the-variants.{At, Bad}
 use Rattle.rights.proofs.Lists.{byCase}
 use Rattle.rights.proofs.PathTexts.{and-left, and-right, cond-elim, Reads, reads-more, reads-byte, reads-take, run-all, run-length, run-over, byte-here}
 use Rattle.forms.specs.Part.{labelEnd}
-use Rattle.forms.specs.Tree.{Node, node, _andThen_, openEnd, tailEnd, tailNodes, treeEnd, treeNodes}
+use Rattle.rights.specs.Nodes.{Node, node}
+use Rattle.forms.specs.Tree.{_andThen_, openEnd, tailEnd, tailNodes, treeEnd, treeNodes}
 use Rattle.forms.specs.TreeText.{Tree, tree, Trees, none, more, writeTree, writeTrees, GoodLabel, GoodTree, GoodTrees, nodesOf, nodesIn}
 use Rattle.forms.proofs.TreeLaws.{Opened, opened}
 

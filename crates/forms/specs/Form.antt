@@ -23,7 +23,8 @@ use Rattle.forms.specs.declared.form.PartEnds.{PartEnds}
 use Rattle.forms.specs.declared.form.PartEnds.the-variants.{Are, Bad}
 use Rattle.forms.specs.Word.{wordAt, signAt, rightAt}
 use Rattle.forms.specs.Part.{isAccept, labelEnd, pathEnd, signEnd, rightEnd}
-use Rattle.forms.specs.Tree.{Node, treeEnd, treeNodes}
+use Rattle.rights.specs.Nodes.{Node}
+use Rattle.forms.specs.Tree.{treeEnd, treeNodes}
 
 abbrev pub shape : Kind → Kind → Kind → Kind → Shape
 shape a b c d = record { first = a; second = b; third = c; fourth = d }

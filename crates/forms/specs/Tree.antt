@@ -6,14 +6,11 @@ use mathlib.Core.Bool.{cond}
 use lib.ListN.{length, take, drop}
 use lib.Dec.{eqb}
 use Rattle.rights.specs.Bytes.{byteAt}
+use Rattle.rights.specs.Nodes.{Node, node}
 use Rattle.rights.specs.Record.{recordOf, pasted}
 use Rattle.rights.specs.declared.path.Read.{Read}
 use Rattle.rights.specs.declared.path.Read.the-variants.{At, Bad}
 use Rattle.forms.specs.Part.{labelEnd}
-
--- a node of a tree: how many nodes stand above it, and its label
-pub data Node : Type 0 where
-  node : ℕ → List ℕ → Node
 
 -- goes on at the place after what was read
 abbrev pub _andThen_ : {A : Type 0} → Read → A × (ℕ → A) → A
@@ -38,7 +35,7 @@ tailEnd (suc f) depth at s =
 unfoldable pub treeEnd : List ℕ → ℕ → Read
 treeEnd s at = openEnd s at andThen (Bad, λ e. tailEnd (length s) 1 e (drop e s))
 
--- the nodes that such a text opens, in document order
+-- the nodes that such a text opens, in document order, each with how many nodes stand above it and its label
 unfoldable pub tailNodes : ℕ → ℕ → List ℕ → List Node
 tailNodes zero depth s = []
 tailNodes (suc f) depth s =

@@ -6,7 +6,7 @@ use mathlib.Core.List.{List, [], _∷_, _++_}
 use lib.ListN.{length}
 use Rattle.rights.specs.Bytes.{all}
 use Rattle.rights.specs.Labels.{labelByte}
-use Rattle.forms.specs.Tree.{Node, node}
+use Rattle.rights.specs.Nodes.{Node, node}
 
 mutual
   pub data Tree : Type 0 where

@@ -31,7 +31,7 @@ use Rattle.forms.specs.Tree.{recordsOf}
 use Rattle.lines.specs.State.{stageB, stageC, stageD, stageE, stage, withStage, withSession, withPolicy, policyBytes, policyIn, storeOk}
 use Rattle.lines.specs.Step.{says, Outcome, refusal, refuse, finish, noUser, viewIn, marksIn, notPath, isFound, isaLine, ruleLine, loggedIn, stepView, stepQuery, stepFind, stepUser, stepSubject, stepIsa, stepRule}
 use Rattle.lines.specs.StepTree.{treeRestricted, inserting, rootAlone, doneIn, countText, changeAt, stepRoot, stepChild, stepRename, stepInsert, stepRemove}
-use Rattle.lines.specs.Line.{stageOf, inStage, isNoForm, bytesOf, acceptByte, stepForm, stepRead, step}
+use Rattle.store.specs.Line.{stageOf, inStage, isNoForm, bytesOf, acceptByte, stepForm, stepRead, step}
 use Rattle.forms.specs.declared.form.Form.{Form}
 use Rattle.forms.specs.declared.form.Form.the-variants.{Subject, Isa, Rule, Root, Child, User, View, Query, Find, Rename, Update, Append, Before, After, Remove, NoForm}
 use Rattle.lines.specs.declared.policy_edit.Found.{Found}

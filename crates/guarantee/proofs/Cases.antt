@@ -34,7 +34,7 @@ use Rattle.forms.specs.Text.{lineByte, lineOk}
 use Rattle.lines.specs.State.{sessionOk, storeOk}
 use Rattle.lines.specs.Step.{Reply, Outcome, refuse, stepView, stepQuery, stepUser, stepSubject, stepIsa, stepRule}
 use Rattle.lines.specs.StepTree.{treeRestricted, stepRoot, stepChild, stepRename, stepInsert, stepRemove}
-use Rattle.lines.specs.Line.{stepForm, stepRead}
+use Rattle.store.specs.Line.{stepForm, stepRead}
 use Rattle.guarantee.proofs.LineLaws.{step-passed}
 use Rattle.guarantee.proofs.StoreKept.{store-kept}
 

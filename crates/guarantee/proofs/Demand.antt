@@ -17,7 +17,7 @@ use Rattle.answers.specs.AnswerChoice.{Choice}
 use Rattle.lines.specs.PolicyEdit.{subjectNamed}
 use Rattle.lines.specs.State.{stageC, stageE, stage, policyIn, storeOk}
 use Rattle.lines.specs.Step.{says, refuses, stepUser}
-use Rattle.lines.specs.Line.{inStage, bytesOf, stepForm, stepRead, step}
+use Rattle.store.specs.Line.{inStage, bytesOf, stepForm, stepRead, step}
 use Rattle.lines.specs.declared.policy_edit.Found.the-variants as found
 use Rattle.lines.proofs.StateLaws.{store-held}
 use Rattle.guarantee.specs.Alike.{SamePolicy, shownTo, look, Behind, Alike, UserIs, Input, outcome, LogsIn, Begins, AnswersAlike}

@@ -10,8 +10,8 @@ use Rattle.forms.specs.TreeText.{GoodLabel, GoodTree, nodesOf}
 use Rattle.forms.specs.Form.{readForm, treeIn}
 use Rattle.forms.specs.declared.form.Form.{Form}
 use Rattle.forms.specs.declared.form.Form.the-variants.{Subject, Isa, Rule, Root, Child, User, View, Query, Find, Rename, Update, Append, Before, After, Remove, NoForm}
-use Rattle.lines.specs.Line.{isNoForm, bytesOf}
-use Rattle.lines.proofs.FormParts.{TreePart, Fits, form-fits}
+use Rattle.store.specs.Line.{isNoForm, bytesOf}
+use Rattle.store.proofs.FormParts.{TreePart, Fits, form-fits}
 
 -- the tree of a line, which has m nodes
 pub record TreeSaid (line : List ℕ) (m : ℕ) : Type 0 where

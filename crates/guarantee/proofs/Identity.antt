@@ -22,7 +22,7 @@ use Rattle.forms.specs.Form.{readForm, treeIn}
 use Rattle.lines.specs.Step.{Reply, says, refuses}
 use Rattle.lines.specs.StepTree.{rootAlone, doneIn}
 use Rattle.forms.specs.Tree.{recordsOf}
-use Rattle.lines.specs.Line.{stageOf, inStage, bytesOf}
+use Rattle.store.specs.Line.{stageOf, inStage, bytesOf}
 use Rattle.lines.specs.State.{stageC, stage}
 use Rattle.forms.specs.declared.form.Part.{Part}
 use Rattle.forms.specs.declared.form.Form.{Form}

@@ -30,7 +30,7 @@ use Rattle.lines.specs.Step.{says, refuses, Outcome, refusal, refuse, finish, n
 use Rattle.lines.specs.StepTree.{treeRestricted, inserting, doneIn, countText, changeAt, stepRename, stepInsert, stepRemove}
 use Rattle.forms.specs.Text.{lineOk}
 use Rattle.forms.specs.Tree.{recordsOf}
-use Rattle.lines.specs.Line.{stageOf, inStage, isNoForm, bytesOf, stepForm, stepRead, step}
+use Rattle.store.specs.Line.{stageOf, inStage, isNoForm, bytesOf, stepForm, stepRead, step}
 use Rattle.forms.specs.declared.form.Form.{Form}
 use Rattle.forms.specs.declared.form.Form.the-variants.{Subject, Isa, Rule, Root, Child, User, View, Query, Find, Rename, Update, Append, Before, After, Remove, NoForm}
 use Rattle.lines.specs.declared.policy_edit.Found.{Found}

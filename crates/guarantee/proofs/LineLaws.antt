@@ -14,7 +14,7 @@ use Rattle.forms.specs.Text.{lineOk}
 use Rattle.forms.specs.Tree.{recordsOf}
 use Rattle.lines.specs.State.{stageC, stageE, stage, userByte, policyIn, storeOk}
 use Rattle.lines.specs.Step.{says, refuses, refuse}
-use Rattle.lines.specs.Line.{stepRead, step}
+use Rattle.store.specs.Line.{stepRead, step}
 use Rattle.forms.specs.declared.form.Form.{Form}
 use Rattle.lines.proofs.StateLaws.{store-held}
 use Rattle.guarantee.specs.Alike.{UserIs}

@@ -22,7 +22,7 @@ use Rattle.forms.specs.Form.{readForm, treeIn}
 use Rattle.lines.specs.State.{stageC, stage, policyIn, storeOk}
 use Rattle.lines.specs.StepTree.{rootAlone, doneIn}
 use Rattle.forms.specs.Tree.{recordsOf}
-use Rattle.lines.specs.Line.{stageOf, inStage, bytesOf}
+use Rattle.store.specs.Line.{stageOf, inStage, bytesOf}
 use Rattle.forms.specs.declared.form.Form.{Form}
 use Rattle.forms.specs.declared.form.Form.the-variants.{Subject, Isa, Rule, Root, Child, User, View, Query, Find, Rename, Update, Append, Before, After, Remove, NoForm}
 use Rattle.lines.proofs.StateLaws.{store-held}

@@ -19,7 +19,7 @@ use Rattle.lines.specs.PolicyEdit.{stepsIn, withRule, subjectNamed}
 use Rattle.forms.specs.Tree.{recordsOf}
 use Rattle.lines.specs.State.{stageC, stageE, stage, userByte, withStage, withSession, withPolicy, policyBytes, policyIn}
 use Rattle.lines.specs.Step.{says, refuses, Outcome}
-use Rattle.lines.specs.Line.{stageOf, inStage, bytesOf, acceptByte, step}
+use Rattle.store.specs.Line.{stageOf, inStage, bytesOf, acceptByte, step}
 use Rattle.forms.specs.declared.form.Part.{Part}
 use Rattle.forms.specs.declared.form.Form.{Form}
 use Rattle.forms.specs.declared.form.Form.the-variants.{Subject, Isa, Rule, Root, Child, User, View, Query, Find, Rename, Update, Append, Before, After, Remove, NoForm}

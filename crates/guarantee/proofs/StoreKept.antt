@@ -26,7 +26,7 @@ use Rattle.forms.specs.Tree.{recordsOf}
 use Rattle.forms.specs.TreeText.{GoodLabel}
 use Rattle.lines.specs.State.{stage, userByte, withStage, withSession, withPolicy, policyBytes, policyIn, sessionOk, storeOk}
 use Rattle.lines.specs.Step.{notPath}
-use Rattle.lines.specs.Line.{stageOf, inStage, bytesOf, acceptByte, step}
+use Rattle.store.specs.Line.{stageOf, inStage, bytesOf, acceptByte, step}
 use Rattle.forms.specs.declared.form.Form.{Form}
 use Rattle.forms.specs.declared.form.Form.the-variants.{Subject, Isa, Rule, Root, Child, User, View, Query, Find, Rename, Update, Append, Before, After, Remove, NoForm}
 use Rattle.lines.proofs.EditBytes.{part-in, line-byte}

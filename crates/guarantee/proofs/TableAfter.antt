@@ -32,7 +32,7 @@ use Rattle.lines.specs.StepTree.{rootAlone, selectedIn, doneIn}
 use Rattle.forms.specs.Tree.{recordsOf}
 use Rattle.forms.specs.TreeText.{GoodLabel}
 use Rattle.forms.specs.Form.{readForm, treeIn}
-use Rattle.lines.specs.Line.{bytesOf}
+use Rattle.store.specs.Line.{bytesOf}
 use Rattle.forms.specs.declared.form.Form.{Form}
 use Rattle.forms.specs.declared.form.Form.the-variants.{Subject, Isa, Rule, Root, Child, User, View, Query, Find, Rename, Update, Append, Before, After, Remove, NoForm}
 use Rattle.lines.proofs.StateLaws.{store-held}

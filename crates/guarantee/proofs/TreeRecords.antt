@@ -15,7 +15,8 @@ use Rattle.rights.proofs.RecordMade.{made-ok, level-made, label-made}
 use Rattle.views.specs.Change.{chunks}
 use Rattle.views.specs.Nodes.{All, Nested, TreeOk}
 use Rattle.lines.specs.StepTree.{treeRestricted}
-use Rattle.forms.specs.Tree.{Node, node, held, recordsOf}
+use Rattle.rights.specs.Nodes.{Node, node}
+use Rattle.forms.specs.Tree.{held, recordsOf}
 use Rattle.forms.specs.TreeText.{Tree, tree, Trees, none, more, GoodLabel, GoodTree, GoodTrees, nodesOf, nodesIn}
 use Rattle.forms.specs.Form.{treeIn}
 use Rattle.lines.proofs.StoredSteps.{or-none}

@@ -17,7 +17,7 @@ use Rattle.lines.specs.PolicyEdit.{isaHeld, subjectNamed}
 use Rattle.forms.specs.Form.{readForm}
 use Rattle.lines.specs.State.{stageC, stage, userByte, policyIn, storeOk}
 use Rattle.lines.specs.Step.{Reply, says, refuses, Outcome}
-use Rattle.lines.specs.Line.{bytesOf, step}
+use Rattle.store.specs.Line.{bytesOf, step}
 use Rattle.forms.specs.declared.form.Part.{Part}
 use Rattle.forms.specs.declared.form.Form.the-variants.{User}
 use Rattle.lines.specs.declared.policy_edit.Found.the-variants.{Subject}

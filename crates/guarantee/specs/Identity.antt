@@ -22,7 +22,7 @@ use Rattle.lines.specs.State.{stageC, stage, policyIn}
 use Rattle.lines.specs.Step.{Reply, says, refuses}
 use Rattle.lines.specs.StepTree.{rootAlone, doneIn}
 use Rattle.forms.specs.Tree.{recordsOf}
-use Rattle.lines.specs.Line.{bytesOf}
+use Rattle.store.specs.Line.{bytesOf}
 use Rattle.forms.specs.declared.form.Part.{Part}
 use Rattle.forms.specs.declared.form.Form.{Form}
 use Rattle.forms.specs.declared.form.Form.the-variants.{Subject, Isa, Rule, Root, Child, User, View, Query, Find, Rename, Update, Append, Before, After, Remove, NoForm}

@@ -6,8 +6,6 @@ pub mod EditTests
 pub mod EditBytes
 pub mod EditKept
 pub mod PolicyEdits
-pub mod FormParts
 pub mod TreeStepLaws
-pub mod LineLaws
 pub mod ChangeLaws
 pub mod AnswerRoom

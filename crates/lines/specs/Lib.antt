@@ -3,4 +3,3 @@ pub mod Step
 pub mod PolicyEdit
 pub mod StepTree
 pub mod ChangeRoom
-pub mod Line

@@ -5,7 +5,7 @@ ghost use mathlib.Core.Path.{_≡_};
 ghost use lib.IntN.{pos, negℤ};
 ghost use lib.ListN.{length};
 ghost use Rattle.answers.specs.AnswerChoice.{chosen};
-ghost use Rattle.lines.specs.Line.{step};
+ghost use Rattle.store.specs.Line.{step};
 ghost use Rattle.louvretansy.specs.Library.{stateBytes, Returned};
 
 // Minus the number of a refusal.

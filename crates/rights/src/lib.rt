@@ -2,6 +2,7 @@
 pub mod bytes;
 pub mod labels;
 pub mod limits;
+pub mod nodes;
 mod passes;
 pub mod path;
 pub mod policy;

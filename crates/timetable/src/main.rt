@@ -5,7 +5,7 @@ use forms::limits::LINE_MAX;
 use libc::STDIN_FILENO;
 use libc::STDOUT_FILENO;
 use lines::line::Answer;
-use lines::line::line;
+use store::line::line;
 ghost use mathlib.Core.Path.{_≡_};
 ghost use Prim.Native.Nat.{_≤_};
 ghost use lib.ListN.{length};

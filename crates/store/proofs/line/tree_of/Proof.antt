@@ -3,8 +3,8 @@ use mathlib.Core.Path.{_≡_, ap}
 use lib.ListN.{take}
 use native.Mathlib.Omega.{arith}
 use borrow.Author.Needs.{needs}
-use Rattle.lines.proofs.line.tree_of.Statement.{statement}
-use Rattle.lines.proofs.line.tree_of.Tie as tie
+use Rattle.store.proofs.line.tree_of.Statement.{statement}
+use Rattle.store.proofs.line.tree_of.Tie as tie
 
 mul-end : tie.Need-mul-end
 mul-end c = search needs

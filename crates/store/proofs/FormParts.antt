@@ -14,12 +14,12 @@ use Rattle.forms.specs.declared.form.Part.{Part}
 use Rattle.forms.specs.declared.form.Form.{Form}
 use Rattle.forms.specs.declared.form.Form.the-variants.{Subject, Isa, Rule, Root, Child, User, View, Query, Find, Rename, Update, Append, Before, After, Remove, NoForm}
 use Rattle.forms.specs.Word.{letters, accept, deny}
-use Rattle.forms.specs.Tree.{Node, node}
+use Rattle.rights.specs.Nodes.{Node, node}
 use Rattle.forms.specs.TreeText as text
 use Rattle.forms.specs.TreeText.{writeTree, writeTrees, GoodTree, GoodTrees, GoodLabel, nodesOf, nodesIn}
 use Rattle.forms.specs.Form.{part, readForm, treeIn}
 use Rattle.forms.specs.FormText.{Said, subject, isa, rule, root, child, user, view, query, find, rename, update-children, append, before, after, remove, Piece, writeRight, writePiece, writePieces, GoodPiece, wordIn, piecesIn, write, Good}
-use Rattle.lines.specs.Line.{bytesOf, isNoForm}
+use Rattle.store.specs.Line.{bytesOf, isNoForm}
 use Rattle.forms.proofs.TreeWritten.{drop-over}
 use Rattle.forms.proofs.FormWritten.{written-form, read-said, endOf, end1, end2, end3}
 use Rattle.forms.proofs.FormPlaces.{nodesSaid, written-tree, written-rule}

@@ -1,6 +1,6 @@
-use Rattle.lines.proofs.LineLaws.{stage-late, stage-even}
-use Rattle.lines.proofs.line.in_stage.Statement.{statement}
-use Rattle.lines.proofs.line.in_stage.Tie as tie
+use Rattle.store.proofs.LineLaws.{stage-late, stage-even}
+use Rattle.store.proofs.line.in_stage.Statement.{statement}
+use Rattle.store.proofs.line.in_stage.Tie as tie
 
 returns : tie.Need-returns
 returns c = stage-late _ _ (c .if1 .taken)

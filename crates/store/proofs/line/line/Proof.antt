@@ -1,13 +1,13 @@
 use mathlib.Core.Path.{_≡_, sym, _∙_}
 use native.Mathlib.Omega.{arith}
 use borrow.Author.Tests.{not-true, not-false}
 use Rattle.lines.specs.State.{stage}
 use Rattle.lines.proofs.StateLaws.{store-held}
 use Rattle.lines.proofs.StepLaws.{made-at, refused}
-use Rattle.lines.proofs.LineLaws.{at-store, at-line, at-none, at-stage, at-form, form-room, stage-tested}
+use Rattle.store.proofs.LineLaws.{at-store, at-line, at-none, at-stage, at-form, form-room, stage-tested}
 use borrow.Author.Needs.{needs}
-use Rattle.lines.proofs.line.line.Statement.{statement}
-use Rattle.lines.proofs.line.line.Tie as tie
+use Rattle.store.proofs.line.line.Statement.{statement}
+use Rattle.store.proofs.line.line.Tie as tie
 
 store-ok-requires : tie.Need-store-ok-requires
 store-ok-requires c κs = search needs
@@ -73,7 +73,7 @@ slice-aggregate-run : tie.Need-slice-aggregate-run
 slice-aggregate-run c = search needs
 
 run-requires : tie.Need-run-requires
-run-requires c κs = ((sym (c .before .before .before .before .before .before .before .before .before .before .before .before .before .before .before .before .store-ok .ensures) ∙ not-false _ (c .before .before .before .before .before .before .before .before .before .before .before .before .before .before .before .if1 .left)), (sym (c .before .before .before .before .before .before .before .before .before .before .before .before .before .before .line-ok .ensures) ∙ not-false _ (c .before .before .before .before .before .before .before .before .before .before .before .before .before .if2 .left)), c .before .before .before .before .before .before .before .before .before .before .before .read-form .ensures .0, (stage-tested (c .before .before .before .before .before .before .before .before .before .before .before .read-form .result) (stage (c .before .before .before .before .before .before .before .before .before .before .before .before .before .before .before .before .before .before .before .before .before .before .before .args .state .now)) (c .before .before .before .before .before .before .before .stage-of .result) (c .before .before .before .before .before .before .before .stage-of .ensures) (c .before .before .before .before .before .in-stage .ensures) (not-false _ (c .before .before .before .before .if4 .left))), c .before .before .before .before .before .before .before .before .before .before .before .read-form .ensures .1)
+run-requires c κs = ((sym (c .before .before .before .before .before .before .before .before .before .before .before .before .before .before .before .before .store-ok .ensures) ∙ not-false _ (c .before .before .before .before .before .before .before .before .before .before .before .before .before .before .before .if1 .left)), (sym (c .before .before .before .before .before .before .before .before .before .before .before .before .before .before .line-ok .ensures) ∙ not-false _ (c .before .before .before .before .before .before .before .before .before .before .before .before .before .if2 .left)), c .before .before .before .before .before .before .before .before .before .before .before .read-form .ensures .0, (sym (c .before .before .before .before .before .before .before .before .before .is-no-form .ensures) ∙ c .before .before .before .before .before .before .before .before .if3 .left), (stage-tested (c .before .before .before .before .before .before .before .before .before .before .before .read-form .result) (stage (c .before .before .before .before .before .before .before .before .before .before .before .before .before .before .before .before .before .before .before .before .before .before .before .args .state .now)) (c .before .before .before .before .before .before .before .stage-of .result) (c .before .before .before .before .before .before .before .stage-of .ensures) (c .before .before .before .before .before .in-stage .ensures) (not-false _ (c .before .before .before .before .if4 .left))), c .before .before .before .before .before .before .before .before .before .before .before .read-form .ensures .1)
 
 same-length-9 : tie.Need-same-length-9
 same-length-9 c = search needs

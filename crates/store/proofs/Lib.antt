@@ -1,0 +1,2 @@
+pub mod FormParts
+pub mod LineLaws
