@@ -20,3 +20,4 @@ pub mod LineLaws
 pub mod RunKept
 pub mod Demand
 pub mod Cases
+pub mod Demand3
