@@ -25,7 +25,7 @@ pub extern "C" fn timetable_line(
 ) -> i64
     ensures { λ r. ⌜ Returned (step chosen (now (state .entry)) (now (table .entry)) (now (line .entry)) (length (now (area .entry)))) (now (area .entry)) r (now (state .exit)) (now (table .exit)) (now (area .exit)) ⌝ }
 {
-    let answer = lines::line::line(state, table, line, area);
+    let answer = store::line::line(state, table, line, area);
     match answer {
         Answer::Accepted(n) => n as i64,
         Answer::Refused(number) => refused(number),
