@@ -5,21 +5,7 @@ set -u
 root=$(cd "$(dirname "${BASH_SOURCE[0]}")/.." && pwd)
 work=$(mktemp -d)
 trap 'rm -rf "$work"' EXIT
-passed=0
-failed=0
-
-# run NAME COMMAND..
-run() {
-    local name=$1
-    shift
-    if "$@"; then
-        passed=$((passed + 1))
-        echo "passed: $name"
-    else
-        failed=$((failed + 1))
-        echo "FAILED: $name"
-    fi
-}
+source "$root/tests/count.sh"
 
 # compile PROGRAM SOURCE: a C program over the library
 compile() {
@@ -66,5 +52,4 @@ run 'a view in C' view_in_c
 run 'calls, short areas and damaged stores in C' calls_in_c
 run 'a view in Rust' prints_view rust run --example view
 run 'the wrapper in Rust' rust test
-echo "$passed passed, $failed failed"
-[ "$failed" -eq 0 ]
+counted

@@ -6,21 +6,7 @@ source=$(cd "$(dirname "${BASH_SOURCE[0]}")/../docs/src" && pwd)
 work=$(mktemp -d)
 seed=20261115
 trap 'rm -rf "$work"' EXIT
-passed=0
-failed=0
-
-# run NAME COMMAND..
-run() {
-    local name=$1
-    shift
-    if "$@"; then
-        passed=$((passed + 1))
-        echo "passed: $name"
-    else
-        failed=$((failed + 1))
-        echo "FAILED: $name"
-    fi
-}
+source "$(dirname "${BASH_SOURCE[0]}")/count.sh"
 
 # fails COMMAND..: the command must fail with 1, what it finds
 fails() {
@@ -45,5 +31,4 @@ else
         run "$wrong is found by the comparer" fails "$bin/compare" --wrong "$wrong"
     done
 fi
-echo "$passed passed, $failed failed"
-[ "$failed" -eq 0 ]
+counted

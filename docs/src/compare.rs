@@ -7,12 +7,12 @@
 
 use std::process::ExitCode;
 use timetable::form::WORDS;
-use timetable::step::{read_store, Reading, FALSE_READINGS};
-use timetable::testing::engine::{Engine, Library, Straightforward};
+use timetable::step::{read_store, Reading};
+use timetable::testing::engine::{Engine, Straightforward};
+use timetable::testing::options::Options;
 use timetable::testing::random::Random;
 use timetable::testing::sessions::{self, Start};
 
-const DEFAULT_SEED: u64 = 20_261_115;
 const DEFAULT_LINES: usize = 20_000;
 const ENOUGH_LINES: usize = 20_000; // to have seen every form accepted and every refusal
 const REFUSALS: usize = 13;
@@ -164,41 +164,11 @@ fn run(engine: &dyn Engine, seed: u64, lines: usize) -> bool {
 }
 
 fn main() -> ExitCode {
-    let mut seed = DEFAULT_SEED;
-    let mut lines = DEFAULT_LINES;
-    let mut engine: Box<dyn Engine> = Box::new(Straightforward(Reading::Right));
-    let mut arguments = std::env::args().skip(1);
-    while let Some(argument) = arguments.next() {
-        let value = arguments.next().unwrap_or_default();
-        let understood = match argument.as_str() {
-            "--seed" => value.parse().map(|number| seed = number).is_ok(),
-            "--lines" => value.parse().map(|number| lines = number).is_ok(),
-            "--wrong" => match FALSE_READINGS.iter().find(|(name, _)| *name == value) {
-                Some((_, reading)) => {
-                    engine = Box::new(Straightforward(*reading));
-                    true
-                }
-                None => false,
-            },
-            "--library" => match Library::open(&value) {
-                Ok(library) => {
-                    engine = Box::new(library);
-                    true
-                }
-                Err(error) => {
-                    eprintln!("{value}: {error}");
-                    false
-                }
-            },
-            _ => false,
-        };
-        if !understood {
-            eprintln!("compare [--seed N] [--lines N] [--library FILE.so | --wrong NAME]");
-            return ExitCode::from(2);
-        }
-    }
-    println!("seed {seed}");
-    if run(engine.as_ref(), seed, lines) {
+    let usage = "compare [--seed N] [--lines N] [--library FILE.so | --wrong NAME]";
+    let Some(options) = Options::read(usage, DEFAULT_LINES) else {
+        return ExitCode::from(2);
+    };
+    if run(options.engine.as_ref(), options.seed, options.lines) {
         ExitCode::SUCCESS
     } else {
         ExitCode::FAILURE

@@ -12,13 +12,13 @@ use timetable::policy::Policy;
 use timetable::state::{Stage, State};
 use timetable::step::{read_store, step, Reading, Store, FALSE_READINGS, TABLE_FULL};
 use timetable::table::{flatten, nest, Node, Tree, LEVEL_MAXIMUM};
-use timetable::testing::engine::{Engine, Library, Straightforward};
+use timetable::testing::engine::{Engine, Straightforward};
 use timetable::testing::generate;
+use timetable::testing::options::Options;
 use timetable::testing::random::Random;
 use timetable::view::{look, view};
 use timetable::{state, table, STATE_BYTES};
 
-const DEFAULT_SEED: u64 = 20_261_115;
 const DEFAULT_LINES: usize = 100_000;
 const CHANGES: [&[u8]; 6] = [b"(rename ", b"(update ", b"(append ", b"(before ", b"(after ", b"(remove "];
 const AREA_BYTES: usize = 8_192;
@@ -375,46 +375,11 @@ fn self_test(seed: u64, lines: usize) -> bool {
 }
 
 fn main() -> ExitCode {
-    let mut seed = DEFAULT_SEED;
-    let mut lines = DEFAULT_LINES;
-    let mut engine: Box<dyn Engine> = Box::new(Straightforward(Reading::Right));
-    let mut testing_itself = false;
-    let mut arguments = std::env::args().skip(1);
-    while let Some(argument) = arguments.next() {
-        if argument == "--self-test" {
-            testing_itself = true;
-            continue;
-        }
-        let value = arguments.next().unwrap_or_default();
-        let understood = match argument.as_str() {
-            "--seed" => value.parse().map(|number| seed = number).is_ok(),
-            "--lines" => value.parse().map(|number| lines = number).is_ok(),
-            "--wrong" => match FALSE_READINGS.iter().find(|(name, _)| *name == value) {
-                Some((_, reading)) => {
-                    engine = Box::new(Straightforward(*reading));
-                    true
-                }
-                None => false,
-            },
-            "--library" => match Library::open(&value) {
-                Ok(library) => {
-                    engine = Box::new(library);
-                    true
-                }
-                Err(error) => {
-                    eprintln!("{value}: {error}");
-                    false
-                }
-            },
-            _ => false,
-        };
-        if !understood {
-            eprintln!("demand3 [--seed N] [--lines N] [--library FILE.so | --wrong NAME] [--self-test]");
-            return ExitCode::from(2);
-        }
-    }
-    println!("seed {seed}");
-    let passed = if testing_itself { self_test(seed, lines) } else { test(engine.as_ref(), seed, lines) };
+    let usage = "demand3 [--seed N] [--lines N] [--library FILE.so | --wrong NAME] [--self-test]";
+    let Some(options) = Options::read(usage, DEFAULT_LINES) else {
+        return ExitCode::from(2);
+    };
+    let passed = if options.self_test { self_test(options.seed, options.lines) } else { test(options.engine.as_ref(), options.seed, options.lines) };
     if passed {
         ExitCode::SUCCESS
     } else {

@@ -1,6 +1,7 @@
-//! What the testers share: random numbers, random policies, trees and lines, and the engines under test.
+//! What the testers share: random numbers, random policies, trees and lines, the engines under test, and the command line.
 
 pub mod engine;
 pub mod generate;
+pub mod options;
 pub mod random;
 pub mod sessions;
