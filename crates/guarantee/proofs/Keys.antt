@@ -1,7 +1,7 @@
 -- Rights by keys: a label's key is the label if it is a policy word, and nothing otherwise. A rule's step names a label, which is a policy word, or is `*`, or is `$`,
 -- and then every subject's name is a policy word: so the keys of a chain decide what every declared subject may do. Assumes nothing.
 use Prim.Native.Nat.{ℕ, zero, suc, _<_}
-use mathlib.Core.Bool.{Bool, true, false, cond, _&&_, _||_, or-true}
+use mathlib.Core.Bool.{Bool, true, false, cond, _&&_, _||_}
 use mathlib.Core.Path.{_≡_, refl, sym, ap, ap₂, _∙_}
 use mathlib.Core.List.{List, [], _∷_, map}
 use mathlib.Core.Option.{Option, none, some}
@@ -12,6 +12,7 @@ use Rattle.rights.specs.Path.{Test, label, any, own, Axis, far, passes}
 use Rattle.rights.specs.Policy.{Rule, Policy, passesOwn, some as anyOf, uses, policyWord}
 use Rattle.rights.specs.Rights.{is, stepFor, finds, withRule, decide, rightsBy}
 use Rattle.rights.proofs.Lists.{byCase}
+use Rattle.rights.proofs.XPathLists.{or-right}
 
 abbrev pub Key : Type 0
 Key = Option (List ℕ)
@@ -47,11 +48,8 @@ rightsByKeys P u ks = decideKeys P u ks (P .rules) 0
 clash : {C : Type 0} (b : Bool) → b ≡ true → b ≡ false → C
 clash b e q = absurd (let z : true ≡ false = sym e ∙ q in let y : _≡_ {A = ℕ} 0 1 = cc in omega arith)
 
-or-left : (a b : Bool) → a ≡ true → a || b ≡ true
+pub or-left : (a b : Bool) → a ≡ true → a || b ≡ true
 or-left a b e = rw e
-
-or-right : (a b : Bool) → b ≡ true → a || b ≡ true
-or-right a b e = rw e (or-true a)
 
 some-at : (f : List ℕ → Bool) (xs : List (List ℕ)) (i : ℕ) → i < length xs → f (getD xs i []) ≡ true → anyOf f xs ≡ true
 unfolding anyOf

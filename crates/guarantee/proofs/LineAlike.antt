@@ -2,10 +2,9 @@
 -- two is refused for want of free records. Assumes nothing.
 use Prim.Native.Nat.{ℕ, zero, suc, _+_, _-_, _<_}
 use mathlib.Core.Path.{_≡_, refl, ap, ap₂, sym, _∙_, subst}
-use mathlib.Core.Bool.{Bool, true, false, cond, not, _||_, Bool·beq, false≢true, true≢false}
+use mathlib.Core.Bool.{Bool, true, false, cond, not, _||_, false≢true, true≢false}
 use mathlib.Core.List.{List}
 use native.Mathlib.Omega.{arith}
-use borrow.Author.Tests.{eqb-true, le-leb}
 use lib.Dec.{leb, eqb}
 use lib.ListN.{length}
 use Rattle.rights.specs.Labels.{sameLabel, restricted}
@@ -40,6 +39,7 @@ use Rattle.guarantee.specs.Alike.{SamePolicy, UserIs}
 use Rattle.guarantee.proofs.SamePolicy.{same-named, same-word}
 use Rattle.guarantee.proofs.FormParts.{PartsGood, parts-good}
 use Rattle.guarantee.proofs.TreeRecords.{tree-ok}
+use Rattle.guarantee.proofs.LineLaws.{user-stage}
 use Rattle.guarantee.proofs.LowTable.{lowOf, nodesOf}
 use Rattle.guarantee.proofs.LineLow.{selectLow, deepLow, Frees, rename-frees, update-frees, doneBy, countLow, removeLow, renameLow}
 use Rattle.guarantee.proofs.LineLow.{placeLow, view-in, marks-in, text-in, deep-in, removed-low, renamed-low, placed-low}
@@ -95,21 +95,13 @@ unfolding namesFrom
 names-length p zero i = refl
 names-length p (suc n) i = ap suc (names-length p n (suc i))
 
--- a session's user is a declared subject, and the stage is E
+-- a session's user is a declared subject
 pub user-declared : (u : ℕ) (s t : List ℕ) → storeOk s t ≡ true → UserIs u s → u < length (policyIn s .names)
 unfolding policyOf
 user-declared u s t e q =
     let h = store-held s t e .user in
     let n = names-length (policyBytes s) (subjectCount (policyBytes s)) 0 in
     omega (arith, h, q, n)
-
-pub user-stage : (u : ℕ) (s t : List ℕ) → storeOk s t ≡ true → UserIs u s → stage s ≡ 4
-user-stage u s t e q = eqb-true (stage s) 4 (go (eqb (stage s) 4) (leb 1 (userByte s)) (le-leb 1 (userByte s) (omega (arith, q))) (store-held s t e .logged))
-  where
-    go : (b d : Bool) → d ≡ true → Bool·beq b d ≡ true → b ≡ true
-    go true d f h = refl
-    go false true f h = absurd (false≢true h)
-    go false false f h = absurd (false≢true f)
 
 pub same-self : (P : Policy) → SamePolicy P P
 same-self P = record { names = refl; isa = λ n r. refl; rules = refl }
@@ -274,8 +266,8 @@ module _ (choice : Choice) (u : ℕ) (s t s' t' : List ℕ) (h : Tied u s t s' t
   unfolding step stepRead
   match-step line =
       let f : Form = readForm line in
-      let g = user-stage u s t (h .passes) (h .user) in
-      let g' = user-stage u s' t' (h .passes') (h .user') in
+      let g = user-stage s t (h .passes) u (h .user) in
+      let g' = user-stage s' t' (h .passes') u (h .user') in
       refuse-both P u s t s' t' (h .low) (not (storeOk s t)) (not (storeOk s' t')) 13 _ _ (ap not (h .passes ∙ sym (h .passes')))
       λ a a'.
       refuse-same (not (lineOk line)) 1 _ _ λ b.

@@ -11,6 +11,8 @@ use Rattle.rights.specs.Policy.{Policy, Rule, some, uses, passesOwn, policyWord
 use Rattle.rights.specs.Rights.{isBy, is, decide, rightsBy, chains, rightsOn}
 use Rattle.rights.proofs.Facts.{both}
 use Rattle.rights.proofs.Lists.{byCase}
+use Rattle.rights.proofs.XPathLists.{or-right}
+use Rattle.guarantee.proofs.Keys.{or-left}
 use Rattle.lines.specs.PolicyEdit.{isLine, isaHeld, subjectFrom, subjectNamed}
 use Rattle.guarantee.specs.Alike.{SamePolicy}
 
@@ -24,14 +26,6 @@ record Found (g : ℕ × ℕ → Bool) (ps : List (ℕ × ℕ)) : Type 0 where
   line : ℕ × ℕ
   passes : g line ≡ true
   held : some (isLine (line .0) (line .1)) ps ≡ true
-
-or-left : (a b : Bool) → a ≡ true → a || b ≡ true
-or-left true b e = refl
-or-left false b e = absurd (false≢true e)
-
-or-right : (a b : Bool) → b ≡ true → a || b ≡ true
-or-right true b e = refl
-or-right false b e = e
 
 found : (g : ℕ × ℕ → Bool) (ps : List (ℕ × ℕ)) → some g ps ≡ true → Found g ps
 unfolding some

@@ -18,6 +18,7 @@ use Rattle.rights.specs.Record.{recordOf}
 use Rattle.rights.specs.Table.{count, tableOk}
 use Rattle.rights.proofs.Facts.{both}
 use Rattle.rights.proofs.RecordLaws.{length-record}
+use Rattle.rights.proofs.XPathLists.{or-right}
 use Rattle.views.proofs.TableKept.{length-records}
 use Rattle.answers.specs.AnswerChoice.{Choice}
 use Rattle.lines.specs.PolicyEdit.{hasBracket, Plain, stepsIn, withSubject, withIsa, withRule}
@@ -52,10 +53,6 @@ agree true true e = refl
 agree true false e = absurd (let z : _≡_ {A = ℕ} 0 1 = cc in omega arith)
 agree false true e = absurd (let z : _≡_ {A = ℕ} 0 1 = cc in omega arith)
 agree false false e = refl
-
-or-right : (a b : Bool) → b ≡ true → (a || b) ≡ true
-or-right true b e = refl
-or-right false b e = e
 
 -- the stages behind C are reached with a root
 pub behind-root : (k g : ℕ) → ltb 2 k ≡ true → inStage k g ≡ true → 2 ≤ g
