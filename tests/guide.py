@@ -15,24 +15,17 @@ import re
 import subprocess
 import sys
 
-ROOT = os.path.dirname(os.path.dirname(os.path.abspath(__file__)))
+sys.path.insert(0, os.path.dirname(os.path.abspath(__file__)))
+import timetable  # noqa: E402
+
+ROOT = timetable.ROOT
 PAGES = ["README.md", "docs/GUIDE.md"]
 MAN_PAGE = "docs/timetable.1"
 TEST_COMMANDS = {"bash tests/all", "bash bench/run"}
 SETTING_UP = ("(subject ", "(isa ", "(rule ", "(root ", "(child ", "(user ")
 
 # What goes before the example line of each refusal.
-EXAMPLE = """(subject staff)
-(subject SHA)
-(isa SHA staff)
-(rule accept read //* staff)
-(rule deny read //note/* staff)
-(rule accept position //note/* staff)
-(rule accept update //room/* staff)
-(root school)
-(child (mon (lesson (class (10B)) (room (R12)) (note (ill)))))
-(user SHA)""".split("\n")
-POLICY, ROOT_TAKEN, CHILD_TAKEN, LOGGED_IN = EXAMPLE[:7], EXAMPLE[:8], EXAMPLE[:9], EXAMPLE
+POLICY, ROOT_TAKEN, CHILD_TAKEN, LOGGED_IN = timetable.EXAMPLE[:7], timetable.EXAMPLE[:8], timetable.EXAMPLE[:9], timetable.EXAMPLE
 FULL_TABLE = ROOT_TAKEN + ["(child (day" + " (x)" * 92 + "))"] * 11
 BEFORE = {
     1: [],

@@ -1,6 +1,6 @@
 #!/usr/bin/env python3
-"""program.py [--no-changes] [PROGRAM]: tests of the program `timetable` by its input and output. The default is the program that `rt check timetable`
-builds. Every expected answer is worked out here, from document 01. --no-changes leaves out what needs one of the six changes.
+"""program.py [PROGRAM]: tests of the program `timetable` by its input and output. The default is the program that `rt check timetable`
+builds. Every expected answer is worked out here, from document 01.
 """
 
 import os
@@ -14,7 +14,7 @@ import tempfile
 sys.path.insert(0, os.path.dirname(os.path.abspath(__file__)))
 import timetable  # noqa: E402
 
-PROGRAM, CHANGES_RUN = timetable.arguments(__doc__)
+PROGRAM = timetable.arguments(__doc__)
 OK = b"(ok)\n"
 INPUT_MAX = 4_294_967_295
 # Seconds within which an answer comes.
@@ -22,18 +22,7 @@ AT_ONCE = 10
 LABEL_BYTES = set(b"ABCDEFGHIJKLMNOPQRSTUVWXYZabcdefghijklmnopqrstuvwxyz0123456789-_.")
 # A subject who reads everything, and a root: what follows is a child line or a login.
 START = b"(subject a)\n(rule accept read //* a)\n(root r)\n"
-EXAMPLE = b"""(subject staff)
-(subject SHA)
-(isa SHA staff)
-(rule accept read //* staff)
-(rule deny read //note/* staff)
-(rule accept position //note/* staff)
-(rule accept update //room/* staff)
-(root school)
-(child (mon (lesson (class (10B)) (room (R12)) (note (ill)))))
-(user SHA)
-(view)
-"""
+EXAMPLE = "\n".join(timetable.EXAMPLE + ["(view)", ""]).encode()
 EXAMPLE_VIEW = b"(root school)\n(child (mon (lesson (class (10B)) (room (R12)) (note (RESTRICTED)))))\n(end 9)\n"
 EXAMPLE_CHANGES = b"(update //room R14)\n(query //lesson/*)\n(rename //note/* cold)\n"
 EXAMPLE_DONE = b"(done 1 1)\n(hit 3 class)\n(hit 3 room)\n(hit 3 note)\n(end 3)\n(done 1 0)\n"
@@ -195,8 +184,7 @@ def the_longest_answers():
 
 def the_example():
     expect("the example's view", EXAMPLE, OK * 10 + EXAMPLE_VIEW)
-    if CHANGES_RUN:
-        expect("the whole example", EXAMPLE + EXAMPLE_CHANGES, OK * 10 + EXAMPLE_VIEW + EXAMPLE_DONE)
+    expect("the whole example", EXAMPLE + EXAMPLE_CHANGES, OK * 10 + EXAMPLE_VIEW + EXAMPLE_DONE)
     expect("no user yet", b"(root r)\n(view)\n(query //*)\n(find x)\n(user a)\n", OK + refused(8) * 2 + refused(4) + refused(5))
     expect("no root yet", b"(view)\n(child (x))\n(user a)\n(query x)\n", refused(3) * 4)
     expect("stages", b"(root r)\n(root q)\n(subject a)\n(rule accept read //* a)\n", OK + refused(3) * 3)

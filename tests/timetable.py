@@ -6,20 +6,28 @@ import sys
 
 ROOT = os.path.dirname(os.path.dirname(os.path.abspath(__file__)))
 SECONDS = 120
-CHANGES = (b"(rename ", b"(update ", b"(append ", b"(before ", b"(after ", b"(remove ")
+# The example of document 01 up to its login.
+EXAMPLE = """(subject staff)
+(subject SHA)
+(isa SHA staff)
+(rule accept read //* staff)
+(rule deny read //note/* staff)
+(rule accept position //note/* staff)
+(rule accept update //room/* staff)
+(root school)
+(child (mon (lesson (class (10B)) (room (R12)) (note (ill)))))
+(user SHA)""".split("\n")
 
 
 def arguments(description):
-    """The program to run and whether the six changes run, from the command line: [--no-changes] [PROGRAM]."""
+    """The program to run, from the command line: [PROGRAM]."""
     words = sys.argv[1:]
-    changes = "--no-changes" not in words
-    words = [word for word in words if word != "--no-changes"]
     if len(words) > 1 or (words and words[0].startswith("-")):
         sys.exit(description)
     program = os.path.abspath(words[0]) if words else os.path.join(ROOT, "target", "bin", "timetable")
     if not os.path.exists(program):
         sys.exit(f"FAILED: {program} is missing; `rt check timetable` builds it")
-    return program, changes
+    return program
 
 
 def answers(program, data):

@@ -1,6 +1,6 @@
 #!/usr/bin/env python3
-"""vectors.py [--no-changes] [PROGRAM]: runs the program on each list of lines in tests/vectors, NAME.in, and compares what it writes with NAME.out,
-byte for byte. The default is the program that `rt check timetable` builds. --no-changes leaves out the lists that hold one of the six changes.
+"""vectors.py [PROGRAM]: runs the program on each list of lines in tests/vectors, NAME.in, and compares what it writes with NAME.out,
+byte for byte. The default is the program that `rt check timetable` builds.
 """
 
 import os
@@ -27,17 +27,16 @@ def difference(got, wanted):
 
 
 def main():
-    program, changes = timetable.arguments(__doc__)
+    program = timetable.arguments(__doc__)
     names = sorted(name[:-3] for name in os.listdir(FOLDER) if name.endswith(".in"))
-    run = [name for name in names if changes or not any(line.startswith(timetable.CHANGES) for line in read(name + ".in").split(b"\n"))]
     failed = 0
-    for name in run:
+    for name in names:
         got, wanted = timetable.answers(program, read(name + ".in")), read(name + ".out")
         if got != wanted:
             failed += 1
             print(f"FAILED: {name}: {difference(got, wanted)}")
-    print(f"{len(run)} of {len(names)} lists run, {failed} differ")
-    sys.exit(1 if failed or not run else 0)
+    print(f"{len(names)} lists run, {failed} differ")
+    sys.exit(1 if failed or not names else 0)
 
 
 if __name__ == "__main__":
