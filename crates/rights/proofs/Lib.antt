@@ -33,3 +33,9 @@ pub mod ViewNested
 pub mod StarredPaths
 pub mod NodeLaws
 pub mod RecordMade
+pub mod BitLaws
+pub mod VocabularyLaws
+pub mod PackedLaws
+pub mod GroupLaws
+pub mod FiveRights
+pub mod StateLaws

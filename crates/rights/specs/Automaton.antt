@@ -1,12 +1,11 @@
--- How the rights are worked out: one automaton a rule, its states as a list of Bools and as a mask of bits. proofs/Chains.antt shows that it finds what
+-- How the rights are worked out: one automaton a rule, its states as a list of Bools and as a mask of bits (Groups: several rules in one mask). proofs/Chains.antt shows that it finds what
 -- `finds` says, proofs/Roles.antt that the pass over the subjects finds the roles that `is` says.
-use Prim.Native.Nat.{ℕ, zero, suc, _+_, _*_, _-_, _≤_, _<_}
-use mathlib.Core.Bool.{Bool, true, false, cond, not, _&&_, _||_}
+use Prim.Native.Nat.{ℕ, zero, suc, _+_, _*_, _≤_, _<_}
+use mathlib.Core.Bool.{Bool, true, false, cond, _&&_, _||_}
 use mathlib.Core.Path.{_≡_}
 use mathlib.Core.List.{List, [], _∷_, _++_}
 use lib.Dec.{eqb}
 use lib.ListN.{length, getD, take, drop, set}
-use Rattle.rights.specs.Path.{Axis, Test}
 use Rattle.rights.specs.Policy.{passesOwn}
 use Rattle.rights.specs.PolicyBytes.{stepOf, policyOf, isaCount, isaN, isaR, subjectCount, subjectAt, ruleCount, stepCount, stepsAt, whose, accepts, rightBit, Text}
 use Rattle.rights.specs.Rights.{Step, stepFor, finds, tried}
@@ -32,11 +31,6 @@ unfoldable pub join : List Bool → List Bool → List Bool
 join [] ys = ys
 join (x ∷ xs) [] = x ∷ xs
 join (x ∷ xs) (y ∷ ys) = (x || y) ∷ join xs ys
-
-unfoldable pub minus : List Bool → List Bool → List Bool
-minus [] ys = []
-minus (x ∷ xs) [] = x ∷ xs
-minus (x ∷ xs) (y ∷ ys) = (x && not y) ∷ minus xs ys
 
 -- the deep steps, and the steps that a label passes
 unfoldable pub deeps : List Step → List Bool
@@ -130,11 +124,6 @@ sweep p (suc k) out = sweep p k (widened p k out)
 pub record Steps (p : List ℕ) (at n : ℕ) : Type 0 where
   pub few : n ≤ 16
   pub texts : (j : ℕ) → j < n → Text p (at + j * 32)
-
--- the steps from step `from` on, of n at byte b, are all `*`: each label passes them all, by these bits
-pub record WildTail (p : List ℕ) (b n from bits : ℕ) : Type 0 where
-  pub within : from ≤ n
-  pub pass : (mine : List ℕ → Bool) (x : List ℕ) → bits ≡ value (passedBy (stepsFor mine p b (n - from) from) x)
 
 pub record Sound (p : List ℕ) : Type 0 where
   pub size : 68872 ≤ length p

@@ -8,6 +8,8 @@ pub mod PathReader
 pub mod PathText
 pub mod Rights
 pub mod Automaton
+pub mod Groups
+pub mod Vocabulary
 pub mod PolicyCheck
 pub mod Record
 pub mod Nodes

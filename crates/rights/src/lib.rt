@@ -1,5 +1,6 @@
 // The lower crate: labels, tables, paths, policies and rights (document 01). It knows nothing of commands.
 pub mod bytes;
+mod groups;
 pub mod labels;
 pub mod limits;
 pub mod nodes;
@@ -11,3 +12,4 @@ pub mod record;
 pub mod rights;
 pub mod selection;
 pub mod table;
+mod vocabulary;

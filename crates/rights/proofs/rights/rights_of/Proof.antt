@@ -1,90 +1,86 @@
+use Rattle.rights.proofs.FiveRights.{five}
 use Rattle.rights.proofs.Model.{all-rights}
-use mathlib.Core.Path.{_≡_, refl, sym, _∙_, ap, ap₂}
-use native.Mathlib.Omega.{arith}
-use Prim.Native.Nat.{ℕ, suc, _≤_, _<_, _-_, _+_, _*_}
-use native.Mathlib.Numerals.{add-one}
-use mathlib.Core.Bool.{cond, not}
-use lib.Dec.{eqb}
-use lib.ListN.{getD, length}
-use Rattle.rights.specs.PolicyBytes.{ruleCount, whose, nameAt, rightBit, accepts}
-use Rattle.rights.specs.Automaton.{rulePath, Each, chainOf, byRules}
-use Rattle.rights.specs.Rights.{tried}
 use Rattle.rights.proofs.Eaches.{each-then, each-alike}
-use Rattle.rights.proofs.Roles.{by-more}
+use Rattle.rights.specs.Groups.{byFive}
+use Rattle.rights.specs.Automaton.{chainOf, rightsAt}
+use Prim.Native.Nat.{ℕ}
+use native.Mathlib.Omega.{arith}
+use mathlib.Core.Path.{refl}
+use borrow.Author.Needs.{needs}
 use Rattle.rights.proofs.rights.rights_of.Statement.{statement}
 use Rattle.rights.proofs.rights.rights_of.Tie as tie
 
-abbrev Inv-loop : tie.InvT-loop
-Inv-loop s u t n out₀ roles count k₀ out k = (k ≤ count) × Each n out₀ out (λ (i x : ℕ). byRules s u k (chainOf t i))
+roles-of-requires : tie.Need-roles-of-requires
+roles-of-requires c κs = search needs
 
-abbrev μ-loop : tie.MeasureT-loop
-μ-loop s u t n out₀ roles count k₀ out k = count - k
+slice-aggregate-sort-words : tie.Need-slice-aggregate-sort-words
+slice-aggregate-sort-words c = search needs
 
-roles-of-requires : tie.Need-roles-of-requires Inv-loop μ-loop
-roles-of-requires c κs = (c .before .before .before .pre .0, omega (arith, c .before .before .before .pre .0 .subjects))
+sort-words-requires : tie.Need-sort-words-requires
+sort-words-requires c κs =
+    let g = c .before .before .before .before .before .pre in
+    (g .0, record { declared = g .2; name = g .0 .names (c .before .before .before .before .before .args .u) (g .2) }, refl)
 
-clear-rights-requires : tie.Need-clear-rights-requires Inv-loop μ-loop
-clear-rights-requires c κs = omega arith
+slice-aggregate-number-nodes : tie.Need-slice-aggregate-number-nodes
+slice-aggregate-number-nodes c = search needs
 
-shared-slice-read-wide : tie.Need-shared-slice-read-wide Inv-loop μ-loop
-shared-slice-read-wide c = omega arith
+slice-aggregate-number-nodes-2 : tie.Need-slice-aggregate-number-nodes-2
+slice-aggregate-number-nodes-2 c = search needs
 
-wide-requires : tie.Need-wide-requires Inv-loop μ-loop
-wide-requires c κs = omega arith
+number-nodes-requires : tie.Need-number-nodes-requires
+number-nodes-requires c κs = search needs
 
-loop-holds : tie.Need-loop-holds Inv-loop μ-loop
-unfolding byRules
-loop-holds c = (omega arith, record { long = refl; at = λ i h. c .before .before .before .before .clear-rights .ensures .at i h; rest = refl })
+clear-rights-requires : tie.Need-clear-rights-requires
+clear-rights-requires c κs = search needs
 
-try-rule-for-requires : tie.Need-try-rule-for-requires Inv-loop μ-loop
-try-rule-for-requires c κs = (c .before .before .before .before .before .before .before .before .before .before .before .before .before .before .pre .0, omega (arith, c .before .before .before .before .wide .ensures), record { declared = c .before .before .before .before .before .before .before .before .before .before .before .before .before .before .pre .1; name = c .before .before .before .before .before .before .before .before .before .before .before .before .before .before .pre .0 .names (c .before .before .before .before .before .before .before .before .before .before .before .before .before .before .args .u) (c .before .before .before .before .before .before .before .before .before .before .before .before .before .before .pre .1) }, c .before .before .before .before .before .before .before .before .before .before .before .before .before .before .pre .2, c .before .before .before .before .before .before .before .before .before .before .before .before .before .before .pre .3, omega (arith, c .before .before .before .loop .inv .1 .long, c .before .before .before .before .before .before .before .before .clear-rights .ensures .long, c .before .before .before .before .before .before .before .before .before .before .before .before .before .before .pre .4))
+slice-aggregate-try-rights : tie.Need-slice-aggregate-try-rights
+slice-aggregate-try-rights c = search needs
 
-add-k : tie.Need-add-k Inv-loop μ-loop
-add-k c = omega arith
+slice-aggregate-try-rights-2 : tie.Need-slice-aggregate-try-rights-2
+slice-aggregate-try-rights-2 c = search needs
 
-loop-less : tie.Need-loop-less Inv-loop μ-loop
-loop-less c = omega arith
+slice-aggregate-try-rights-3 : tie.Need-slice-aggregate-try-rights-3
+slice-aggregate-try-rights-3 c = search needs
 
-loop-again : tie.Need-loop-again Inv-loop μ-loop
-loop-again c =
-    let a = c .before .before .before .before .before .before .before .before .before .before .before .before .before .before .before .before .before .args in
-    let l = c .before .before .before .before .before .before .loop in
-    let r = c .before .before .before .before .before .before .before .before .before .before .before .before .before .roles-of .result in
-    let s = a .policy .now in
-    let t = a .t .now in (
-      omega arith,
-      rw add-one
-          (each-alike (a .n) _ _
-          (λ (i x : ℕ). cond (not (eqb (getD r (whose s (l .k)) 0) 0)) (tried (rulePath s (a .u) (l .k)) (chainOf t i) (rightBit s (l .k)) (accepts s (l .k)) (byRules s (a .u) (l .k) (chainOf t i))) (byRules s (a .u) (l .k) (chainOf t i)))
-          (λ (i x : ℕ). byRules s (a .u) (suc (l .k)) (chainOf t i))
-          (λ i x. by-more s (a .u) (l .k) r (c .before .before .before .before .before .before .before .before .before .before .before .before .before .roles-of .ensures) (c .before .before .before .before .before .before .before .before .before .before .before .before .before .before .before .before .before .pre .0 .whos (l .k) (omega (arith, c .before .before .before .before .before .before .before .wide .ensures))) (chainOf t i))
-          (each-then (a .n) _ _ _ _ _ (l .inv .1) (c .before .before .try-rule-for .ensures))),
+try-rights-requires : tie.Need-try-rights-requires
+try-rights-requires c κs =
+    let g = c .before .before .before .before .before .before .before .before .before .before .before .before .before .before .before .before .before .before .before .before .pre in
+    let u = c .before .before .before .before .before .before .before .before .before .before .before .before .before .before .before .before .before .before .before .before .args .u in
+    let b = c .before .before .before .before .before .before .before .before .before .before .number-nodes .ensures in (
+      record { sound = g .0; subject = record { declared = g .2; name = g .0 .names u (g .2) }; sorted = c .before .before .before .before .before .before .before .before .before .before .before .before .before .before .sort-words .ensures },
+      refl,
+      record { few = g .5; room = g .3; records = g .4; long = omega (arith, b .long, g .5); at = b .at },
+      omega (arith, g .6, c .before .before .before .before .before .before .before .clear-rights .ensures .long),
     )
 
-same-length : tie.Need-same-length Inv-loop μ-loop
-same-length c = omega arith
+same-length : tie.Need-same-length
+same-length c = search needs
 
-returns : tie.Need-returns Inv-loop μ-loop
+returns : tie.Need-returns
 returns c =
-    let a = c .before .before .before .before .before .before .before .before .before .before .before .before .args in
-    let l = c .before .loop in
-    let e : l .k ≡ ruleCount (a .policy .now) = omega (arith, c .before .before .wide .ensures) in
-    all-rights (a .policy .now) (a .t .now) (a .u) (a .n) _ _ (c .before .before .before .before .before .before .before .before .before .before .before .before .pre .4) (rw e at (each-then (a .n) _ _ _ _ _ (c .before .before .before .before .before .before .clear-rights .ensures) (l .inv .1)))
+    let a = c .before .before .before .before .before .before .before .before .before .before .before .before .before .before .before .before .before .before .before .before .before .before .before .before .args in
+    let g = c .before .before .before .before .before .before .before .before .before .before .before .before .before .before .before .before .before .before .before .before .before .before .before .before .pre in
+    let p = a .policy .now in
+    let t = a .t .now in
+    let r = c .before .before .before .before .before .before .before .before .before .before .before .before .before .before .before .before .before .before .before .before .roles-of .result in
+    all-rights p t (a .u) (a .n) _ _ (g .6)
+    (each-alike (a .n) _ _ (λ (i x : ℕ). byFive p (a .u) r (chainOf t i) 0) (λ (i x : ℕ). rightsAt p (a .u) (chainOf t i)) (λ i x. five p (a .u) (chainOf t i) (g .0) r (c .before .before .before .before .before .before .before .before .before .before .before .before .before .before .before .before .before .before .before .before .roles-of .ensures) (g .1))
+    (each-then (a .n) _ _ _ _ _ (c .before .before .before .before .before .before .before .before .before .before .before .clear-rights .ensures) (c .before .before .before .try-rights .ensures)))
 
 pub rights-of-spec : {M : Type 1} → statement M
 rights-of-spec =
     tie.close
     (tie.spec
-    Inv-loop
-    μ-loop
     roles-of-requires
+    slice-aggregate-sort-words
+    sort-words-requires
+    slice-aggregate-number-nodes
+    slice-aggregate-number-nodes-2
+    number-nodes-requires
     clear-rights-requires
-    shared-slice-read-wide
-    wide-requires
-    loop-holds
-    try-rule-for-requires
-    add-k
-    loop-less
-    loop-again
+    slice-aggregate-try-rights
+    slice-aggregate-try-rights-2
+    slice-aggregate-try-rights-3
+    try-rights-requires
     same-length
     returns)

@@ -1,0 +1,201 @@
+-- A group's steps in numbers: none, one step more, and the end of a path. Assumes nothing.
+use Prim.Native.Nat.{ℕ, suc, zero, _+_, _*_, _^_, _≤_, _<_}
+use mathlib.Core.Bool.{Bool, true, false, _&&_, _||_, cond, and-false}
+use mathlib.Core.Path.{_≡_, refl, sym, ap, ap₂, _∙_}
+use mathlib.Core.List.{List, [], _∷_, _++_, append-assoc}
+use native.Mathlib.Nat.{add-zero, zero-add, add-suc, suc-add}
+use native.Mathlib.Numerals.{add-one}
+use native.Mathlib.Omega.{arith}
+use borrow.Author.Tests.{eq-eqb, ne-eqb, eqb-true, eqb-false}
+use lib.Bits.{bitOr}
+use lib.Dec.{eqb, eqb·suc-suc, eqb·zero-suc, eqb·suc-zero}
+use lib.ListN.{length, getD, set, length-append, length-set}
+use lib.Seq.{getD-set-same, getD-set-other}
+use Rattle.rights.specs.Labels.{sameLabel}
+use Rattle.rights.specs.Path.{passes, far}
+use Rattle.rights.specs.Rights.{Step, stepFor}
+use Rattle.rights.specs.Table.{recAt, label}
+use Rattle.rights.specs.Policy.{passesOwn}
+use Rattle.rights.specs.PolicyBytes.{policyOf, nameAt, stepOf, axisOf, testOf, Subject}
+use Rattle.rights.specs.Automaton.{deeps, passedBy, stepsFor}
+use Rattle.rights.specs.Groups.{has, noted, never, Packed}
+use Rattle.rights.specs.Vocabulary.{wordAt, numberIn}
+use Rattle.rights.proofs.Held.{own-held}
+use Rattle.rights.proofs.Lanes.{length-steps}
+use Rattle.rights.proofs.Lists.{byCase}
+use Rattle.rights.proofs.Texts.{first-at, passes-any, passes-mine, passes-label}
+use Rattle.rights.proofs.BitLaws.{has-or, has-one, has-none}
+use Rattle.rights.proofs.VocabularyLaws.{number-decides}
+
+-- one step more at the end
+pub or-none : (a b : Bool) → a ≡ a || (b && false)
+or-none true b = refl
+or-none false b = sym (and-false b)
+
+pub deeps-more : (ss : List Step) (s : Step) (j : ℕ) → getD (deeps (ss ++ (s ∷ []))) j false ≡ getD (deeps ss) j false || (eqb j (length ss) && s .deep)
+unfolding deeps
+deeps-more [] s zero = refl
+deeps-more [] s (suc j) = ap (λ (b : Bool). b && s .deep) (sym (eqb·suc-zero j))
+deeps-more (r ∷ ss) s zero = or-any (r .deep) ∙ ap (λ (b : Bool). r .deep || (b && s .deep)) (sym (eqb·zero-suc (length ss)))
+  where
+    or-any : (a : Bool) → a ≡ a || (false && s .deep)
+    or-any true = refl
+    or-any false = refl
+deeps-more (r ∷ ss) s (suc j) = deeps-more ss s j ∙ ap (λ (b : Bool). getD (deeps ss) j false || (b && s .deep)) (sym (eqb·suc-suc j (length ss)))
+
+pub passed-more : (ss : List Step) (s : Step) (x : List ℕ) (j : ℕ) → getD (passedBy (ss ++ (s ∷ [])) x) j false ≡ getD (passedBy ss x) j false || (eqb j (length ss) && s .passed x)
+unfolding passedBy
+passed-more [] s x zero = refl
+passed-more [] s x (suc j) = ap (λ (b : Bool). b && s .passed x) (sym (eqb·suc-zero j))
+passed-more (r ∷ ss) s x zero = or-any (r .passed x) ∙ ap (λ (b : Bool). r .passed x || (b && s .passed x)) (sym (eqb·zero-suc (length ss)))
+  where
+    or-any : (a : Bool) → a ≡ a || (false && s .passed x)
+    or-any true = refl
+    or-any false = refl
+passed-more (r ∷ ss) s x (suc j) = passed-more ss s x j ∙ ap (λ (b : Bool). getD (passedBy ss x) j false || (b && s .passed x)) (sym (eqb·suc-suc j (length ss)))
+
+pub deeps-length : (ss : List Step) → length (deeps ss) ≡ length ss
+unfolding deeps
+deeps-length [] = refl
+deeps-length (s ∷ ss) = ap suc (deeps-length ss)
+
+-- no steps, and rows without a bit
+pub packed-none : (number : List ℕ → ℕ) (rows : List ℕ) → length rows ≡ 2050 → ((x : List ℕ) → getD rows (number x) 0 ≡ 0) → Packed number [] 0 0 rows
+unfolding deeps passedBy
+packed-none number rows e z = record {
+  long = e;
+  deep-bits = λ j. has-none j;
+  row = λ x j. sym (ap₂ _||_ (has-none j) (ap (λ (n : ℕ). has n j) (z x) ∙ has-none j));
+}
+
+module _ (number : List ℕ → ℕ) (ss : List Step) (deep every : ℕ) (rows : List ℕ) (k : Packed number ss deep every rows) where
+  -- nothing is noted for the end of a path
+  pub packed-end : Packed number (ss ++ (never ∷ [])) deep every rows
+  packed-end = record {
+    long = k .long;
+    deep-bits = λ j. k .deep-bits j ∙ or-none _ (eqb j (length ss)) ∙ sym (deeps-more ss never j);
+    row = λ x j. passed-more ss never x j ∙ sym (or-none _ (eqb j (length ss))) ∙ k .row x j;
+  }
+
+  module _ (s : Step) (j : ℕ) (here : length ss ≡ j) where
+    deep-more : (d : Bool) → d ≡ s .deep → (i : ℕ) → has (cond d (bitOr deep (2 ^ j)) deep) i ≡ getD (deeps (ss ++ (s ∷ []))) i false
+    deep-more true e i = has-or deep (2 ^ j) i ∙ ap₂ _||_ (k .deep-bits i) (has-one j i ∙ go (eqb i j) ∙ ap₂ (λ (n : ℕ) (b : Bool). eqb i n && b) (sym here) e) ∙ sym (deeps-more ss s i)
+      where
+        go : (b : Bool) → b ≡ b && true
+        go true = refl
+        go false = refl
+    deep-more false e i = k .deep-bits i ∙ or-none _ (eqb i (length ss)) ∙ ap (λ (b : Bool). getD (deeps ss) i false || (eqb i (length ss) && b)) e ∙ sym (deeps-more ss s i)
+
+    passed-new : (x : List ℕ) (i : ℕ) → getD (passedBy (ss ++ (s ∷ [])) x) i false ≡ (has every i || has (getD rows (number x) 0) i) || (eqb i j && s .passed x)
+    passed-new x i = passed-more ss s x i ∙ ap₂ (λ (b : Bool) (n : ℕ). b || (eqb i n && s .passed x)) (k .row x i) here
+
+    -- a step that all labels pass
+    pub packed-every : (d : Bool) → d ≡ s .deep → ((x : List ℕ) → s .passed x ≡ true) → Packed number (ss ++ (s ∷ [])) (cond d (bitOr deep (2 ^ j)) deep) (bitOr every (2 ^ j)) rows
+    packed-every d e f = record {
+      long = k .long;
+      deep-bits = deep-more d e;
+      row = λ x i. passed-new x i
+          ∙ ap (λ (b : Bool). (has every i || has (getD rows (number x) 0) i) || (eqb i j && b)) (f x)
+          ∙ go (has every i) (has (getD rows (number x) 0) i) (eqb i j)
+          ∙ ap (λ (b : Bool). b || has (getD rows (number x) 0) i) (sym (has-or every (2 ^ j) i ∙ ap (λ (b : Bool). has every i || b) (has-one j i)));
+    }
+      where
+        go : (a r b : Bool) → (a || r) || (b && true) ≡ (a || b) || r
+        go true r b = refl
+        go false true true = refl
+        go false true false = refl
+        go false false true = refl
+        go false false false = refl
+
+    -- a step that the labels with one number pass
+    module _ (h : ℕ) (room : h < 2050) (f : (x : List ℕ) → s .passed x ≡ eqb (number x) h) where
+      abbrev rows' : List ℕ
+      rows' = set rows h (bitOr (getD rows h 0) (2 ^ j))
+
+      rows-more : (g i : ℕ) → has (getD rows' g 0) i ≡ has (getD rows g 0) i || (eqb g h && eqb i j)
+      rows-more g i =
+          byCase (eqb g h)
+          (λ e. ap (λ (n : ℕ). has (getD rows' n 0) i) (eqb-true g h e)
+          ∙ ap (λ (n : ℕ). has n i) (getD-set-same rows h _ 0 (omega (arith, k .long)))
+          ∙ has-or (getD rows h 0) (2 ^ j) i
+          ∙ ap₂ (λ (n : ℕ) (b : Bool). has (getD rows n 0) i || b) (sym (eqb-true g h e)) (has-one j i)
+          ∙ rw e)
+          (λ e. ap (λ (n : ℕ). has n i) (getD-set-other rows h g _ 0 (eqb-false g h e)) ∙ last (has (getD rows g 0) i) ∙ rw e)
+        where
+          last : (b : Bool) → b ≡ b || false
+          last true = refl
+          last false = refl
+
+      pub packed-row : (d : Bool) → d ≡ s .deep → Packed number (ss ++ (s ∷ [])) (cond d (bitOr deep (2 ^ j)) deep) every rows'
+      packed-row d e = record {
+        long = length-set rows h _ ∙ k .long;
+        deep-bits = deep-more d e;
+        row = λ x i. passed-new x i
+            ∙ ap (λ (b : Bool). (has every i || has (getD rows (number x) 0) i) || (eqb i j && b)) (f x)
+            ∙ go (has every i) (has (getD rows (number x) 0) i) (eqb i j) (eqb (number x) h)
+            ∙ ap (λ (b : Bool). has every i || b) (sym (rows-more (number x) i));
+      }
+        where
+          go : (a r b n : Bool) → (a || r) || (b && n) ≡ a || (r || (n && b))
+          go true r b n = refl
+          go false true b n = refl
+          go false false true true = refl
+          go false false true false = refl
+          go false false false true = refl
+          go false false false false = refl
+
+-- the steps of a path, one more at the end
+pub steps-more : (mine : List ℕ → Bool) (p : List ℕ) (b n i : ℕ) → stepsFor mine p b (suc n) i ≡ stepsFor mine p b n i ++ (stepFor mine (stepOf (recAt p (b + (i + n) * 32))) ∷ [])
+unfolding stepsFor
+steps-more mine p b zero i = ap (λ (k : ℕ). stepFor mine (stepOf (recAt p (b + k * 32))) ∷ []) (sym (add-zero i))
+steps-more mine p b (suc n) i =
+    ap (λ (r : List Step). stepFor mine (stepOf (recAt p (b + i * 32))) ∷ r)
+    (steps-more mine p b n (suc i) ∙ ap (λ (k : ℕ). stepsFor mine p b n (suc i) ++ (stepFor mine (stepOf (recAt p (b + k * 32))) ∷ [])) (suc-add i n ∙ sym (add-suc i n)))
+
+-- a step of a policy: whether it goes to all descendants, and which labels pass it
+module _ (p : List ℕ) (u at : ℕ) where
+  abbrev s : Step
+  s = stepFor (passesOwn (policyOf p) u) (stepOf (recAt p at))
+
+  pub step-deep : (d : Bool) → d ≡ far (axisOf (getD p at 0)) → d ≡ s .deep
+  step-deep d e = e ∙ ap (λ (z : ℕ). far (axisOf z)) (sym (first-at p at))
+
+  pub step-every : getD (label (recAt p at)) 0 0 ≡ 42 → (x : List ℕ) → s .passed x ≡ true
+  step-every e x = passes-any (passesOwn (policyOf p) u) (label (recAt p at)) x e
+
+  -- by the number of its text, or of the subject's name for `$`
+  pub step-row : Subject p u → (ws : List ℕ) (n : ℕ) → 0 < numberIn p ws n (nameAt p u) → 0 < numberIn p ws n (label (recAt p at)) → (getD (label (recAt p at)) 0 0 ≡ 42 → ⊥)
+      → (h : ℕ) → h ≡ numberIn p ws n (noted (nameAt p u) (label (recAt p at))) → (x : List ℕ) → s .passed x ≡ eqb (numberIn p ws n x) h
+  step-row sub ws n name text other h e x =
+      let w = label (recAt p at) in
+      let mine = passesOwn (policyOf p) u in
+      byCase (eqb (getD w 0 0) 36)
+      (λ d. passes-mine mine w x other (eqb-true _ _ d)
+      ∙ own-held p u (sub .declared) x
+      ∙ sym (number-decides (wordAt p ws) n x (nameAt p u) name)
+      ∙ ap (eqb (numberIn p ws n x)) (sym (e ∙ rw d)))
+      (λ d. passes-label mine w x other (eqb-false _ _ d)
+      ∙ sym (number-decides (wordAt p ws) n x w text)
+      ∙ ap (eqb (numberIn p ws n x)) (sym (e ∙ rw d)))
+
+module _ (name w : List ℕ) where
+  pub noted-name : getD w 0 0 ≡ 36 → noted name w ≡ name
+  noted-name e = rw (eq-eqb _ _ e)
+
+  pub noted-text : (getD w 0 0 ≡ 36 → ⊥) → noted name w ≡ w
+  noted-text h = rw (ne-eqb _ _ h)
+
+-- one step of a path more behind other steps
+module _ (mine : List ℕ → Bool) (p : List ℕ) (b j : ℕ) (ss : List Step) where
+  pub path-more : (ss ++ stepsFor mine p b j 0) ++ (stepFor mine (stepOf (recAt p (b + j * 32))) ∷ []) ≡ ss ++ stepsFor mine p b (j + 1) 0
+  path-more =
+      append-assoc ss (stepsFor mine p b j 0) _
+      ∙ ap (λ (r : List Step). ss ++ r) (ap (λ (i : ℕ). stepsFor mine p b j 0 ++ (stepFor mine (stepOf (recAt p (b + i * 32))) ∷ [])) (sym (zero-add j)) ∙ sym (steps-more mine p b j 0) ∙ ap (λ (i : ℕ). stepsFor mine p b i 0) (sym (add-one j)))
+
+  pub path-length : (used : ℕ) → length ss ≡ used → length (ss ++ stepsFor mine p b j 0) ≡ used + j
+  path-length used e = omega (arith, e, length-append ss (stepsFor mine p b j 0), length-steps mine p b j 0)
+
+-- the row of a label
+pub row-at : {number : List ℕ → ℕ} {ss : List Step} {deep every : ℕ} {rows : List ℕ} → Packed number ss deep every rows → (h : ℕ) (x : List ℕ) → h ≡ number x
+    → getD rows h 0 ≡ getD rows (number x) 0
+row-at {rows = rows} k h x e = ap (λ (z : ℕ). getD rows z 0) e

@@ -1,0 +1,206 @@
+use Rattle.rights.proofs.PackedLaws.{row-at}
+use Rattle.rights.proofs.VocabularyLaws.{number-low}
+use Rattle.rights.proofs.StateLaws.{Levels, chain-step, levels-start}
+use Rattle.rights.proofs.Chains.{fit, low-level, low-byte}
+use Rattle.rights.proofs.Eaches.{Done, done-more, drop-more}
+use Rattle.rights.proofs.GroupLaws.{agree, ruled-none}
+use Rattle.rights.specs.Vocabulary.{wordAt, numberIn}
+use Rattle.rights.specs.Groups.{laneAt, laid, firsts, ruled}
+use Rattle.rights.specs.Automaton.{chainOf, chainTo}
+use Rattle.rights.specs.Table.{recordAt, label}
+use lib.ListN.{length, drop, getD, length-set}
+use Prim.Native.Nat.{ℕ, _-_, _≤_}
+use native.Mathlib.Numerals.{add-one}
+use native.Mathlib.Omega.{arith}
+use mathlib.Core.Path.{_≡_, refl, sym, _∙_, ap}
+-- The first i nodes have their sets, and the states of each level are those along the chain of the node before.
+use Rattle.rights.proofs.groups.try_group.Statement.{statement}
+use Rattle.rights.proofs.groups.try_group.Tie as tie
+
+abbrev Inv-loop : tie.InvT-loop
+Inv-loop policy u words count roles right from to t n numbers rows out₀ deep every yes' noes st₀ i₀ out st i =
+    (i ≤ n)
+    × (length out ≡ length out₀)
+    × (drop i out ≡ drop i out₀)
+    × Done (λ (j x : ℕ). ruled (laneAt policy u roles right) right (chainOf t j) from (to - from) x) out₀ out i
+    × (length st ≡ 13)
+    × Levels (laid (laneAt policy u roles right) from (to - from)) (firsts (laneAt policy u roles right) from (to - from)) st (chainTo t i)
+
+abbrev μ-loop : tie.MeasureT-loop
+μ-loop policy u words count roles right from to t n numbers rows out₀ deep every yes' noes st₀ i₀ out st i = n - i
+
+make-group-requires : tie.Need-make-group-requires Inv-loop μ-loop
+make-group-requires c κs =
+    let g = c .before .before .before .before .before .before .before .pre in
+    (g .0, g .1, g .2, g .3, g .4, g .5)
+
+same-length : tie.Need-same-length Inv-loop μ-loop
+same-length c = c .before .before .before .before .make-group .ensures .packed .long ∙ sym (c .before .before .before .before .before .before .before .before .before .before .before .before .pre .5)
+
+returns : tie.Need-returns Inv-loop μ-loop
+returns c =
+    let a = c .before .before .before .before .before .before .before .before .before .before .before .before .args in
+    let q = laneAt (a .policy .now) (a .u) (a .roles .now) (a .right) in
+    let made = c .before .before .before .before .make-group .ensures in
+    let z = sym (made .used-is) ∙ c .if1 .taken in
+    (made .packed .long, record { long = refl; at = λ i h. ruled-none q (a .from) (a .right) (chainOf (a .t .now) i) (a .to - a .from) (getD (a .out .now) i 0) z; rest = refl })
+
+array-write-st : tie.Need-array-write-st Inv-loop μ-loop
+array-write-st c = omega arith
+
+loop-holds : tie.Need-loop-holds Inv-loop μ-loop
+loop-holds c =
+    let a = c .before .before .before .before .before .before .before .before .before .before .before .before .args in
+    let q = laneAt (a .policy .now) (a .u) (a .roles .now) (a .right) in
+    (omega arith, refl, refl, (λ j h. absurd (omega arith)), refl, levels-start (laid q (a .from) (a .to - a .from)) (firsts q (a .from) (a .to - a .from)) _ (a .t .now) (c .before .before .before .before .make-group .ensures .start-is))
+
+mul-wide : tie.Need-mul-wide Inv-loop μ-loop
+mul-wide c = omega (arith, c .before .before .before .before .before .before .before .before .before .before .before .before .before .before .pre .6 .few)
+
+add-wide : tie.Need-add-wide Inv-loop μ-loop
+add-wide c = omega (arith, c .before .before .before .before .before .before .before .before .before .before .before .before .before .before .pre .6 .few)
+
+shared-slice-read-wide : tie.Need-shared-slice-read-wide Inv-loop μ-loop
+shared-slice-read-wide c = omega (arith, c .before .before .before .before .before .before .before .before .before .before .before .before .before .before .before .pre .6 .room)
+
+wide-requires : tie.Need-wide-requires Inv-loop μ-loop
+wide-requires c κs = tt
+
+mul-wide-number : tie.Need-mul-wide-number Inv-loop μ-loop
+mul-wide-number c = omega (arith, c .before .before .before .before .before .before .before .before .before .before .before .before .before .before .before .before .pre .6 .few)
+
+shared-slice-read-wide-number : tie.Need-shared-slice-read-wide-number Inv-loop μ-loop
+shared-slice-read-wide-number c = omega (arith, c .before .before .before .before .before .before .before .before .before .before .before .before .before .before .before .before .before .pre .6 .long)
+
+wide-number-requires : tie.Need-wide-number-requires Inv-loop μ-loop
+wide-number-requires c κs = tt
+
+mul-next-states : tie.Need-mul-next-states Inv-loop μ-loop
+mul-next-states c =
+    let a = c .before .before .before .before .before .before .before .before .before .before .before .before .before .before .before .before .before .before .args in
+    let g = c .before .before .before .before .before .before .before .before .before .before .before .before .before .before .before .before .before .before .pre in
+    let i = c .before .before .before .before .before .loop .i in
+    omega (arith, c .wide-number .ensures, g .6 .at i (c .before .before .before .before .loop-test .taken), number-low (wordAt (a .policy .now) (a .words .now)) (a .count) (label (recordAt (a .t .now) i)), g .0 .sorted .words .few, c .before .before .before .before .before .before .before .before .before .before .make-group .ensures .packed .long)
+
+slice-read-next-states : tie.Need-slice-read-next-states Inv-loop μ-loop
+slice-read-next-states c =
+    let a = c .before .before .before .before .before .before .before .before .before .before .before .before .before .before .before .before .before .before .before .args in
+    let g = c .before .before .before .before .before .before .before .before .before .before .before .before .before .before .before .before .before .before .before .pre in
+    let i = c .before .before .before .before .before .before .loop .i in
+    omega (arith, c .before .wide-number .ensures, g .6 .at i (c .before .before .before .before .before .loop-test .taken), number-low (wordAt (a .policy .now) (a .words .now)) (a .count) (label (recordAt (a .t .now) i)), g .0 .sorted .words .few, c .before .before .before .before .before .before .before .before .before .before .before .make-group .ensures .packed .long)
+
+mul-next-states-2 : tie.Need-mul-next-states-2 Inv-loop μ-loop
+mul-next-states-2 c =
+    let a = c .before .before .before .before .before .before .before .before .before .before .before .before .before .before .before .before .before .before .before .args in
+    omega (arith, c .before .before .before .wide .ensures, low-byte (a .t .now) (a .n) (c .before .before .before .before .before .before .loop .i) (c .before .before .before .before .before .before .before .before .before .before .before .before .before .before .before .before .before .before .before .pre .6 .records) (c .before .before .before .before .before .loop-test .taken))
+
+array-read-next-states : tie.Need-array-read-next-states Inv-loop μ-loop
+array-read-next-states c =
+    let a = c .before .before .before .before .before .before .before .before .before .before .before .before .before .before .before .before .before .before .before .args in
+    omega (arith, c .before .before .before .wide .ensures, low-byte (a .t .now) (a .n) (c .before .before .before .before .before .before .loop .i) (c .before .before .before .before .before .before .before .before .before .before .before .before .before .before .before .before .before .before .before .pre .6 .records) (c .before .before .before .before .before .loop-test .taken))
+
+next-states-requires : tie.Need-next-states-requires Inv-loop μ-loop
+next-states-requires c κs = tt
+
+add-st : tie.Need-add-st Inv-loop μ-loop
+add-st c =
+    let a = c .before .before .before .before .before .before .before .before .before .before .before .before .before .before .before .before .before .before .before .before .args in
+    omega (arith, c .before .before .before .before .wide .ensures, low-byte (a .t .now) (a .n) (c .before .before .before .before .before .before .before .loop .i) (c .before .before .before .before .before .before .before .before .before .before .before .before .before .before .before .before .before .before .before .before .pre .6 .records) (c .before .before .before .before .before .before .loop-test .taken))
+
+mul-st : tie.Need-mul-st Inv-loop μ-loop
+mul-st c =
+    let a = c .before .before .before .before .before .before .before .before .before .before .before .before .before .before .before .before .before .before .before .before .args in
+    omega (arith, c .before .before .before .before .wide .ensures, low-byte (a .t .now) (a .n) (c .before .before .before .before .before .before .before .loop .i) (c .before .before .before .before .before .before .before .before .before .before .before .before .before .before .before .before .before .before .before .before .pre .6 .records) (c .before .before .before .before .before .before .loop-test .taken))
+
+array-write-st-2 : tie.Need-array-write-st-2 Inv-loop μ-loop
+array-write-st-2 c =
+    let a = c .before .before .before .before .before .before .before .before .before .before .before .before .before .before .before .before .before .before .before .before .args in
+    omega (arith, c .before .before .before .before .wide .ensures, low-byte (a .t .now) (a .n) (c .before .before .before .before .before .before .before .loop .i) (c .before .before .before .before .before .before .before .before .before .before .before .before .before .before .before .before .before .before .before .before .pre .6 .records) (c .before .before .before .before .before .before .loop-test .taken))
+
+slice-read-settle : tie.Need-slice-read-settle Inv-loop μ-loop
+slice-read-settle c = omega (arith, c .before .before .before .before .before .before .before .before .before .before .before .before .before .before .before .before .before .before .before .before .before .pre .7)
+
+settle-requires : tie.Need-settle-requires Inv-loop μ-loop
+settle-requires c κs = tt
+
+slice-write-out : tie.Need-slice-write-out Inv-loop μ-loop
+slice-write-out c = omega (arith, c .before .before .before .before .before .before .before .before .before .before .before .before .before .before .before .before .before .before .before .before .before .before .pre .7)
+
+add-i : tie.Need-add-i Inv-loop μ-loop
+add-i c = omega (arith, c .before .before .before .before .before .before .before .before .before .before .before .before .before .before .before .before .before .before .before .before .before .before .pre .6 .few)
+
+loop-less : tie.Need-loop-less Inv-loop μ-loop
+loop-less c = omega arith
+
+loop-again : tie.Need-loop-again Inv-loop μ-loop
+loop-again c =
+    let a = c .before .before .before .before .before .before .before .before .before .before .before .before .before .before .before .before .before .before .before .before .before .before .args in
+    let g = c .before .before .before .before .before .before .before .before .before .before .before .before .before .before .before .before .before .before .before .before .before .before .pre in
+    let l = c .before .before .before .before .before .before .before .before .before .loop in
+    let h = c .before .before .before .before .before .before .before .before .loop-test .taken in
+    let made = c .before .before .before .before .before .before .before .before .before .before .before .before .before .before .make-group .ensures in
+    let p = a .policy .now in
+    let t = a .t .now in
+    let q = laneAt p (a .u) (a .roles .now) (a .right) in
+    let ss = laid q (a .from) (a .to - a .from) in
+    let s = firsts q (a .from) (a .to - a .from) in
+    let m = c .before .before .next-states .result in
+    let x = label (recordAt t (l .i)) in
+    let w = chain-step ss s t (l .i) (c .before .before .before .before .before .before .wide .result) m (l .st) (c .before .before .before .before .before .before .wide .ensures) (fit t (a .n) (l .i) (g .6 .records) h) (low-level t (a .n) (l .i) (g .6 .records) h) (l .inv .4) (l .inv .5)
+    (λ b e. c .before .before .next-states .ensures (numberIn p (a .words .now) (a .count)) ss b _ x (made .packed) (g .4) (row-at (made .packed) (c .before .before .before .before .wide-number .result) x (c .before .before .before .before .wide-number .ensures ∙ g .6 .at (l .i) h)) e) in
+    let v = c .settle .ensures .0 ∙ sym (made .says m (getD (l .out) (l .i) 0) (chainOf t (l .i)) (c .settle .ensures .1) (agree q (a .from) (a .to - a .from) m (chainOf t (l .i)) (w .0))) in (
+      omega arith,
+      simp length-set (l .inv .1),
+      drop-more (a .out .now) (l .out) (l .i) (l .inv .2) _,
+      done-more (a .out .now) (l .out) (l .i) (l .inv .2) (λ (j x : ℕ). ruled q (a .right) (chainOf t j) (a .from) (a .to - a .from) x) _ (omega arith) (l .inv .3) v,
+      simp length-set (l .inv .4),
+      rw add-one (w .1),
+    )
+
+same-length-2 : tie.Need-same-length-2 Inv-loop μ-loop
+same-length-2 c = c .before .before .before .before .before .before .make-group .ensures .packed .long ∙ sym (c .before .before .before .before .before .before .before .before .before .before .before .before .before .before .pre .5)
+
+same-length-3 : tie.Need-same-length-3 Inv-loop μ-loop
+same-length-3 c = c .before .loop .inv .1
+
+returns-2 : tie.Need-returns-2 Inv-loop μ-loop
+returns-2 c =
+    let l = c .before .loop in
+    let e : l .i ≡ c .before .before .before .before .before .before .before .before .before .before .before .before .before .before .args .n = omega arith in
+    (c .before .before .before .before .before .before .make-group .ensures .packed .long, record { long = l .inv .1; at = rw e at (l .inv .3); rest = rw e at (l .inv .2) })
+
+pub try-group-spec : {M : Type 1} → statement M
+try-group-spec =
+    tie.close
+    (tie.spec
+    Inv-loop
+    μ-loop
+    make-group-requires
+    same-length
+    returns
+    array-write-st
+    loop-holds
+    mul-wide
+    add-wide
+    shared-slice-read-wide
+    wide-requires
+    mul-wide-number
+    shared-slice-read-wide-number
+    wide-number-requires
+    mul-next-states
+    slice-read-next-states
+    mul-next-states-2
+    array-read-next-states
+    next-states-requires
+    add-st
+    mul-st
+    array-write-st-2
+    slice-read-settle
+    settle-requires
+    slice-write-out
+    add-i
+    loop-less
+    loop-again
+    same-length-2
+    same-length-3
+    returns-2)

@@ -1,0 +1,87 @@
+use Rattle.rights.proofs.FiveRights.{ruled-add}
+use Rattle.rights.proofs.Eaches.{each-then, each-alike}
+use Rattle.rights.specs.Groups.{laneAt, ruled}
+use Rattle.rights.specs.Automaton.{chainOf, Each}
+use Rattle.rights.specs.PolicyBytes.{ruleCount}
+use lib.ListN.{length}
+use Prim.Native.Nat.{ℕ, _+_, _-_, _≤_}
+use native.Mathlib.Omega.{arith}
+use mathlib.Core.Path.{_≡_, refl, sym, _∙_, ap}
+use Rattle.rights.proofs.groups.try_right.Statement.{statement}
+use Rattle.rights.proofs.groups.try_right.Tie as tie
+
+abbrev Inv-loop : tie.InvT-loop
+Inv-loop policy u words count roles right t n numbers rows₀ out₀ rules k₀ rows out k =
+    (k ≤ rules) × (length rows ≡ 2050) × Each n out₀ out (λ (i x : ℕ). ruled (laneAt policy u roles right) right (chainOf t i) 0 k x)
+
+abbrev μ-loop : tie.MeasureT-loop
+μ-loop policy u words count roles right t n numbers rows₀ out₀ rules k₀ rows out k = rules - k
+
+shared-slice-read-wide : tie.Need-shared-slice-read-wide Inv-loop μ-loop
+shared-slice-read-wide c = omega (arith, c .before .before .before .before .before .before .before .pre .0 .sound .size)
+
+wide-requires : tie.Need-wide-requires Inv-loop μ-loop
+wide-requires c κs = tt
+
+loop-holds : tie.Need-loop-holds Inv-loop μ-loop
+loop-holds c = (omega arith, c .before .before .before .before .before .before .before .before .pre .2, unfold ruled in record { long = refl; at = λ i h. refl; rest = refl })
+
+group-end-requires : tie.Need-group-end-requires Inv-loop μ-loop
+group-end-requires c κs = (c .before .before .before .before .before .before .before .before .before .before .pre .0 .sound, c .before .before .wide .ensures, omega arith)
+
+try-group-requires : tie.Need-try-group-requires Inv-loop μ-loop
+try-group-requires c κs =
+    let g = c .before .before .before .before .before .before .before .before .before .before .before .before .before .pre in
+    let l = c .before .before .before .before .loop in
+    let e = c .before .before .group-end .ensures in
+    (g .0, omega (arith, e .0), omega (arith, e .1, c .before .before .before .before .before .wide .ensures), g .1, e .2, l .inv .1, g .3, omega (arith, l .inv .2 .long, g .4))
+
+loop-less : tie.Need-loop-less Inv-loop μ-loop
+loop-less c = omega (arith, c .before .before .before .before .before .before .before .group-end .ensures .0, c .before .before .before .before .before .before .before .group-end .ensures .1)
+
+loop-again : tie.Need-loop-again Inv-loop μ-loop
+loop-again c =
+    let a = c .before .before .before .before .before .before .before .before .before .before .before .before .before .before .before .before .before .before .args in
+    let l = c .before .before .before .before .before .before .before .before .before .loop in
+    let to = c .before .before .before .before .before .before .before .group-end .result in
+    let r = c .before .before .before .before .try-group .ensures in
+    let q = laneAt (a .policy .now) (a .u) (a .roles .now) (a .right) in
+    let z : l .k + (to - l .k) ≡ to = omega (arith, c .before .before .before .before .before .before .before .group-end .ensures .0) in (
+      omega (arith, c .before .before .before .before .before .before .before .group-end .ensures .1),
+      r .0,
+      each-alike (a .n) _ _
+          (λ (i x : ℕ). ruled q (a .right) (chainOf (a .t .now) i) (l .k) (to - l .k) (ruled q (a .right) (chainOf (a .t .now) i) 0 (l .k) x))
+          (λ (i x : ℕ). ruled q (a .right) (chainOf (a .t .now) i) 0 to x)
+          (λ i x. sym (ruled-add q (a .right) (chainOf (a .t .now) i) (l .k) (to - l .k) x) ∙ ap (λ (j : ℕ). ruled q (a .right) (chainOf (a .t .now) i) 0 j x) z)
+          (each-then (a .n) _ _ _ _ _ (l .inv .2) (r .1)),
+    )
+
+same-length : tie.Need-same-length Inv-loop μ-loop
+same-length c = c .before .loop .inv .1 ∙ sym (c .before .before .before .before .before .before .before .before .before .before .pre .2)
+
+same-length-2 : tie.Need-same-length-2 Inv-loop μ-loop
+same-length-2 c = c .before .loop .inv .2 .long
+
+returns : tie.Need-returns Inv-loop μ-loop
+returns c =
+    let a = c .before .before .before .before .before .before .before .before .before .before .args in
+    let l = c .before .loop in
+    let e : l .k ≡ ruleCount (a .policy .now) = omega (arith, c .before .before .wide .ensures) in
+    (l .inv .1, rw e at (l .inv .2))
+
+pub try-right-spec : {M : Type 1} → statement M
+try-right-spec =
+    tie.close
+    (tie.spec
+    Inv-loop
+    μ-loop
+    shared-slice-read-wide
+    wide-requires
+    loop-holds
+    group-end-requires
+    try-group-requires
+    loop-less
+    loop-again
+    same-length
+    same-length-2
+    returns)

@@ -1,0 +1,40 @@
+use Rattle.rights.proofs.GroupLaws.{lane-added, group-skip}
+use Rattle.rights.specs.Vocabulary.{numberIn}
+use Rattle.rights.specs.Groups.{laneAt}
+use Prim.Native.Nat.{ℕ}
+use native.Mathlib.Omega.{arith}
+use mathlib.Core.Path.{sym, _∙_, ap}
+use borrow.Author.Needs.{needs}
+use Rattle.rights.proofs.groups.with_lane.Statement.{statement}
+use Rattle.rights.proofs.groups.with_lane.Tie as tie
+
+counts-requires : tie.Need-counts-requires
+counts-requires c κs = search needs
+
+with-rule-requires : tie.Need-with-rule-requires
+with-rule-requires c κs =
+    let g = c .before .before .before .before .before .before .pre in
+    (g .0, g .1, omega (arith, rw (sym (c .before .before .counts .ensures) ∙ c .before .if1 .taken) at (g .3)), g .4)
+
+same-length : tie.Need-same-length
+same-length c = search needs
+
+returns : tie.Need-returns
+returns c =
+    let a = c .before .before .before .before .before .before .before .before .before .args in
+    let r = c .before .before .with-rule .ensures in (
+      (λ i size z g. lane-added (numberIn (a .policy .now) (a .words .now) (a .n)) (a .policy .now) (a .u) (a .roles .now) (a .right) (c .before .before .before .before .before .before .before .before .before .pre .2) i size (a .k) z (sym (c .before .before .before .before .before .counts .ensures) ∙ c .before .before .before .before .if1 .taken) _ _ _ _ _ _ _ _ _ _ _ _ _ _ g (r .0) (r .1) (r .2) (r .3) (r .4)),
+      r .5,
+    )
+
+returns-2 : tie.Need-returns-2
+returns-2 c =
+    let a = c .before .before .before .before .before .args in
+    let q = laneAt (a .policy .now) (a .u) (a .roles .now) (a .right) in (
+      (λ i size z g. group-skip (numberIn (a .policy .now) (a .words .now) (a .n)) q (a .right) i size _ _ _ _ _ _ _ g (ap (λ (m : ℕ). q m .on) z ∙ sym (c .before .counts .ensures) ∙ c .if1 .left)),
+      c .before .before .before .before .before .pre .4,
+    )
+
+pub with-lane-spec : {M : Type 1} → statement M
+with-lane-spec =
+    tie.close (tie.spec counts-requires with-rule-requires same-length returns returns-2)

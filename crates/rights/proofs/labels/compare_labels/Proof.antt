@@ -1,0 +1,92 @@
+-- The lengths are equal and so are the k bytes compared so far, so what is left decides.
+use Prim.Native.Nat.{_+_, _-_, _≤_}
+use mathlib.Core.Bool.{cond}
+use mathlib.Core.Path.{_≡_, refl, sym, _∙_}
+use native.Mathlib.Omega.{arith}
+use lib.Dec.{ltb}
+use lib.ListN.{take, drop, getD}
+use borrow.Author.Needs.{needs}
+use borrow.Author.Tests.{le-ltb}
+use Rattle.rights.specs.Vocabulary.{labelOrder}
+use Rattle.rights.proofs.Lists.{byCase}
+use Rattle.rights.proofs.LabelLaws.{rest, rest-none, rest-stop, rest-next, longer, shorter, level-with}
+use Rattle.rights.proofs.labels.compare_labels.Statement.{statement}
+use Rattle.rights.proofs.labels.compare_labels.Tie as tie
+
+abbrev Inv-loop : tie.InvT-loop
+Inv-loop a i m b j n k₀ k = (k ≤ m) × (m ≡ n) × (labelOrder (take m (drop i a)) (take n (drop j b)) ≡ rest a b i j n k)
+
+abbrev μ-loop : tie.MeasureT-loop
+μ-loop a i m b j n k₀ k = m - k
+
+returns : tie.Need-returns Inv-loop μ-loop
+returns c = let a = c .before .before .before .args in sym (longer (a .a .now) (a .b .now) (a .i) (a .j) (a .m) (a .n) (omega arith) (omega arith) (omega arith))
+
+returns-2 : tie.Need-returns-2 Inv-loop μ-loop
+returns-2 c = let a = c .before .before .before .before .args in sym (shorter (a .a .now) (a .b .now) (a .i) (a .j) (a .m) (a .n) (omega arith) (omega arith) (omega arith))
+
+loop-holds : tie.Need-loop-holds Inv-loop μ-loop
+loop-holds c =
+    let a = c .before .before .before .before .args in
+    let e : a .m ≡ a .n = omega arith in
+    (omega arith, e, level-with (a .a .now) (a .b .now) (a .i) (a .j) (a .m) (a .n) (omega arith) (omega arith) e)
+
+add-x : tie.Need-add-x Inv-loop μ-loop
+add-x c = search needs
+
+shared-slice-read-x : tie.Need-shared-slice-read-x Inv-loop μ-loop
+shared-slice-read-x c = search needs
+
+add-y : tie.Need-add-y Inv-loop μ-loop
+add-y c = search needs
+
+shared-slice-read-y : tie.Need-shared-slice-read-y Inv-loop μ-loop
+shared-slice-read-y c = search needs
+
+byte-order-requires : tie.Need-byte-order-requires Inv-loop μ-loop
+byte-order-requires c κs = search needs
+
+returns-3 : tie.Need-returns-3 Inv-loop μ-loop
+returns-3 c =
+    let a = c .before .before .before .before .before .before .before .before .before .before .args in
+    let l = c .before .before .before .before .before .loop in
+    c .byte-order .ensures
+    ∙ sym (l .inv .2 ∙ rest-stop (a .a .now) (a .b .now) (a .i) (a .j) (a .n) (l .k) (omega arith) (omega arith) (omega arith) (c .before .if3 .taken))
+
+add-k : tie.Need-add-k Inv-loop μ-loop
+add-k c = search needs
+
+loop-less : tie.Need-loop-less Inv-loop μ-loop
+loop-less c = search needs
+
+loop-again : tie.Need-loop-again Inv-loop μ-loop
+loop-again c =
+    let a = c .before .before .before .before .before .before .before .before .before .args in
+    let l = c .before .before .before .before .loop in
+    (omega arith, l .inv .1, l .inv .2 ∙ rest-next (a .a .now) (a .b .now) (a .i) (a .j) (a .n) (l .k) (omega arith) (omega arith) (omega arith) (c .if3 .left))
+
+returns-4 : tie.Need-returns-4 Inv-loop μ-loop
+returns-4 c =
+    let a = c .before .before .before .before .before .before .args in
+    let l = c .before .loop in
+    sym (l .inv .2 ∙ rest-none (a .a .now) (a .b .now) (a .i) (a .j) (a .n) (l .k) (omega arith))
+
+pub compare-labels-spec : {M : Type 1} → statement M
+compare-labels-spec =
+    tie.close
+    (tie.spec
+    Inv-loop
+    μ-loop
+    returns
+    returns-2
+    loop-holds
+    add-x
+    shared-slice-read-x
+    add-y
+    shared-slice-read-y
+    byte-order-requires
+    returns-3
+    add-k
+    loop-less
+    loop-again
+    returns-4)

@@ -1,0 +1,72 @@
+use native.Mathlib.Omega.{arith}
+use Prim.Native.Nat.{_+_}
+use mathlib.Core.Path.{sym, _∙_, subst}
+use Rattle.rights.specs.Table.{recAt, label}
+use Rattle.rights.specs.Vocabulary.{wordAt, Stands}
+use Rattle.rights.proofs.LabelLaws.{order-same}
+use Rattle.rights.proofs.VocabularyLaws.{grown-none, grown-more, new-there, number-there}
+use borrow.Author.Needs.{needs}
+use Rattle.rights.proofs.vocabulary.add_word.Statement.{statement}
+use Rattle.rights.proofs.vocabulary.add_word.Tie as tie
+
+search-requires : tie.Need-search-requires
+search-requires c κs = search needs
+
+enum-known-i : tie.Need-enum-known-i
+enum-known-i c = search needs
+
+enum-told : tie.Need-enum-told
+enum-told c = search needs
+
+same-length : tie.Need-same-length
+same-length c = search needs
+
+returns : tie.Need-returns
+returns c =
+    let a = c .before .before .before .before .before .before .args in
+    let g = c .before .before .before .before .before .before .pre in
+    let p = a .policy .now in
+    let f = wordAt p (a .words .now) in
+    let x = label (recAt p (a .at)) in
+    let s = subst (Stands f (a .n) x) (c .enum-told .given .1) (c .before .before .search .ensures) in
+    (grown-none p (a .words .now) (a .n) (g .0), omega arith, number-there f (a .n) _ x (s .0) (order-same _ x (s .1)))
+
+insert-word-requires : tie.Need-insert-word-requires
+insert-word-requires c κs =
+    let a = c .before .before .before .before .before .before .before .before .args in
+    let g = c .before .before .before .before .before .before .before .before .pre in
+    let p = a .policy .now in
+    let s = subst (Stands (wordAt p (a .words .now)) (a .n) (label (recAt p (a .at)))) (c .before .before .i .given .1) (c .before .before .before .before .search .ensures) in
+    (s .0, omega (arith, g .0 .long), g .3)
+
+add-result : tie.Need-add-result
+add-result c = search needs
+
+same-length-2 : tie.Need-same-length-2
+same-length-2 c = search needs
+
+returns-2 : tie.Need-returns-2
+returns-2 c =
+    let a = c .before .before .before .before .before .before .before .before .before .before .before .args in
+    let g = c .before .before .before .before .before .before .before .before .before .before .before .pre in
+    let p = a .policy .now in
+    let s = subst (Stands (wordAt p (a .words .now)) (a .n) (label (recAt p (a .at)))) (c .before .before .before .before .before .i .given .1) (c .before .before .before .before .before .before .before .search .ensures) in
+    let put = c .before .before .insert-word .ensures in (
+      grown-more p (a .words .now) _ (a .n) _ (a .at) (g .0) (g .1) (g .2) put (s .0) (s .1) (s .2),
+      omega arith,
+      new-there p (a .words .now) _ (a .n) _ (a .at) (g .0) (g .1) (g .2) put (s .0) (s .1) (s .2),
+    )
+
+pub add-word-spec : {M : Type 1} → statement M
+add-word-spec =
+    tie.close
+    (tie.spec
+    search-requires
+    enum-known-i
+    enum-told
+    same-length
+    returns
+    insert-word-requires
+    add-result
+    same-length-2
+    returns-2)

@@ -1,0 +1,85 @@
+use Rattle.rights.specs.PolicyBytes.{Text}
+use Rattle.rights.specs.Table.{recAt, label}
+use mathlib.Core.Path.{_≡_, sym, ap, subst}
+use lib.ListN.{getD}
+use Rattle.rights.specs.Vocabulary.{labelOrder}
+use Rattle.rights.proofs.Texts.{text-eq}
+use lib.ListN.{take, drop}
+use Prim.Native.Nat.{ℕ, _+_}
+use native.Mathlib.Omega.{arith}
+use mathlib.Core.Path.{refl, _∙_, ap₂}
+use borrow.Author.Needs.{needs}
+use Rattle.rights.proofs.vocabulary.compare_word.Statement.{statement}
+use Rattle.rights.proofs.vocabulary.compare_word.Tie as tie
+
+mul-wide-place : tie.Need-mul-wide-place
+mul-wide-place c = search needs
+
+shared-slice-read-wide-place : tie.Need-shared-slice-read-wide-place
+shared-slice-read-wide-place c = search needs
+
+wide-place-requires : tie.Need-wide-place-requires
+wide-place-requires c κs = search needs
+
+add-wide : tie.Need-add-wide
+add-wide c = search needs
+
+shared-slice-read-wide : tie.Need-shared-slice-read-wide
+shared-slice-read-wide c = search needs
+
+wide-requires : tie.Need-wide-requires
+wide-requires c κs = search needs
+
+add-wide-2 : tie.Need-add-wide-2
+add-wide-2 c = search needs
+
+shared-slice-read-wide-2 : tie.Need-shared-slice-read-wide-2
+shared-slice-read-wide-2 c = search needs
+
+wide-requires-2 : tie.Need-wide-requires-2
+wide-requires-2 c κs = search needs
+
+add-compare-labels : tie.Need-add-compare-labels
+add-compare-labels c = search needs
+
+add-compare-labels-2 : tie.Need-add-compare-labels-2
+add-compare-labels-2 c = search needs
+
+compare-labels-requires : tie.Need-compare-labels-requires
+compare-labels-requires c κs =
+    let a = c .before .before .before .before .before .before .before .before .before .args in
+    let g = c .before .before .before .before .before .before .before .before .before .pre in
+    let p = a .policy .now in
+    let at = c .before .before .before .before .wide-place .result in
+    let x : Text p at = subst (Text p) (sym (c .before .before .before .before .wide-place .ensures)) (g .1) in
+    let m : c .before .before .wide .result ≡ getD p (at + 1) 0 = c .before .before .wide .ensures in
+    (omega (arith, m, x .room, x .short), omega (arith, c .wide2 .ensures, g .2 .room, g .2 .short))
+
+returns : tie.Need-returns
+returns c =
+    let a = c .before .before .before .before .before .before .before .before .before .before .args in
+    let g = c .before .before .before .before .before .before .before .before .before .before .pre in
+    let p = a .policy .now in
+    let e = c .before .before .before .before .before .wide-place .ensures in
+    let at = c .before .before .before .before .before .wide-place .result in
+    let x : Text p at = subst (Text p) (sym e) (g .1) in
+    c .compare-labels .ensures
+    ∙ ap₂ labelOrder (text-eq p at x _ (c .before .before .before .wide .ensures) ∙ ap (λ (k : ℕ). label (recAt p k)) e) (text-eq _ _ (g .2) _ (c .before .wide2 .ensures))
+
+pub compare-word-spec : {M : Type 1} → statement M
+compare-word-spec =
+    tie.close
+    (tie.spec
+    mul-wide-place
+    shared-slice-read-wide-place
+    wide-place-requires
+    add-wide
+    shared-slice-read-wide
+    wide-requires
+    add-wide-2
+    shared-slice-read-wide-2
+    wide-requires-2
+    add-compare-labels
+    add-compare-labels-2
+    compare-labels-requires
+    returns)

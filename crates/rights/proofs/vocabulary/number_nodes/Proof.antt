@@ -1,0 +1,89 @@
+use Prim.Native.Nat.{ℕ, _-_, _≤_}
+use mathlib.Core.Path.{_≡_, refl, _∙_}
+use native.Mathlib.Omega.{arith}
+use lib.ListN.{length, drop, length-set}
+use Rattle.rights.specs.Table.{recordAt, label}
+use Rattle.rights.specs.Vocabulary.{numberIn}
+use Rattle.rights.proofs.Chains.{record-text}
+use Rattle.rights.proofs.Eaches.{Done, done-more, drop-more}
+use Rattle.rights.proofs.vocabulary.number_nodes.Statement.{statement}
+use Rattle.rights.proofs.vocabulary.number_nodes.Tie as tie
+
+abbrev Inv-loop : tie.InvT-loop
+Inv-loop policy words count t n numbers₀ i₀ numbers i =
+    (i ≤ n)
+    × (length numbers ≡ length numbers₀)
+    × (drop i numbers ≡ drop i numbers₀)
+    × Done (λ (q x : ℕ). numberIn policy words count (label (recordAt t q))) numbers₀ numbers i
+
+abbrev μ-loop : tie.MeasureT-loop
+μ-loop policy words count t n numbers₀ i₀ numbers i = n - i
+
+loop-holds : tie.Need-loop-holds Inv-loop μ-loop
+loop-holds c = (omega arith, refl, refl, λ q h. absurd (omega arith))
+
+mul-number-of : tie.Need-mul-number-of Inv-loop μ-loop
+mul-number-of c = omega arith
+
+add-number-of : tie.Need-add-number-of Inv-loop μ-loop
+add-number-of c = omega arith
+
+number-of-requires : tie.Need-number-of-requires Inv-loop μ-loop
+number-of-requires c κs =
+    let a = c .before .before .before .before .before .before .args in
+    let g = c .before .before .before .before .before .before .pre in
+    (g .0, record-text (a .t .now) (a .n) (c .before .loop .i) (g .2) (c .loop-test .taken) (g .1))
+
+narrow-requires : tie.Need-narrow-requires Inv-loop μ-loop
+narrow-requires c κs = omega (arith, c .number-of .ensures .1, c .before .before .before .before .before .before .before .pre .0 .few)
+
+mul-numbers : tie.Need-mul-numbers Inv-loop μ-loop
+mul-numbers c = omega arith
+
+slice-write-numbers : tie.Need-slice-write-numbers Inv-loop μ-loop
+slice-write-numbers c = omega arith
+
+add-i : tie.Need-add-i Inv-loop μ-loop
+add-i c = omega arith
+
+loop-less : tie.Need-loop-less Inv-loop μ-loop
+loop-less c = omega arith
+
+loop-again : tie.Need-loop-again Inv-loop μ-loop
+loop-again c =
+    let a = c .before .before .before .before .before .before .before .before .args in
+    let l = c .before .before .before .loop in (
+      omega arith,
+      simp length-set (l .inv .1),
+      drop-more (a .numbers .now) (l .numbers) (l .i) (l .inv .2) _,
+      done-more (a .numbers .now) (l .numbers) (l .i) (l .inv .2) (λ (q x : ℕ). numberIn (a .policy .now) (a .words .now) (a .count) (label (recordAt (a .t .now) q))) _ (omega arith) (l .inv .3)
+          (c .narrow .ensures ∙ c .before .number-of .ensures .0),
+    )
+
+same-length : tie.Need-same-length Inv-loop μ-loop
+same-length c = c .before .loop .inv .1
+
+returns : tie.Need-returns Inv-loop μ-loop
+returns c =
+    let l = c .before .loop in
+    let e : l .i ≡ c .before .before .before .before .before .before .args .n = omega arith in
+    record { long = l .inv .1; at = rw e at (l .inv .3); rest = rw e at (l .inv .2) }
+
+pub number-nodes-spec : {M : Type 1} → statement M
+number-nodes-spec =
+    tie.close
+    (tie.spec
+    Inv-loop
+    μ-loop
+    loop-holds
+    mul-number-of
+    add-number-of
+    number-of-requires
+    narrow-requires
+    mul-numbers
+    slice-write-numbers
+    add-i
+    loop-less
+    loop-again
+    same-length
+    returns)

@@ -1,0 +1,50 @@
+use Prim.Native.Nat.{_+_}
+use mathlib.Core.Path.{_∙_, subst}
+use native.Mathlib.Numerals.{add-one}
+use Rattle.rights.specs.Vocabulary.{Stands}
+use native.Mathlib.Omega.{arith}
+use mathlib.Core.Path.{sym}
+use Rattle.rights.specs.Table.{recAt, label}
+use Rattle.rights.specs.Vocabulary.{wordAt}
+use Rattle.rights.proofs.VocabularyLaws.{number-found, number-missing}
+use borrow.Author.Needs.{needs}
+use Rattle.rights.proofs.vocabulary.number_of.Statement.{statement}
+use Rattle.rights.proofs.vocabulary.number_of.Tie as tie
+
+search-requires : tie.Need-search-requires
+search-requires c κs = search needs
+
+enum-known-i : tie.Need-enum-known-i
+enum-known-i c = search needs
+
+enum-told : tie.Need-enum-told
+enum-told c = search needs
+
+returns : tie.Need-returns
+returns c =
+    let a = c .before .before .before .before .before .before .args in
+    let g = c .before .before .before .before .before .before .pre in
+    let f = wordAt (a .policy .now) (a .words .now) in
+    let x = label (recAt (a .s .now) (a .at)) in
+    let s = subst (Stands f (a .n) x) (c .enum-told .given .1) (c .before .before .search .ensures) in
+    (sym (number-missing f (a .n) (g .0 .sorted) x _ (s .1) (s .2)), omega arith)
+
+add-result : tie.Need-add-result
+add-result c =
+    let a = c .before .before .before .before .before .before .before .args in
+    let g = c .before .before .before .before .before .before .before .pre in
+    let s = subst (Stands (wordAt (a .policy .now) (a .words .now)) (a .n) (label (recAt (a .s .now) (a .at)))) (c .before .i .given .1) (c .before .before .before .search .ensures) in
+    omega (arith, s .0, g .0 .few)
+
+returns-2 : tie.Need-returns-2
+returns-2 c =
+    let a = c .before .before .before .before .before .before .before .args in
+    let g = c .before .before .before .before .before .before .before .pre in
+    let f = wordAt (a .policy .now) (a .words .now) in
+    let x = label (recAt (a .s .now) (a .at)) in
+    let s = subst (Stands f (a .n) x) (c .before .i .given .1) (c .before .before .before .search .ensures) in
+    (add-one _ ∙ sym (number-found f (a .n) (g .0 .sorted) x _ (s .0) (s .1)), omega (arith, s .0))
+
+pub number-of-spec : {M : Type 1} → statement M
+number-of-spec =
+    tie.close (tie.spec search-requires enum-known-i enum-told returns add-result returns-2)

@@ -1,0 +1,92 @@
+use Prim.Native.Nat.{ℕ, _+_, _-_, _/_, _≤_, _<_}
+use mathlib.Core.Path.{_≡_, sym, _∙_}
+use native.Mathlib.Omega.{arith}
+use borrow.Author.Tests.{eqb-true, eqb-false}
+use lib.Dec.{eqb}
+use Rattle.rights.specs.Table.{recAt, label}
+use Rattle.rights.specs.Vocabulary.{labelOrder, wordAt}
+use Rattle.rights.proofs.Lists.{byCase}
+use Rattle.rights.proofs.VocabularyLaws.{low-raised, high-lowered, order-most, halved}
+-- The words before `low` stand before the label, and those from `high` on behind it.
+use Rattle.rights.proofs.vocabulary.search.Statement.{statement}
+use Rattle.rights.proofs.vocabulary.search.Tie as tie
+
+abbrev Inv-loop : tie.InvT-loop
+Inv-loop policy words n s at low₀ high₀ low high =
+    (low ≤ high)
+    × (high ≤ n)
+    × ((j : ℕ) → j < low → labelOrder (wordAt policy words j) (label (recAt s at)) ≡ 0)
+    × ((j : ℕ) → high ≤ j → j < n → labelOrder (wordAt policy words j) (label (recAt s at)) ≡ 2)
+
+abbrev μ-loop : tie.MeasureT-loop
+μ-loop policy words n s at low₀ high₀ low high = high - low
+
+loop-holds : tie.Need-loop-holds Inv-loop μ-loop
+loop-holds c = (omega arith, omega arith, (λ j h. absurd (omega arith)), λ j h l. absurd (omega arith))
+
+sub-middle : tie.Need-sub-middle Inv-loop μ-loop
+sub-middle c = omega arith
+
+add-middle : tie.Need-add-middle Inv-loop μ-loop
+add-middle c = omega (arith, c .before .before .before .before .before .pre .0 .few)
+
+compare-word-requires : tie.Need-compare-word-requires Inv-loop μ-loop
+compare-word-requires c κs =
+    let g = c .before .before .before .before .before .pre in
+    let l = c .before .loop in
+    (omega (arith, g .0 .few, g .0 .long), g .0 .texts (l .low + (l .high - l .low) / 2) (omega arith), g .1)
+
+returns : tie.Need-returns Inv-loop μ-loop
+returns c =
+    (omega arith, sym (c .before .compare-word .ensures) ∙ c .if1 .taken)
+
+raised-requires : tie.Need-raised-requires Inv-loop μ-loop
+raised-requires c κs = omega (arith, c .before .before .before .before .before .before .before .pre .0 .few)
+
+lowered-requires : tie.Need-lowered-requires Inv-loop μ-loop
+lowered-requires c κs = tt
+
+loop-less : tie.Need-loop-less Inv-loop μ-loop
+loop-less c =
+    let l = c .before .before .before .before .before .loop in
+    halved (c .before .before .before .compare-word .result) (l .low) (l .high) _ _ (omega arith) (c .before .raised .ensures) (c .lowered .ensures) .1
+
+loop-again : tie.Need-loop-again Inv-loop μ-loop
+loop-again c =
+    let a = c .before .before .before .before .before .before .before .before .before .args in
+    let g = c .before .before .before .before .before .before .before .before .before .pre in
+    let l = c .before .before .before .before .before .loop in
+    let f = wordAt (a .policy .now) (a .words .now) in
+    let x = label (recAt (a .s .now) (a .at)) in
+    let o = c .before .before .before .compare-word .result in
+    let e = c .before .before .before .compare-word .ensures in
+    let middle = l .low + (l .high - l .low) / 2 in
+    let half = halved o (l .low) (l .high) _ _ (omega arith) (c .before .raised .ensures) (c .lowered .ensures) in (
+      half .0,
+      omega (arith, half .2),
+      rw (c .before .raised .ensures) (low-raised f (a .n) (g .0 .sorted) x o (l .low) middle (omega arith) e (l .inv .2)),
+      rw (c .lowered .ensures) (high-lowered f (a .n) (g .0 .sorted) x o (l .high) middle (omega arith) e (c .before .before .if1 .left) (rw e (order-most _ _)) (l .inv .3)),
+    )
+
+returns-2 : tie.Need-returns-2 Inv-loop μ-loop
+returns-2 c =
+    let l = c .before .loop in
+    let e : l .high ≡ l .low = omega arith in
+    (omega arith, l .inv .2, rw e at (l .inv .3))
+
+pub search-spec : {M : Type 1} → statement M
+search-spec =
+    tie.close
+    (tie.spec
+    Inv-loop
+    μ-loop
+    loop-holds
+    sub-middle
+    add-middle
+    compare-word-requires
+    returns
+    raised-requires
+    lowered-requires
+    loop-less
+    loop-again
+    returns-2)

@@ -1,0 +1,111 @@
+-- How the rules of one right are worked out together: their automata side by side in one number, and the steps that a label passes by its number. proofs/GroupLaws.antt
+-- shows that each rule's last state is there where its path finds the node, proofs/FiveRights.antt that the five rights make the set that `byRules` says.
+use Prim.Native.Nat.{ℕ, zero, suc, _+_, _*_, _/_, _%_, _^_, _≤_, _<_}
+use mathlib.Core.Bool.{Bool, true, false, cond, not, _&&_, _||_}
+use mathlib.Core.Path.{_≡_}
+use mathlib.Core.List.{List, [], _∷_, _++_}
+use lib.Bits.{bitAnd}
+use lib.Dec.{eqb, ltb}
+use lib.ListN.{length, getD, replicate}
+use Rattle.rights.specs.PolicyBytes.{ruleCount, rightBit, whose, accepts, Subject}
+use Rattle.rights.specs.Rights.{Step, withRule, tried, finds}
+use Rattle.rights.specs.Automaton.{value, deeps, passedBy, rulePath, Sound}
+use Rattle.rights.specs.Table.{recordAt, recordsFrom, recordsOk, label}
+use Rattle.rights.specs.Vocabulary.{numberIn, Sorted}
+
+-- bit j of a number
+abbrev pub has : ℕ → ℕ → Bool
+has m j = eqb (m / 2 ^ j % 2) 1
+
+-- the label by whose number a step with the text w is noted: `$` by the subject's name
+abbrev pub noted : List ℕ → List ℕ → List ℕ
+noted name w = cond (eqb (getD w 0 0) 36) name w
+
+-- a rule: whether it counts, its path, and what it says
+pub record Lane : Type 0 where
+  pub on : Bool
+  pub path : List Step
+  pub accept : Bool
+
+-- rule k, for subject u with these roles and the right with bit b
+abbrev pub laneAt : List ℕ → ℕ → List ℕ → ℕ → ℕ → Lane
+laneAt p u roles b k = record {
+  on = eqb (rightBit p k) b && not (eqb (getD roles (whose p k) 0) 0);
+  path = rulePath p u k;
+  accept = accepts p k;
+}
+
+-- no label goes on from the end of a path
+abbrev pub never : Step
+never = record { deep = false; passed = λ x. false }
+
+-- what n rules from rule i on take, one after the other
+unfoldable pub cat : {A : Type 0} → (Lane → List A) → (ℕ → Lane) → ℕ → ℕ → List A
+cat f q i zero = []
+cat f q i (suc n) = cond (q (i + n) .on) (cat f q i n ++ f (q (i + n))) (cat f q i n)
+
+-- their steps, and their first states
+abbrev pub stepsOf : Lane → List Step
+stepsOf l = l .path ++ (never ∷ [])
+
+abbrev pub firstOf : Lane → List Bool
+firstOf l = true ∷ replicate (length (l .path)) false
+
+abbrev pub laid : (ℕ → Lane) → ℕ → ℕ → List Step
+laid q i n = cat stepsOf q i n
+
+abbrev pub firsts : (ℕ → Lane) → ℕ → ℕ → List Bool
+firsts q i n = cat firstOf q i n
+
+-- the bit of rule i + k that says that its path finds the node
+abbrev pub endAt : (ℕ → Lane) → ℕ → ℕ → ℕ
+endAt q i k = length (laid q i k) + length (q (i + k) .path)
+
+-- the states m say of each rule whether its path finds the end of the chain c
+abbrev pub Agrees : (ℕ → Lane) → ℕ → ℕ → List (List ℕ) → ℕ → Type 0
+Agrees q i n c m = (k : ℕ) → k < n → q (i + k) .on ≡ true → has m (endAt q i k) ≡ finds (q (i + k) .path) c
+
+-- the set after n rules from rule i on, on a node with the chain c
+unfoldable pub ruled : (ℕ → Lane) → ℕ → List (List ℕ) → ℕ → ℕ → ℕ → ℕ
+ruled q b c i zero x = x
+ruled q b c i (suc n) x = cond (q (i + n) .on) (tried (q (i + n) .path) c b (q (i + n) .accept) (ruled q b c i n x)) (ruled q b c i n x)
+
+-- all rules of one right, and of the five rights in turn
+abbrev pub byRight : List ℕ → ℕ → List ℕ → List (List ℕ) → ℕ → ℕ → ℕ
+byRight p u roles c b x = ruled (laneAt p u roles b) b c 0 (ruleCount p) x
+
+abbrev pub byFive : List ℕ → ℕ → List ℕ → List (List ℕ) → ℕ → ℕ
+byFive p u roles c x = byRight p u roles c 16 (byRight p u roles c 8 (byRight p u roles c 4 (byRight p u roles c 2 (byRight p u roles c 1 x))))
+
+-- the later rule has the higher bit: the higher of the two numbers wins
+abbrev pub settled : ℕ → ℕ → ℕ → ℕ → ℕ
+settled b y n x = cond (ltb n y) (withRule x b true) (cond (ltb y n) (withRule x b false) x)
+
+-- The steps ss in numbers: the deep ones, those that all labels pass, and a row for each number of a label, with the steps that such a label passes.
+pub record Packed (number : List ℕ → ℕ) (ss : List Step) (deep every : ℕ) (rows : List ℕ) : Type 0 where
+  pub long : length rows ≡ 2050
+  pub deep-bits : (j : ℕ) → has deep j ≡ getD (deeps ss) j false
+  pub row : (x : List ℕ) (j : ℕ) → getD (passedBy ss x) j false ≡ has every j || has (getD rows (number x) 0) j
+
+-- n rules from rule i on in numbers
+pub record Grouped (number : List ℕ → ℕ) (q : ℕ → Lane) (b i n : ℕ) (deep every start yes noes used : ℕ) (rows : List ℕ) : Type 0 where
+  pub packed : Packed number (laid q i n) deep every rows
+  pub used-is : used ≡ length (laid q i n)
+  pub start-is : start ≡ value (firsts q i n)
+  pub yes-low : yes < 2 ^ length (laid q i n)
+  pub no-low : noes < 2 ^ length (laid q i n)
+  pub says : (m x : ℕ) (c : List (List ℕ)) → x < 256 → Agrees q i n c m → ruled q b c i n x ≡ settled b (bitAnd m yes) (bitAnd m noes) x
+
+-- what the work on a policy's groups asks: a sound policy, a subject of it, and its words
+pub record Ready (p : List ℕ) (u : ℕ) (ws : List ℕ) (n : ℕ) : Type 0 where
+  pub sound : Sound p
+  pub subject : Subject p u
+  pub sorted : Sorted p u ws n
+
+-- the first n records of the table t with the numbers of their labels
+pub record Numbered (p ws : List ℕ) (count : ℕ) (t : List ℕ) (n : ℕ) (numbers : List ℕ) : Type 0 where
+  pub few : n ≤ 16384
+  pub room : 4 + n * 32 ≤ length t
+  pub records : recordsOk 0 0 (recordsFrom t n 0) ≡ true
+  pub long : n ≤ length numbers
+  pub at : (i : ℕ) → i < n → getD numbers i 0 ≡ numberIn p ws count (label (recordAt t i))

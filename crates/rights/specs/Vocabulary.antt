@@ -1,0 +1,67 @@
+-- How a label is found among the words of a policy: the words sorted, each once, and a label's number its word's place among them. proofs/VocabularyLaws.antt shows that
+-- a label has a word's number exactly if it is that word.
+use Prim.Native.Nat.{ℕ, zero, suc, _+_, _*_, _≤_, _<_}
+use mathlib.Core.Bool.{Bool, true, false, cond}
+use mathlib.Core.Path.{_≡_}
+use mathlib.Core.List.{List, [], _∷_}
+use lib.Dec.{ltb}
+use lib.ListN.{length, getD}
+use Rattle.rights.specs.declared.vocabulary.Spot.{Spot}
+use Rattle.rights.specs.declared.vocabulary.Spot.the-variants.{Found, Missing}
+use Rattle.rights.specs.Labels.{sameLabel}
+use Rattle.rights.specs.Table.{recAt, label}
+use Rattle.rights.specs.PolicyBytes.{ruleCount, stepCount, stepsAt, nameAt, Text}
+
+-- Which of two lists stands first, by the first place where they differ: 0 for the first list, 2 for the second, 1 where they are equal.
+unfoldable pub order : List ℕ → List ℕ → ℕ
+order [] [] = 1
+order [] (y ∷ ys) = 0
+order (x ∷ xs) [] = 2
+order (x ∷ xs) (y ∷ ys) = cond (ltb x y) 0 (cond (ltb y x) 2 (order xs ys))
+
+-- Labels are sorted by their length, and those of one length by their bytes.
+abbrev pub labelOrder : List ℕ → List ℕ → ℕ
+labelOrder x y = order (length x ∷ x) (length y ∷ y)
+
+-- word i, where ws are the places of the words' records in the policy
+abbrev pub wordAt : List ℕ → List ℕ → ℕ → List ℕ
+wordAt p ws i = label (recAt p (getD ws i 0))
+
+-- the number of a label among n words, from 1 on, and 0 for one that is no word
+unfoldable pub numberOf : (ℕ → List ℕ) → ℕ → List ℕ → ℕ
+numberOf f zero x = 0
+numberOf f (suc n) x = cond (sameLabel (f n) x) (suc n) (numberOf f n x)
+
+abbrev pub numberIn : List ℕ → List ℕ → ℕ → List ℕ → ℕ
+numberIn p ws n x = numberOf (wordAt p ws) n x
+
+-- n words, sorted and each once
+pub record Words (p ws : List ℕ) (n : ℕ) : Type 0 where
+  pub long : length ws ≡ 2049
+  pub few : n ≤ 2049
+  pub texts : (i : ℕ) → i < n → Text p (getD ws i 0)
+  pub sorted : (i j : ℕ) → i < j → j < n → labelOrder (wordAt p ws i) (wordAt p ws j) ≡ 0
+
+-- where a label stands among n sorted words: at one that it is, or between those before it and those behind it
+abbrev pub Stands : (ℕ → List ℕ) → ℕ → List ℕ → Spot → Type 0
+Stands f n x (Found i) = (i < n) × (labelOrder (f i) x ≡ 1)
+Stands f n x (Missing i) =
+    (i ≤ n) × ((j : ℕ) → j < i → labelOrder (f j) x ≡ 0) × ((j : ℕ) → i ≤ j → j < n → labelOrder (f j) x ≡ 2)
+
+-- one place more among n, at place i; those behind it move up
+pub record Inserted (ws ws' : List ℕ) (n i at : ℕ) : Type 0 where
+  pub same : length ws' ≡ length ws
+  pub low : (j : ℕ) → j < i → getD ws' j 0 ≡ getD ws j 0
+  pub here : getD ws' i 0 ≡ at
+  pub high : (j : ℕ) → i ≤ j → j < n → getD ws' (j + 1) 0 ≡ getD ws j 0
+
+-- words after some were added: none is lost
+pub record Grown (p ws : List ℕ) (n : ℕ) (ws' : List ℕ) (n' : ℕ) : Type 0 where
+  pub words : Words p ws' n'
+  pub kept : (x : List ℕ) → 0 < numberIn p ws n x → 0 < numberIn p ws' n' x
+
+-- the words of a policy for subject u: its name, and the texts of all steps of all rules
+pub record Sorted (p : List ℕ) (u : ℕ) (ws : List ℕ) (n : ℕ) : Type 0 where
+  pub words : Words p ws n
+  pub name : 0 < numberIn p ws n (nameAt p u)
+  pub steps : (k j : ℕ) → k < ruleCount p → j < stepCount p k → 0 < numberIn p ws n (label (recAt p (stepsAt k + j * 32)))

@@ -1,0 +1,474 @@
+// The rules of one right for all nodes at once: the automata of as many rules as fit stand side by side in one number, one bit a state, so that a
+// node moves all of them by a few operations. Which steps its label passes stands in the row of the label's number.
+use crate::bytes::wide;
+use crate::limits::COUNT_BYTES;
+use crate::limits::DELETE;
+use crate::limits::INSERT;
+use crate::limits::LABEL_AT;
+use crate::limits::POSITION;
+use crate::limits::READ;
+use crate::limits::RECORD_BYTES;
+use crate::limits::RULE_BYTES;
+use crate::limits::RULES_AT;
+use crate::limits::STEPS_AT;
+use crate::limits::SUBJECTS_AT;
+use crate::limits::UPDATE;
+use crate::nodes::wide_number;
+use crate::vocabulary::number_of;
+ghost use mathlib.Core.Path.{_≡_};
+ghost use mathlib.Core.List.{List, [], _∷_, _++_};
+ghost use mathlib.Core.Bool.{Bool, true, cond, not};
+ghost use Prim.Native.Nat.{ℕ, suc, _+_, _-_, _*_, _/_, _%_, _^_, _≤_, _<_};
+ghost use lib.Bits.{bitOr};
+ghost use lib.ListN.{length, getD};
+ghost use Rattle.rights.specs.Path.{far};
+ghost use Rattle.rights.specs.Policy.{passesOwn};
+ghost use Rattle.rights.specs.Table.{recAt, label};
+ghost use Rattle.rights.specs.PolicyBytes.{policyOf, ruleCount, stepCount, stepOf, nameAt, accepts, axisOf, Text, Subject};
+ghost use Rattle.rights.specs.PolicyCheck.{bitOk};
+ghost use Rattle.rights.specs.Rights.{Step, stepFor};
+ghost use Rattle.rights.specs.Automaton.{value, moved, stepsFor, rulePath, chainOf, Each, Steps, Sound};
+ghost use Rattle.rights.specs.Vocabulary.{numberIn, Words};
+ghost use Rattle.rights.specs.Groups.{noted, laneAt, laid, ruled, byFive, settled, Packed, Grouped, Ready, Numbered};
+
+// The bit at a place.
+fn one_at(j: usize) -> u64
+    requires { ⌜ j ≤ 63 ⌝ }
+    ensures { λ r. ⌜ r ≡ 2 ^ j ⌝ }
+{
+    1 << j
+}
+
+// m, with bit j where `on`.
+fn mark_if(on: bool, m: u64, j: usize) -> u64
+    requires { ⌜ j ≤ 63 ⌝ }
+    ensures { λ r. ⌜ r ≡ cond on (bitOr m (2 ^ j)) m ⌝ }
+{
+    if on {
+        return m | one_at(j);
+    }
+    m
+}
+
+// Whether the step at byte `step` goes to all descendants.
+fn is_deep(policy: &[u8], step: usize) -> bool
+    requires { ⌜ step < length (now policy) ⌝ }
+    ensures { λ r. ⌜ r ≡ far (axisOf (getD (now (policy .entry)) step 0)) ⌝ }
+{
+    if policy[step] == 0 {
+        return false;
+    }
+    true
+}
+
+// The number of the label by which the step at byte `step` is noted: its text, or the subject's name for `$`.
+fn row_of(policy: &[u8], u: usize, words: &[u32], n: usize, step: usize) -> usize
+    requires { ⌜ Words (now policy) (now words) n × Text (now policy) step × Subject (now policy) u ⌝ }
+    ensures { λ r. ⌜ (r ≡ numberIn (now (policy .entry)) (now (words .entry)) n (noted (nameAt (now (policy .entry)) u) (label (recAt (now (policy .entry)) step)))) × (r ≤ n) ⌝ }
+{
+    if policy[step + LABEL_AT] == b'$' {
+        return number_of(policy, words, n, policy, SUBJECTS_AT + u * RECORD_BYTES);
+    }
+    number_of(policy, words, n, policy, step)
+}
+
+// Steps in numbers: those that go to all descendants, and those that all labels pass.
+struct Marks {
+    deep: u64,
+    every: u64,
+}
+
+// The marks with the step at byte `step` as that of bit j.
+fn with_step(
+    policy: &[u8],
+    u: usize,
+    words: &[u32],
+    n: usize,
+    step: usize,
+    j: usize,
+    m: Marks,
+    rows: &mut [u64],
+) -> Marks
+    requires { ⌜ Ready (now policy) u (now words) n × Text (now policy) step × (0 < numberIn (now policy) (now words) n (label (recAt (now policy) step))) × (j ≤ 63) × (length (now rows) ≡ 2050) ⌝ }
+    ensures { λ r. ⌜ ((ss : List Step) → length ss ≡ j → Packed (numberIn (now (policy .entry)) (now (words .entry)) n) ss (m .deep) (m .every) (now (rows .entry)) → Packed (numberIn (now (policy .entry)) (now (words .entry)) n) (ss ++ (stepFor (passesOwn (policyOf (now (policy .entry))) u) (stepOf (recAt (now (policy .entry)) step)) ∷ [])) (r .deep) (r .every) (now (rows .exit))) × (length (now (rows .exit)) ≡ 2050) ⌝ }
+{
+    let deep = mark_if(is_deep(policy, step), m.deep, j);
+    if policy[step + LABEL_AT] == b'*' {
+        return Marks {
+            deep,
+            every: m.every | one_at(j),
+        };
+    }
+    let h = row_of(policy, u, words, n, step);
+    rows[h] = rows[h] | one_at(j);
+    Marks {
+        deep,
+        every: m.every,
+    }
+}
+
+// The marks with the count steps at byte b, from bit `used` on.
+fn with_path(
+    policy: &[u8],
+    u: usize,
+    words: &[u32],
+    n: usize,
+    b: usize,
+    count: usize,
+    used: usize,
+    before: Marks,
+    rows: &mut [u64],
+) -> Marks
+    requires { ⌜ Ready (now policy) u (now words) n × Steps (now policy) b count × ((j : ℕ) → j < count → 0 < numberIn (now policy) (now words) n (label (recAt (now policy) (b + j * 32)))) × (used + count ≤ 62) × (length (now rows) ≡ 2050) ⌝ }
+    ensures { λ r. ⌜ ((ss : List Step) → length ss ≡ used → Packed (numberIn (now (policy .entry)) (now (words .entry)) n) ss (before .deep) (before .every) (now (rows .entry)) → Packed (numberIn (now (policy .entry)) (now (words .entry)) n) (ss ++ stepsFor (passesOwn (policyOf (now (policy .entry))) u) (now (policy .entry)) b count 0) (r .deep) (r .every) (now (rows .exit))) × (length (now (rows .exit)) ≡ 2050) ⌝ }
+{
+    let mut m = before;
+    let mut j = 0;
+    while j < count {
+        m = with_step(policy, u, words, n, b + j * RECORD_BYTES, used + j, m, rows);
+        j += 1;
+    }
+    m
+}
+
+// Whether rule k counts: it is for this right, and for one of these roles.
+fn counts(policy: &[u8], u: usize, roles: &[u8; 64], right: u8, k: usize) -> bool
+    requires { ⌜ Sound (now policy) × (k < ruleCount (now policy)) ⌝ }
+    ensures { λ r. ⌜ r ≡ laneAt (now (policy .entry)) u (now (roles .entry)) right k .on ⌝ }
+{
+    let a = RULES_AT + k * RULE_BYTES;
+    if policy[a + 1] != right {
+        return false;
+    }
+    let w = wide(policy[a + 2]);
+    roles[w] != 0
+}
+
+// The bits that rule k takes: one a step and one for the end, and none where it does not count.
+fn size_of(policy: &[u8], u: usize, roles: &[u8; 64], right: u8, k: usize) -> usize
+    requires { ⌜ Sound (now policy) × (k < ruleCount (now policy)) ⌝ }
+    ensures { λ r. ⌜ (r ≡ cond (laneAt (now (policy .entry)) u (now (roles .entry)) right k .on) (suc (stepCount (now (policy .entry)) k)) 0) × (r ≤ 17) ⌝ }
+{
+    if counts(policy, u, roles, right, k) {
+        return wide(policy[RULES_AT + k * RULE_BYTES + 3]) + 1;
+    }
+    0
+}
+
+// The end of a group that starts at rule `from`: as many rules as fit into 63 bits.
+fn group_end(
+    policy: &[u8],
+    u: usize,
+    roles: &[u8; 64],
+    right: u8,
+    from: usize,
+    count: usize,
+) -> usize
+    requires { ⌜ Sound (now policy) × (count ≡ ruleCount (now policy)) × (from < count) ⌝ }
+    ensures { λ r. ⌜ (from < r) × (r ≤ count) × (length (laid (laneAt (now (policy .entry)) u (now (roles .entry)) right) from (r - from)) ≤ 63) ⌝ }
+{
+    let mut used = 0;
+    let mut k = from;
+    while k < count {
+        let size = size_of(policy, u, roles, right, k);
+        if 63 < used + size {
+            return k;
+        }
+        used += size;
+        k += 1;
+    }
+    k
+}
+
+// Rules in numbers: their steps' marks, the first states, the ends of the rules that accept and of those that deny, and the bits in use.
+struct Group {
+    deep: u64,
+    every: u64,
+    start: u64,
+    yes: u64,
+    noes: u64,
+    used: usize,
+}
+
+// The group with rule k.
+fn with_rule(
+    policy: &[u8],
+    u: usize,
+    words: &[u32],
+    n: usize,
+    k: usize,
+    g: Group,
+    rows: &mut [u64],
+) -> Group
+    requires { ⌜ Ready (now policy) u (now words) n × (k < ruleCount (now policy)) × (g .used + stepCount (now policy) k ≤ 62) × (length (now rows) ≡ 2050) ⌝ }
+    ensures { λ r. ⌜ ((ss : List Step) → length ss ≡ g .used → Packed (numberIn (now (policy .entry)) (now (words .entry)) n) ss (g .deep) (g .every) (now (rows .entry)) → Packed (numberIn (now (policy .entry)) (now (words .entry)) n) (ss ++ rulePath (now (policy .entry)) u k) (r .deep) (r .every) (now (rows .exit))) × (r .start ≡ bitOr (g .start) (2 ^ g .used)) × (r .yes ≡ cond (accepts (now (policy .entry)) k) (bitOr (g .yes) (2 ^ (g .used + stepCount (now (policy .entry)) k))) (g .yes)) × (r .noes ≡ cond (not (accepts (now (policy .entry)) k)) (bitOr (g .noes) (2 ^ (g .used + stepCount (now (policy .entry)) k))) (g .noes)) × (r .used ≡ g .used + stepCount (now (policy .entry)) k + 1) × (length (now (rows .exit)) ≡ 2050) ⌝ }
+{
+    let a = RULES_AT + k * RULE_BYTES;
+    let count = wide(policy[a + 3]);
+    let used = g.used;
+    let before = Marks {
+        deep: g.deep,
+        every: g.every,
+    };
+    let m = with_path(policy, u, words, n, a + STEPS_AT, count, used, before, rows);
+    let last = used + count;
+    let yes = mark_if(policy[a] != 0, g.yes, last);
+    let noes = mark_if(policy[a] == 0, g.noes, last);
+    let start = g.start | one_at(used);
+    Group {
+        deep: m.deep,
+        every: m.every,
+        start,
+        yes,
+        noes,
+        used: last + 1,
+    }
+}
+
+// The group with rule k, if it counts.
+fn with_lane(
+    policy: &[u8],
+    u: usize,
+    words: &[u32],
+    n: usize,
+    roles: &[u8; 64],
+    right: u8,
+    k: usize,
+    g: Group,
+    rows: &mut [u64],
+) -> Group
+    requires { ⌜ Ready (now policy) u (now words) n × (k < ruleCount (now policy)) × (bitOk right ≡ true) × (g .used + cond (laneAt (now policy) u (now roles) right k .on) (suc (stepCount (now policy) k)) 0 ≤ 63) × (length (now rows) ≡ 2050) ⌝ }
+    ensures { λ r. ⌜ ((i size : ℕ) → i + size ≡ k → Grouped (numberIn (now (policy .entry)) (now (words .entry)) n) (laneAt (now (policy .entry)) u (now (roles .entry)) right) right i size (g .deep) (g .every) (g .start) (g .yes) (g .noes) (g .used) (now (rows .entry)) → Grouped (numberIn (now (policy .entry)) (now (words .entry)) n) (laneAt (now (policy .entry)) u (now (roles .entry)) right) right i (suc size) (r .deep) (r .every) (r .start) (r .yes) (r .noes) (r .used) (now (rows .exit))) × (length (now (rows .exit)) ≡ 2050) ⌝ }
+{
+    if counts(policy, u, roles, right, k) {
+        return with_rule(policy, u, words, n, k, g, rows);
+    }
+    g
+}
+
+// Clears the first n rows.
+fn clear_rows(rows: &mut [u64], n: usize)
+    requires { ⌜ n ≤ length (now rows) ⌝ }
+    ensures { λ _. ⌜ Each n (now (rows .entry)) (now (rows .exit)) (λ (i x : ℕ). 0) ⌝ }
+{
+    let mut i = 0;
+    while i < n {
+        rows[i] = 0;
+        i += 1;
+    }
+}
+
+// The rules from `from` to `to` in numbers.
+fn make_group(
+    policy: &[u8],
+    u: usize,
+    words: &[u32],
+    n: usize,
+    roles: &[u8; 64],
+    right: u8,
+    from: usize,
+    to: usize,
+    rows: &mut [u64],
+) -> Group
+    requires { ⌜ Ready (now policy) u (now words) n × (from ≤ to) × (to ≤ ruleCount (now policy)) × (bitOk right ≡ true) × (length (laid (laneAt (now policy) u (now roles) right) from (to - from)) ≤ 63) × (length (now rows) ≡ 2050) ⌝ }
+    ensures { λ r. ⌜ Grouped (numberIn (now (policy .entry)) (now (words .entry)) n) (laneAt (now (policy .entry)) u (now (roles .entry)) right) right from (to - from) (r .deep) (r .every) (r .start) (r .yes) (r .noes) (r .used) (now (rows .exit)) ⌝ }
+{
+    clear_rows(rows, n + 1);
+    let mut g = Group {
+        deep: 0,
+        every: 0,
+        start: 0,
+        yes: 0,
+        noes: 0,
+        used: 0,
+    };
+    let mut k = from;
+    while k < to {
+        g = with_lane(policy, u, words, n, roles, right, k, g, rows);
+        k += 1;
+    }
+    g
+}
+
+// The states after a node, where m are those of its parent and `row` the steps that its label passes beside those that all labels pass.
+fn next_states(deep: u64, every: u64, row: u64, m: u64) -> u64
+    ensures { λ r. ⌜ ((number : List ℕ → ℕ) (ss : List Step) (st : List Bool) (rows x : List ℕ) → Packed number ss deep every rows → length ss ≤ 63 → row ≡ getD rows (number x) 0 → m ≡ value st → r ≡ value (moved ss st x)) ⌝ }
+{
+    (m & deep) | ((m & (every | row)) << 1)
+}
+
+// The set after a group: its right's bit is set or cleared by mask, as the last rule that finds the node says. Later rules have higher bits.
+fn settle(set: u8, right: u8, yes: u64, noes: u64) -> u8
+    ensures { λ r. ⌜ (r ≡ settled right yes noes set) × (set < 256) ⌝ }
+{
+    if noes < yes {
+        return set | right;
+    }
+    if yes < noes {
+        return set & (255 - right);
+    }
+    set
+}
+
+// Tries the rules from `from` to `to` on the first n nodes.
+fn try_group(
+    policy: &[u8],
+    u: usize,
+    words: &[u32],
+    count: usize,
+    roles: &[u8; 64],
+    right: u8,
+    from: usize,
+    to: usize,
+    t: &[u8],
+    n: usize,
+    numbers: &[u16],
+    rows: &mut [u64],
+    out: &mut [u8],
+)
+    requires { ⌜ Ready (now policy) u (now words) count × (from ≤ to) × (to ≤ ruleCount (now policy)) × (bitOk right ≡ true) × (length (laid (laneAt (now policy) u (now roles) right) from (to - from)) ≤ 63) × (length (now rows) ≡ 2050) × Numbered (now policy) (now words) count (now t) n (now numbers) × (n ≤ length (now out)) ⌝ }
+    ensures { λ _. ⌜ (length (now (rows .exit)) ≡ 2050) × Each n (now (out .entry)) (now (out .exit)) (λ (i x : ℕ). ruled (laneAt (now (policy .entry)) u (now (roles .entry)) right) right (chainOf (now (t .entry)) i) from (to - from) x) ⌝ }
+{
+    let g = make_group(policy, u, words, count, roles, right, from, to, rows);
+    if g.used == 0 {
+        return;
+    }
+    let deep = g.deep;
+    let every = g.every;
+    let yes = g.yes;
+    let noes = g.noes;
+    let mut st = [0u64; 13];
+    st[0] = g.start;
+    let mut i = 0;
+    while i < n {
+        let l = wide(t[COUNT_BYTES + i * RECORD_BYTES]);
+        let h = wide_number(numbers[i]);
+        let m = next_states(deep, every, rows[h], st[l]);
+        st[l + 1] = m;
+        out[i] = settle(out[i], right, m & yes, m & noes);
+        i += 1;
+    }
+}
+
+// Tries all rules of one right on the first n nodes.
+fn try_right(
+    policy: &[u8],
+    u: usize,
+    words: &[u32],
+    count: usize,
+    roles: &[u8; 64],
+    right: u8,
+    t: &[u8],
+    n: usize,
+    numbers: &[u16],
+    rows: &mut [u64],
+    out: &mut [u8],
+)
+    requires { ⌜ Ready (now policy) u (now words) count × (bitOk right ≡ true) × (length (now rows) ≡ 2050) × Numbered (now policy) (now words) count (now t) n (now numbers) × (n ≤ length (now out)) ⌝ }
+    ensures { λ _. ⌜ (length (now (rows .exit)) ≡ 2050) × Each n (now (out .entry)) (now (out .exit)) (λ (i x : ℕ). ruled (laneAt (now (policy .entry)) u (now (roles .entry)) right) right (chainOf (now (t .entry)) i) 0 (ruleCount (now (policy .entry))) x) ⌝ }
+{
+    let rules = wide(policy[2]);
+    let mut k = 0;
+    while k < rules {
+        let to = group_end(policy, u, roles, right, k, rules);
+        try_group(
+            policy,
+            u,
+            words,
+            count,
+            roles,
+            right,
+            k,
+            to,
+            t,
+            n,
+            numbers,
+            rows,
+            out,
+        );
+        k = to;
+    }
+}
+
+// Tries all rules on the first n nodes, right by right.
+pub fn try_rights(
+    policy: &[u8],
+    u: usize,
+    words: &[u32],
+    count: usize,
+    roles: &[u8; 64],
+    t: &[u8],
+    n: usize,
+    numbers: &[u16],
+    rows: &mut [u64],
+    out: &mut [u8],
+)
+    requires { ⌜ Ready (now policy) u (now words) count × (length (now rows) ≡ 2050) × Numbered (now policy) (now words) count (now t) n (now numbers) × (n ≤ length (now out)) ⌝ }
+    ensures { λ _. ⌜ Each n (now (out .entry)) (now (out .exit)) (λ (i x : ℕ). byFive (now (policy .entry)) u (now (roles .entry)) (chainOf (now (t .entry)) i) x) ⌝ }
+{
+    try_right(
+        policy,
+        u,
+        words,
+        count,
+        roles,
+        POSITION,
+        t,
+        n,
+        numbers,
+        rows,
+        out,
+    );
+    try_right(
+        policy,
+        u,
+        words,
+        count,
+        roles,
+        READ,
+        t,
+        n,
+        numbers,
+        rows,
+        out,
+    );
+    try_right(
+        policy,
+        u,
+        words,
+        count,
+        roles,
+        INSERT,
+        t,
+        n,
+        numbers,
+        rows,
+        out,
+    );
+    try_right(
+        policy,
+        u,
+        words,
+        count,
+        roles,
+        UPDATE,
+        t,
+        n,
+        numbers,
+        rows,
+        out,
+    );
+    try_right(
+        policy,
+        u,
+        words,
+        count,
+        roles,
+        DELETE,
+        t,
+        n,
+        numbers,
+        rows,
+        out,
+    );
+}

@@ -1,0 +1,189 @@
+// The vocabulary of a policy for one subject: the texts of all steps and the subject's name, sorted and each once. A label's number is its place there, found by halving,
+// so that a node's label is compared with at most 12 words, once for all rules.
+use crate::bytes::wide;
+use crate::labels::BEFORE;
+use crate::labels::EQUAL;
+use crate::labels::compare_labels;
+use crate::limits::COUNT_BYTES;
+use crate::limits::LABEL_AT;
+use crate::limits::RECORD_BYTES;
+use crate::limits::RULE_BYTES;
+use crate::limits::RULES_AT;
+use crate::limits::STEPS_AT;
+use crate::limits::SUBJECTS_AT;
+ghost use mathlib.Core.Path.{_≡_};
+ghost use mathlib.Core.Bool.{true, cond};
+ghost use Prim.Native.Nat.{ℕ, _+_, _*_, _≤_, _<_};
+ghost use lib.Dec.{eqb};
+ghost use lib.ListN.{length, getD};
+ghost use Rattle.rights.specs.Table.{recAt, recordAt, recordsFrom, recordsOk, label};
+ghost use Rattle.rights.specs.PolicyBytes.{ruleCount, stepCount, stepsAt, Text, Subject};
+ghost use Rattle.rights.specs.Automaton.{Each, Steps, Sound};
+ghost use Rattle.rights.specs.Vocabulary.{labelOrder, wordAt, numberIn, Words, Stands, Inserted, Grown, Sorted};
+
+// Where a label stands among the words: at one that it is, or missing before one.
+pub enum Spot {
+    Found(usize),
+    Missing(usize),
+}
+
+// A place in the policy as a number of machine size.
+fn wide_place(x: u32) -> usize
+    ensures { λ r. ⌜ r ≡ x ⌝ }
+{
+    x as usize
+}
+
+// How word i and the label of the record at byte `at` of s stand to each other.
+fn compare_word(policy: &[u8], words: &[u32], i: usize, s: &[u8], at: usize) -> u8
+    requires { ⌜ (i < length (now words)) × Text (now policy) (getD (now words) i 0) × Text (now s) at ⌝ }
+    ensures { λ r. ⌜ r ≡ labelOrder (wordAt (now (policy .entry)) (now (words .entry)) i) (label (recAt (now (s .entry)) at)) ⌝ }
+{
+    let word = wide_place(words[i]);
+    let m = wide(policy[word + 1]);
+    let n = wide(s[at + 1]);
+    compare_labels(policy, word + LABEL_AT, m, s, at + LABEL_AT, n)
+}
+
+// The lower end of what is left to search, where the word in the middle was found to stand so.
+fn raised(o: u8, low: usize, middle: usize) -> usize
+    requires { ⌜ middle < 2049 ⌝ }
+    ensures { λ r. ⌜ r ≡ cond (eqb o 0) (middle + 1) low ⌝ }
+{
+    if o == BEFORE {
+        return middle + 1;
+    }
+    low
+}
+
+// The upper end.
+fn lowered(o: u8, high: usize, middle: usize) -> usize
+    ensures { λ r. ⌜ r ≡ cond (eqb o 0) high middle ⌝ }
+{
+    if o == BEFORE {
+        return high;
+    }
+    middle
+}
+
+// Where the label of the record at byte `at` of s stands among n words.
+fn search(policy: &[u8], words: &[u32], n: usize, s: &[u8], at: usize) -> Spot
+    requires { ⌜ Words (now policy) (now words) n × Text (now s) at ⌝ }
+    ensures { λ r. ⌜ Stands (wordAt (now (policy .entry)) (now (words .entry))) n (label (recAt (now (s .entry)) at)) r ⌝ }
+{
+    let mut low = 0;
+    let mut high = n;
+    while low < high {
+        let middle = low + (high - low) / 2;
+        let o = compare_word(policy, words, middle, s, at);
+        if o == EQUAL {
+            return Spot::Found(middle);
+        }
+        low = raised(o, low, middle);
+        high = lowered(o, high, middle);
+    }
+    Spot::Missing(low)
+}
+
+// The number of the label of the record at byte `at` of s: its word's place, from 1 on, or 0 for one that is no word.
+pub fn number_of(policy: &[u8], words: &[u32], n: usize, s: &[u8], at: usize) -> usize
+    requires { ⌜ Words (now policy) (now words) n × Text (now s) at ⌝ }
+    ensures { λ r. ⌜ (r ≡ numberIn (now (policy .entry)) (now (words .entry)) n (label (recAt (now (s .entry)) at))) × (r ≤ n) ⌝ }
+{
+    let Spot::Found(i) = search(policy, words, n, s, at) else {
+        return 0;
+    };
+    i + 1
+}
+
+// Puts a place of the policy at place i of the first n words; those behind it move up.
+fn insert_word(words: &mut [u32], n: usize, i: usize, at: usize)
+    requires { ⌜ (i ≤ n) × (n < length (now words)) × (at < 4294967296) ⌝ }
+    ensures { λ _. ⌜ Inserted (now (words .entry)) (now (words .exit)) n i at ⌝ }
+{
+    let mut k = n;
+    while i < k {
+        words[k] = words[k - 1];
+        k -= 1;
+    }
+    words[i] = at as u32;
+}
+
+// Adds the text of the record at byte `at` of the policy, where it is new; how many words there are now.
+fn add_word(policy: &[u8], words: &mut [u32], n: usize, at: usize) -> usize
+    requires { ⌜ Words (now policy) (now words) n × (n < 2049) × Text (now policy) at × (at < 4294967296) ⌝ }
+    ensures { λ r. ⌜ Grown (now (policy .entry)) (now (words .entry)) n (now (words .exit)) r × (r ≤ n + 1) × (0 < numberIn (now (policy .entry)) (now (words .exit)) r (label (recAt (now (policy .entry)) at))) ⌝ }
+{
+    let Spot::Missing(i) = search(policy, &words[..], n, policy, at) else {
+        return n;
+    };
+    insert_word(words, n, i, at);
+    n + 1
+}
+
+// Adds the texts of count steps at byte b.
+fn add_path(policy: &[u8], b: usize, count: usize, words: &mut [u32], n: usize) -> usize
+    requires { ⌜ Steps (now policy) b count × Words (now policy) (now words) n × (n + count ≤ 2049) × (b + 512 < 4294967296) ⌝ }
+    ensures { λ r. ⌜ Grown (now (policy .entry)) (now (words .entry)) n (now (words .exit)) r × (r ≤ n + count) × ((j : ℕ) → j < count → 0 < numberIn (now (policy .entry)) (now (words .exit)) r (label (recAt (now (policy .entry)) (b + j * 32)))) ⌝ }
+{
+    let mut next = n;
+    let mut j = 0;
+    while j < count {
+        next = add_word(policy, words, next, b + j * RECORD_BYTES);
+        j += 1;
+    }
+    next
+}
+
+// Adds the texts of the steps of rule k.
+fn add_rule(policy: &[u8], k: usize, words: &mut [u32], n: usize) -> usize
+    requires { ⌜ Sound (now policy) × (k < ruleCount (now policy)) × Words (now policy) (now words) n × (n + 16 ≤ 2049) ⌝ }
+    ensures { λ r. ⌜ Grown (now (policy .entry)) (now (words .entry)) n (now (words .exit)) r × (r ≤ n + 16) × ((j : ℕ) → j < stepCount (now (policy .entry)) k → 0 < numberIn (now (policy .entry)) (now (words .exit)) r (label (recAt (now (policy .entry)) (stepsAt k + j * 32)))) ⌝ }
+{
+    let a = RULES_AT + k * RULE_BYTES;
+    let count = wide(policy[a + 3]);
+    add_path(policy, a + STEPS_AT, count, words, n)
+}
+
+// Sorts the words of the policy for subject u, and returns how many they are.
+pub fn sort_words(policy: &[u8], u: usize, words: &mut [u32]) -> usize
+    requires { ⌜ Sound (now policy) × Subject (now policy) u × (length (now words) ≡ 2049) ⌝ }
+    ensures { λ r. ⌜ Sorted (now (policy .entry)) u (now (words .exit)) r ⌝ }
+{
+    let mut n = add_word(policy, words, 0, SUBJECTS_AT + u * RECORD_BYTES);
+    let count = wide(policy[2]);
+    let mut k = 0;
+    while k < count {
+        n = add_rule(policy, k, words, n);
+        k += 1;
+    }
+    n
+}
+
+// A label's number, of which there are at most 2,050, in 16 bits.
+fn narrow(x: usize) -> u16
+    requires { ⌜ x ≤ 2049 ⌝ }
+    ensures { λ r. ⌜ r ≡ x ⌝ }
+{
+    x as u16
+}
+
+// Writes the number of the label of each of the first n records.
+pub fn number_nodes(
+    policy: &[u8],
+    words: &[u32],
+    count: usize,
+    t: &[u8],
+    n: usize,
+    numbers: &mut [u16],
+)
+    requires { ⌜ Words (now policy) (now words) count × (4 + n * 32 ≤ length (now t)) × (recordsOk 0 0 (recordsFrom (now t) n 0) ≡ true) × (n ≤ length (now numbers)) ⌝ }
+    ensures { λ _. ⌜ Each n (now (numbers .entry)) (now (numbers .exit)) (λ (i x : ℕ). numberIn (now (policy .entry)) (now (words .entry)) count (label (recordAt (now (t .entry)) i))) ⌝ }
+{
+    let mut i = 0;
+    while i < n {
+        let x = number_of(policy, words, count, t, COUNT_BYTES + i * RECORD_BYTES);
+        numbers[i] = narrow(x);
+        i += 1;
+    }
+}
