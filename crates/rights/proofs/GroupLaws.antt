@@ -295,7 +295,7 @@ fair-more x h b fair y n e hy hn hit a = let d = right-of b fair in rw (d .1) (s
 -- A group in numbers
 
 module _ (number : List ℕ → ℕ) (q : ℕ → Lane) (b : ℕ) (i : ℕ) where
-  pub group-none : (rows : List ℕ) → length rows ≡ 2050 → ((x : List ℕ) → getD rows (number x) 0 ≡ 0) → Grouped number q b i 0 0 0 0 0 0 0 rows
+  pub group-none : (rows : List ℕ) → length rows ≡ 2113 → ((x : List ℕ) → getD rows (number x) 0 ≡ 0) → Grouped number q b i 0 0 0 0 0 0 0 rows
   unfolding cat ruled value
   group-none rows e z = record {
     packed = packed-none number rows e z;

@@ -1,12 +1,12 @@
 -- A group's steps in numbers: none, one step more, and the end of a path. Assumes nothing.
 use Prim.Native.Nat.{ℕ, suc, zero, _+_, _*_, _^_, _≤_, _<_}
-use mathlib.Core.Bool.{Bool, true, false, _&&_, _||_, cond, and-false}
+use mathlib.Core.Bool.{Bool, true, false, _&&_, _||_, cond, and-false, or-true}
 use mathlib.Core.Path.{_≡_, refl, sym, ap, ap₂, _∙_}
 use mathlib.Core.List.{List, [], _∷_, _++_, append-assoc}
 use native.Mathlib.Nat.{add-zero, zero-add, add-suc, suc-add}
 use native.Mathlib.Numerals.{add-one}
 use native.Mathlib.Omega.{arith}
-use borrow.Author.Tests.{eq-eqb, ne-eqb, eqb-true, eqb-false}
+use borrow.Author.Tests.{eq-eqb, ne-eqb, eqb-true, eqb-false, ltb-true}
 use lib.Bits.{bitOr}
 use lib.Dec.{eqb, eqb·suc-suc, eqb·zero-suc, eqb·suc-zero}
 use lib.ListN.{length, getD, set, length-append, length-set}
@@ -15,12 +15,14 @@ use Rattle.rights.specs.Labels.{sameLabel}
 use Rattle.rights.specs.Path.{passes, far}
 use Rattle.rights.specs.Rights.{Step, stepFor}
 use Rattle.rights.specs.Table.{recAt, label}
-use Rattle.rights.specs.Policy.{passesOwn}
-use Rattle.rights.specs.PolicyBytes.{policyOf, nameAt, stepOf, axisOf, testOf, Subject}
+use Rattle.rights.specs.Policy.{Rule, passesOwn, some, uses}
+use Rattle.rights.specs.PolicyBytes.{policyOf, nameAt, stepOf, axisOf, testOf, ruleCount, stepCount, stepsAt, pathOf, Subject}
 use Rattle.rights.specs.Automaton.{deeps, passedBy, stepsFor}
-use Rattle.rights.specs.Groups.{has, noted, never, Packed}
-use Rattle.rights.specs.Vocabulary.{wordAt, numberIn}
+use Rattle.rights.specs.Groups.{has, noted, never, Packed, Noted}
+use Rattle.rights.specs.Vocabulary.{wordAt, numberIn, Sorted}
 use Rattle.rights.proofs.Held.{own-held}
+use Rattle.rights.proofs.LabelLaws.{same-self}
+use Rattle.rights.proofs.PolicyWords.{step-found, rule-found, uses-label}
 use Rattle.rights.proofs.Lanes.{length-steps}
 use Rattle.rights.proofs.Lists.{byCase}
 use Rattle.rights.proofs.Texts.{first-at, passes-any, passes-mine, passes-label}
@@ -60,7 +62,7 @@ deeps-length [] = refl
 deeps-length (s ∷ ss) = ap suc (deeps-length ss)
 
 -- no steps, and rows without a bit
-pub packed-none : (number : List ℕ → ℕ) (rows : List ℕ) → length rows ≡ 2050 → ((x : List ℕ) → getD rows (number x) 0 ≡ 0) → Packed number [] 0 0 rows
+pub packed-none : (number : List ℕ → ℕ) (rows : List ℕ) → length rows ≡ 2113 → ((x : List ℕ) → getD rows (number x) 0 ≡ 0) → Packed number [] 0 0 rows
 unfolding deeps passedBy
 packed-none number rows e z = record {
   long = e;
@@ -108,7 +110,7 @@ module _ (number : List ℕ → ℕ) (ss : List Step) (deep every : ℕ) (rows :
         go false false false = refl
 
     -- a step that the labels with one number pass
-    module _ (h : ℕ) (room : h < 2050) (f : (x : List ℕ) → s .passed x ≡ eqb (number x) h) where
+    module _ (h : ℕ) (room : h < 2113) (f : (x : List ℕ) → s .passed x ≡ eqb (number x) h) where
       abbrev rows' : List ℕ
       rows' = set rows h (bitOr (getD rows h 0) (2 ^ j))
 
@@ -152,6 +154,18 @@ steps-more mine p b (suc n) i =
     ap (λ (r : List Step). stepFor mine (stepOf (recAt p (b + i * 32))) ∷ r)
     (steps-more mine p b n (suc i) ∙ ap (λ (k : ℕ). stepsFor mine p b n (suc i) ++ (stepFor mine (stepOf (recAt p (b + k * 32))) ∷ [])) (suc-add i n ∙ sym (add-suc i n)))
 
+-- the words for a subject's rights have its name, and the label of each step that names one
+module _ (p : List ℕ) (u : ℕ) (ws : List ℕ) (n : ℕ) (k : Sorted p u ws n) where
+  pub sorted-name : 0 < numberIn p ws n (nameAt p u)
+  sorted-name = ltb-true 0 _ (k .holds (nameAt p u) ∙ rw (same-self (nameAt p u)))
+
+  pub sorted-step : (r j : ℕ) → r < ruleCount p → j < stepCount p r → Noted p ws n (stepsAt r + j * 32)
+  sorted-step r j h l any own =
+      let rec = recAt p (stepsAt r + j * 32) in
+      let x = label rec in
+      let one : some (uses false x) (pathOf p r) ≡ true = step-found p (uses false x) (stepsAt r) (stepCount p r) j l (uses-label x rec false any own refl ∙ same-self x) in
+      ltb-true 0 _ (k .holds x ∙ rw (rule-found p (λ (q : Rule). some (uses false x) (q .path)) (ruleCount p) r h one) (or-true (sameLabel x (nameAt p u))))
+
 -- a step of a policy: whether it goes to all descendants, and which labels pass it
 module _ (p : List ℕ) (u at : ℕ) where
   abbrev s : Step
@@ -164,18 +178,18 @@ module _ (p : List ℕ) (u at : ℕ) where
   step-every e x = passes-any (passesOwn (policyOf p) u) (label (recAt p at)) x e
 
   -- by the number of its text, or of the subject's name for `$`
-  pub step-row : Subject p u → (ws : List ℕ) (n : ℕ) → 0 < numberIn p ws n (nameAt p u) → 0 < numberIn p ws n (label (recAt p at)) → (getD (label (recAt p at)) 0 0 ≡ 42 → ⊥)
+  pub step-row : Subject p u → (ws : List ℕ) (n : ℕ) → Sorted p u ws n → Noted p ws n at → (getD (label (recAt p at)) 0 0 ≡ 42 → ⊥)
       → (h : ℕ) → h ≡ numberIn p ws n (noted (nameAt p u) (label (recAt p at))) → (x : List ℕ) → s .passed x ≡ eqb (numberIn p ws n x) h
-  step-row sub ws n name text other h e x =
+  step-row sub ws n k text other h e x =
       let w = label (recAt p at) in
       let mine = passesOwn (policyOf p) u in
       byCase (eqb (getD w 0 0) 36)
       (λ d. passes-mine mine w x other (eqb-true _ _ d)
       ∙ own-held p u (sub .declared) x
-      ∙ sym (number-decides (wordAt p ws) n x (nameAt p u) name)
+      ∙ sym (number-decides (wordAt p ws) n x (nameAt p u) (sorted-name p u ws n k))
       ∙ ap (eqb (numberIn p ws n x)) (sym (e ∙ rw d)))
       (λ d. passes-label mine w x other (eqb-false _ _ d)
-      ∙ sym (number-decides (wordAt p ws) n x w text)
+      ∙ sym (number-decides (wordAt p ws) n x w (text other (eqb-false _ _ d)))
       ∙ ap (eqb (numberIn p ws n x)) (sym (e ∙ rw d)))
 
 module _ (name w : List ℕ) where

@@ -1,41 +1,61 @@
 -- The vocabulary: a label's number among the words, one step of the search, and a word more. Assumes nothing.
-use Prim.Native.Nat.{ℕ, zero, suc, _+_, _*_, _-_, _/_, _≤_, _<_}
-use mathlib.Core.Bool.{Bool, true, false, cond}
+use Prim.Native.Nat.{ℕ, zero, suc, _+_, _-_, _/_, _≤_, _<_}
+use mathlib.Core.Bool.{Bool, true, false, cond, _||_, or-false}
 use mathlib.Core.Logic.{_⊎_, inl, inr, ⊎-elim}
 use mathlib.Core.Path.{_≡_, refl, sym, ap, ap₂, _∙_, subst}
 use mathlib.Core.List.{List, [], _∷_}
 use native.Mathlib.Nat.{eq-or-lt-of-le, le-of-suc-le-suc}
 use native.Mathlib.Numerals.{add-one}
 use native.Mathlib.Omega.{arith}
-use borrow.Author.Tests.{eq-eqb, ne-eqb, eqb-true, eqb-false, ltb-true, ltb-false}
+use borrow.Author.Tests.{eq-eqb, ne-eqb, eqb-true, eqb-false, ltb-true, ltb-false, lt-ltb}
 use lib.Dec.{eqb, ltb}
 use lib.ListN.{length, getD, set, length-set}
 use lib.Seq.{getD-set-same, getD-set-other}
 use Rattle.rights.specs.Labels.{sameLabel}
 use Rattle.rights.specs.Table.{recAt, label}
-use Rattle.rights.specs.PolicyBytes.{stepCount, stepsAt, Text}
-use Rattle.rights.specs.Vocabulary.{order, labelOrder, wordAt, numberOf, numberIn, Words, Inserted, Grown}
+use Rattle.rights.specs.PolicyBytes.{Text}
+use Rattle.rights.specs.Vocabulary.{order, labelOrder, wordAt, wordNumber, numberIn, isWord, Words, Inserted, Added}
 use Rattle.rights.proofs.LabelLaws.{same-equal, same-self, order-flip, order-through, order-self, order-same, order-other}
 use Rattle.rights.proofs.Lists.{byCase}
+
+bool-ext : (a b : Bool) → (a ≡ true → b ≡ true) → (b ≡ true → a ≡ true) → a ≡ b
+bool-ext true b f g = sym (f refl)
+bool-ext false true f g = g refl
+bool-ext false false f g = refl
+
+or-first : (a b : Bool) → a ≡ true → a || b ≡ true
+or-first a b e = rw e
+
+or-second : (a b : Bool) → b ≡ true → a || b ≡ true
+or-second true b e = refl
+or-second false b e = e
+
+or-case : {C : Type 0} (a b : Bool) → a || b ≡ true → (a ≡ true → C) → (b ≡ true → C) → C
+or-case true b e f g = f refl
+or-case false b e f g = g e
+
+or-in : (a b c : Bool) → (a || b) || c ≡ a || (b || c)
+or-in true b c = refl
+or-in false b c = refl
 
 -- A label's number
 
 module _ (f : ℕ → List ℕ) where
-  pub number-low : (n : ℕ) (x : List ℕ) → numberOf f n x ≤ n
-  unfolding numberOf
+  pub number-low : (n : ℕ) (x : List ℕ) → wordNumber f n x ≤ n
+  unfolding wordNumber
   number-low zero x = omega arith
   number-low (suc n) x = byCase (sameLabel (f n) x) (λ e. rw e (omega arith)) (λ e. rw e (omega (arith, number-low n x)))
 
-  pub number-word : (n i : ℕ) (x : List ℕ) → numberOf f n x ≡ suc i → (i < n) × (sameLabel (f i) x ≡ true)
-  unfolding numberOf
+  pub number-word : (n i : ℕ) (x : List ℕ) → wordNumber f n x ≡ suc i → (i < n) × (sameLabel (f i) x ≡ true)
+  unfolding wordNumber
   number-word zero i x e = absurd (omega arith)
   number-word (suc n) i x e =
       byCase (sameLabel (f n) x)
       (λ d. let z : n ≡ i = omega (arith, sym (rw d at e)) in (omega arith, rw z at d))
       (λ d. let w = number-word n i x (rw d at e) in (omega (arith, w .0), w .1))
 
-  pub number-there : (n i : ℕ) (x : List ℕ) → i < n → sameLabel (f i) x ≡ true → 0 < numberOf f n x
-  unfolding numberOf
+  pub number-there : (n i : ℕ) (x : List ℕ) → i < n → sameLabel (f i) x ≡ true → 0 < wordNumber f n x
+  unfolding wordNumber
   number-there zero i x h e = absurd (omega arith)
   number-there (suc n) i x h e =
       byCase (sameLabel (f n) x)
@@ -46,21 +66,21 @@ module _ (f : ℕ → List ℕ) where
       (λ (z : i < n). number-there n i x z e)
       (eq-or-lt-of-le (le-of-suc-le-suc h))))
 
-  pub number-none : (n : ℕ) (x : List ℕ) → ((i : ℕ) → i < n → sameLabel (f i) x ≡ false) → numberOf f n x ≡ 0
-  unfolding numberOf
+  pub number-none : (n : ℕ) (x : List ℕ) → ((i : ℕ) → i < n → sameLabel (f i) x ≡ false) → wordNumber f n x ≡ 0
+  unfolding wordNumber
   number-none zero x h = refl
   number-none (suc n) x h = rw (h n (omega arith)) (number-none n x (λ i l. h i (omega arith)))
 
   -- a label has a word's number exactly if it is that word
-  pub number-decides : (n : ℕ) (x w : List ℕ) → 0 < numberOf f n w → eqb (numberOf f n x) (numberOf f n w) ≡ sameLabel x w
+  pub number-decides : (n : ℕ) (x w : List ℕ) → 0 < wordNumber f n w → eqb (wordNumber f n x) (wordNumber f n w) ≡ sameLabel x w
   number-decides n x w h =
       byCase (sameLabel x w)
-      (λ e. rw e (eq-eqb _ _ (ap (numberOf f n) (same-equal x w e))))
+      (λ e. rw e (eq-eqb _ _ (ap (wordNumber f n) (same-equal x w e))))
       (λ e. rw e
       (ne-eqb _ _
-      (λ d. let z : numberOf f n w ≡ suc (numberOf f n w - 1) = omega arith in
-      let a = same-equal _ _ (number-word n (numberOf f n w - 1) x (d ∙ z) .1) in
-      let b = same-equal _ _ (number-word n (numberOf f n w - 1) w z .1) in
+      (λ d. let z : wordNumber f n w ≡ suc (wordNumber f n w - 1) = omega arith in
+      let a = same-equal _ _ (number-word n (wordNumber f n w - 1) x (d ∙ z) .1) in
+      let b = same-equal _ _ (number-word n (wordNumber f n w - 1) w z .1) in
       let v : sameLabel x w ≡ true = rw (sym a ∙ b) (same-self w) in
       let q : _≡_ {A = ℕ} 0 1 = cc in omega arith)))
 
@@ -80,11 +100,11 @@ through x y z = order-through (length x ∷ x) (length y ∷ y) (length z ∷ z)
 
 module _ (f : ℕ → List ℕ) (n : ℕ) (up : Ascending f n) (x : List ℕ) where
   -- a word is found at one place alone
-  pub number-found : (i : ℕ) → i < n → labelOrder (f i) x ≡ 1 → numberOf f n x ≡ suc i
+  pub number-found : (i : ℕ) → i < n → labelOrder (f i) x ≡ 1 → wordNumber f n x ≡ suc i
   number-found i h e =
       let pos = number-there f n i x h (order-same (f i) x e) in
-      let k = numberOf f n x - 1 in
-      let z : numberOf f n x ≡ suc k = omega arith in
+      let k = wordNumber f n x - 1 in
+      let z : wordNumber f n x ≡ suc k = omega arith in
       let w = number-word f n k x z in
       let a = same-equal _ _ (order-same (f i) x e) in
       let b = same-equal _ _ (w .1) in
@@ -129,7 +149,7 @@ module _ (f : ℕ → List ℕ) (n : ℕ) (up : Ascending f n) (x : List ℕ) wh
       behind (suc (suc (suc o))) p q l = absurd (omega arith)
 
   -- a label between the words is none of them
-  pub number-missing : (i : ℕ) → Below i → Above i → numberOf f n x ≡ 0
+  pub number-missing : (i : ℕ) → Below i → Above i → wordNumber f n x ≡ 0
   number-missing i b a =
       number-none f n x
       (λ j h. byCase (ltb j i)
@@ -170,7 +190,7 @@ module _ (ws ws' : List ℕ) (n k : ℕ) (m : Moved ws ws' n k) where
 
 -- A word more
 
-module _ (p ws ws' : List ℕ) (n i at : ℕ) (k : Words p ws n) (room : n < 2049) (text : Text p at) (put : Inserted ws ws' n i at) (within : i ≤ n) where
+module _ (p ws ws' : List ℕ) (n i at : ℕ) (k : Words p ws n) (room : n < 2112) (text : Text p at) (put : Inserted ws ws' n i at) (within : i ≤ n) where
   abbrev x : List ℕ
   x = label (recAt p at)
 
@@ -220,28 +240,53 @@ module _ (p ws ws' : List ℕ) (n i at : ℕ) (k : Words p ws n) (room : n < 204
       sorted = sorted-more;
     }
 
-    kept-more : (w : List ℕ) → 0 < numberIn p ws n w → 0 < numberIn p ws' (n + 1) w
-    kept-more w h =
-        let j = numberIn p ws n w - 1 in
-        let z : numberIn p ws n w ≡ suc j = omega arith in
-        let o = number-word (wordAt p ws) n j w z in
+    -- a label is a word now if it was one or is the new one
+    pub holds-more : (w : List ℕ) → isWord p ws' (n + 1) w ≡ isWord p ws n w || sameLabel w x
+    holds-more w =
+        bool-ext _ _
+        (λ h. let j = numberIn p ws' (n + 1) w - 1 in
+        let pos = ltb-true 0 (numberIn p ws' (n + 1) w) h in
+        let o = number-word (wordAt p ws') (n + 1) j w (omega (arith, pos)) in
+        place (λ (j : ℕ). sameLabel (wordAt p ws' j) w ≡ true → isWord p ws n w || sameLabel w x ≡ true)
+        (λ j l e. or-first _ _ (lt-ltb 0 _ (number-there (wordAt p ws) n j w (omega arith) (rw (word-low j l) at e))))
+        (λ e. or-second (isWord p ws n w) _ (rw (sym (same-equal _ _ (rw word-here at e))) (same-self x)))
+        (λ j l m e. or-first _ _ (lt-ltb 0 _ (number-there (wordAt p ws) n j w m (rw (word-high j l m) at e))))
+        j (o .0) (o .1))
+        (λ h. or-case (isWord p ws n w) (sameLabel w x) h
+        (λ e. let j = numberIn p ws n w - 1 in
+        let pos = ltb-true 0 (numberIn p ws n w) e in
+        let o = number-word (wordAt p ws) n j w (omega (arith, pos)) in
         byCase (ltb j i)
-        (λ l. number-there (wordAt p ws') (n + 1) j w (omega (arith, o .0)) (rw (word-low j (ltb-true j i l)) (o .1)))
-        (λ l. number-there (wordAt p ws') (n + 1) (j + 1) w (omega (arith, o .0)) (rw (word-high j (ltb-false j i l) (o .0)) (o .1)))
+        (λ l. lt-ltb 0 _ (number-there (wordAt p ws') (n + 1) j w (omega (arith, o .0)) (rw (word-low j (ltb-true j i l)) (o .1))))
+        (λ l. lt-ltb 0 _ (number-there (wordAt p ws') (n + 1) (j + 1) w (omega (arith, o .0)) (rw (word-high j (ltb-false j i l) (o .0)) (o .1)))))
+        (λ e. lt-ltb 0 _ (number-there (wordAt p ws') (n + 1) i w (omega arith) (rw (word-here, same-equal w x e) (same-self x)))))
 
-    pub grown-more : Grown p ws n ws' (n + 1)
-    grown-more = record { words = words-more; kept = kept-more }
+    pub added-new : Added p ws n ws' (n + 1) (λ (w : List ℕ). sameLabel w x)
+    added-new = record { words = words-more; holds = holds-more }
 
-    pub new-there : 0 < numberIn p ws' (n + 1) x
-    new-there = number-there (wordAt p ws') (n + 1) i x (omega arith) (rw word-here (same-self x))
+-- a word that is there already
+pub added-old : (p ws : List ℕ) (n i : ℕ) (x : List ℕ) → Words p ws n → i < n → sameLabel (wordAt p ws i) x ≡ true → Added p ws n ws n (λ (w : List ℕ). sameLabel w x)
+added-old p ws n i x k h e = record {
+  words = k;
+  holds = λ w. byCase (sameLabel w x)
+      (λ d. let b : isWord p ws n w ≡ true = lt-ltb 0 _ (number-there (wordAt p ws) n i w h (subst (λ (v : List ℕ). sameLabel (wordAt p ws i) v ≡ true) (sym (same-equal w x d)) e)) in b ∙ sym (or-first (isWord p ws n w) (sameLabel w x) b))
+      (λ d. rw d (sym (or-false _)));
+}
 
-pub grown-none : (p ws : List ℕ) (n : ℕ) → Words p ws n → Grown p ws n ws n
-grown-none p ws n k = record { words = k; kept = λ x h. h }
+pub added-none : (p ws : List ℕ) (n : ℕ) (f : List ℕ → Bool) → Words p ws n → ((x : List ℕ) → f x ≡ false) → Added p ws n ws n f
+added-none p ws n f k e = record { words = k; holds = λ x. rw (e x) (sym (or-false _)) }
 
-pub grown-then : (p ws : List ℕ) (n : ℕ) (ws' : List ℕ) (n' : ℕ) (ws'' : List ℕ) (n'' : ℕ) → Grown p ws n ws' n' → Grown p ws' n' ws'' n'' → Grown p ws n ws'' n''
-grown-then p ws n ws' n' ws'' n'' a b = record { words = b .words; kept = λ x h. b .kept x (a .kept x h) }
+pub added-then : (p ws : List ℕ) (n : ℕ) (ws' : List ℕ) (n' : ℕ) (ws'' : List ℕ) (n'' : ℕ) (f g h : List ℕ → Bool) → ((x : List ℕ) → h x ≡ f x || g x)
+    → Added p ws n ws' n' f → Added p ws' n' ws'' n'' g → Added p ws n ws'' n'' h
+added-then p ws n ws' n' ws'' n'' f g h e a b = record {
+  words = b .words;
+  holds = λ x. b .holds x ∙ ap (λ (v : Bool). v || g x) (a .holds x) ∙ or-in (isWord p ws n x) (f x) (g x) ∙ ap (λ (v : Bool). isWord p ws n x || v) (sym (e x));
+}
 
-pub words-none : (p ws : List ℕ) → length ws ≡ 2049 → Words p ws 0
+pub added-alike : (p ws : List ℕ) (n : ℕ) (ws' : List ℕ) (n' : ℕ) (f g : List ℕ → Bool) → ((x : List ℕ) → f x ≡ g x) → Added p ws n ws' n' f → Added p ws n ws' n' g
+added-alike p ws n ws' n' f g e a = record { words = a .words; holds = λ x. a .holds x ∙ ap (λ (v : Bool). isWord p ws n x || v) (e x) }
+
+pub words-none : (p ws : List ℕ) → length ws ≡ 2112 → Words p ws 0
 words-none p ws e = record { long = e; few = omega arith; texts = λ i h. absurd (omega arith); sorted = λ i j h l. absurd (omega arith) }
 
 -- what is left to search is less, and within what it was
@@ -252,22 +297,7 @@ halved o low high low' high' h el eh =
     (λ z. let a : low' ≡ low + (high - low) / 2 + 1 = rw z at el in let b : high' ≡ high = rw z at eh in (omega arith, omega arith, omega arith))
     (λ z. let a : low' ≡ low = rw z at el in let b : high' ≡ low + (high - low) / 2 = rw z at eh in (omega arith, omega arith, omega arith))
 
--- one text more is a word
-pub there-more : (p : List ℕ) (b : ℕ) (ws : List ℕ) (n : ℕ) (ws' : List ℕ) (n' j : ℕ) → Grown p ws n ws' n' → ((i : ℕ) → i < j → 0 < numberIn p ws n (label (recAt p (b + i * 32))))
-    → 0 < numberIn p ws' n' (label (recAt p (b + j * 32))) → (i : ℕ) → i < j + 1 → 0 < numberIn p ws' n' (label (recAt p (b + i * 32)))
-there-more p b ws n ws' n' j g old new i h =
-    ⊎-elim
-    (λ (z : i ≡ j). rw z new)
-    (λ (z : i < j). g .kept (label (recAt p (b + i * 32))) (old i z))
-    (eq-or-lt-of-le (le-of-suc-le-suc (rw add-one at h)))
-
--- the texts of one rule more are words
-pub rules-more : (p ws : List ℕ) (n : ℕ) (ws' : List ℕ) (n' k : ℕ) → Grown p ws n ws' n'
-    → ((i j : ℕ) → i < k → j < stepCount p i → 0 < numberIn p ws n (label (recAt p (stepsAt i + j * 32))))
-    → ((j : ℕ) → j < stepCount p k → 0 < numberIn p ws' n' (label (recAt p (stepsAt k + j * 32))))
-    → (i j : ℕ) → i < k + 1 → j < stepCount p i → 0 < numberIn p ws' n' (label (recAt p (stepsAt i + j * 32)))
-rules-more p ws n ws' n' k g old new i j h l =
-    ⊎-elim
-    (λ (z : i ≡ k). rw z (new j (rw z at l)))
-    (λ (z : i < k). g .kept (label (recAt p (stepsAt i + j * 32))) (old i j z l))
-    (eq-or-lt-of-le (le-of-suc-le-suc (rw add-one at h)))
+-- of no words none is one
+pub none-word : (p ws x : List ℕ) → isWord p ws 0 x ≡ false
+unfolding wordNumber
+none-word p ws x = refl

@@ -10,7 +10,7 @@ use lib.ListN.{length, getD, replicate}
 use Rattle.rights.specs.PolicyBytes.{ruleCount, rightBit, whose, accepts, Subject}
 use Rattle.rights.specs.Rights.{Step, withRule, tried, finds}
 use Rattle.rights.specs.Automaton.{value, deeps, passedBy, rulePath, Sound}
-use Rattle.rights.specs.Table.{recordAt, recordsFrom, recordsOk, label}
+use Rattle.rights.specs.Table.{recAt, recordAt, recordsFrom, recordsOk, label}
 use Rattle.rights.specs.Vocabulary.{numberIn, Sorted}
 
 -- bit j of a number
@@ -83,7 +83,7 @@ settled b y n x = cond (ltb n y) (withRule x b true) (cond (ltb y n) (withRule x
 
 -- The steps ss in numbers: the deep ones, those that all labels pass, and a row for each number of a label, with the steps that such a label passes.
 pub record Packed (number : List ℕ → ℕ) (ss : List Step) (deep every : ℕ) (rows : List ℕ) : Type 0 where
-  pub long : length rows ≡ 2050
+  pub long : length rows ≡ 2113
   pub deep-bits : (j : ℕ) → has deep j ≡ getD (deeps ss) j false
   pub row : (x : List ℕ) (j : ℕ) → getD (passedBy ss x) j false ≡ has every j || has (getD rows (number x) 0) j
 
@@ -95,6 +95,11 @@ pub record Grouped (number : List ℕ → ℕ) (q : ℕ → Lane) (b i n : ℕ) 
   pub yes-low : yes < 2 ^ length (laid q i n)
   pub no-low : noes < 2 ^ length (laid q i n)
   pub says : (m x : ℕ) (c : List (List ℕ)) → x < 256 → Agrees q i n c m → ruled q b c i n x ≡ settled b (bitAnd m yes) (bitAnd m noes) x
+
+-- the text of a step at a place is among the words, if it is a label
+abbrev pub Noted : List ℕ → List ℕ → ℕ → ℕ → Type 0
+Noted p ws n at =
+    (getD (label (recAt p at)) 0 0 ≡ 42 → ⊥) → (getD (label (recAt p at)) 0 0 ≡ 36 → ⊥) → 0 < numberIn p ws n (label (recAt p at))
 
 -- what the work on a policy's groups asks: a sound policy, a subject of it, and its words
 pub record Ready (p : List ℕ) (u : ℕ) (ws : List ℕ) (n : ℕ) : Type 0 where

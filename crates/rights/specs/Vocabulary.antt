@@ -1,7 +1,7 @@
 -- How a label is found among the words of a policy: the words sorted, each once, and a label's number its word's place among them. proofs/VocabularyLaws.antt shows that
 -- a label has a word's number exactly if it is that word.
-use Prim.Native.Nat.{ℕ, zero, suc, _+_, _*_, _≤_, _<_}
-use mathlib.Core.Bool.{Bool, true, false, cond}
+use Prim.Native.Nat.{ℕ, zero, suc, _+_, _≤_, _<_}
+use mathlib.Core.Bool.{Bool, false, cond, _||_}
 use mathlib.Core.Path.{_≡_}
 use mathlib.Core.List.{List, [], _∷_}
 use lib.Dec.{ltb}
@@ -10,7 +10,8 @@ use Rattle.rights.specs.declared.vocabulary.Spot.{Spot}
 use Rattle.rights.specs.declared.vocabulary.Spot.the-variants.{Found, Missing}
 use Rattle.rights.specs.Labels.{sameLabel}
 use Rattle.rights.specs.Table.{recAt, label}
-use Rattle.rights.specs.PolicyBytes.{ruleCount, stepCount, stepsAt, nameAt, Text}
+use Rattle.rights.specs.Policy.{Rule, some, uses, policyWord}
+use Rattle.rights.specs.PolicyBytes.{policyOf, ruleCount, rulesFrom, nameAt, Text}
 
 -- Which of two lists stands first, by the first place where they differ: 0 for the first list, 2 for the second, 1 where they are equal.
 unfoldable pub order : List ℕ → List ℕ → ℕ
@@ -28,17 +29,17 @@ abbrev pub wordAt : List ℕ → List ℕ → ℕ → List ℕ
 wordAt p ws i = label (recAt p (getD ws i 0))
 
 -- the number of a label among n words, from 1 on, and 0 for one that is no word
-unfoldable pub numberOf : (ℕ → List ℕ) → ℕ → List ℕ → ℕ
-numberOf f zero x = 0
-numberOf f (suc n) x = cond (sameLabel (f n) x) (suc n) (numberOf f n x)
+unfoldable pub wordNumber : (ℕ → List ℕ) → ℕ → List ℕ → ℕ
+wordNumber f zero x = 0
+wordNumber f (suc n) x = cond (sameLabel (f n) x) (suc n) (wordNumber f n x)
 
 abbrev pub numberIn : List ℕ → List ℕ → ℕ → List ℕ → ℕ
-numberIn p ws n x = numberOf (wordAt p ws) n x
+numberIn p ws n x = wordNumber (wordAt p ws) n x
 
 -- n words, sorted and each once
 pub record Words (p ws : List ℕ) (n : ℕ) : Type 0 where
-  pub long : length ws ≡ 2049
-  pub few : n ≤ 2049
+  pub long : length ws ≡ 2112
+  pub few : n ≤ 2112
   pub texts : (i : ℕ) → i < n → Text p (getD ws i 0)
   pub sorted : (i j : ℕ) → i < j → j < n → labelOrder (wordAt p ws i) (wordAt p ws j) ≡ 0
 
@@ -55,13 +56,25 @@ pub record Inserted (ws ws' : List ℕ) (n i at : ℕ) : Type 0 where
   pub here : getD ws' i 0 ≡ at
   pub high : (j : ℕ) → i ≤ j → j < n → getD ws' (j + 1) 0 ≡ getD ws j 0
 
--- words after some were added: none is lost
-pub record Grown (p ws : List ℕ) (n : ℕ) (ws' : List ℕ) (n' : ℕ) : Type 0 where
-  pub words : Words p ws' n'
-  pub kept : (x : List ℕ) → 0 < numberIn p ws n x → 0 < numberIn p ws' n' x
+-- a label is among n words
+abbrev pub isWord : List ℕ → List ℕ → ℕ → List ℕ → Bool
+isWord p ws n x = ltb 0 (numberIn p ws n x)
 
--- the words of a policy for subject u: its name, and the texts of all steps of all rules
+-- words after those labels were added that f passes
+pub record Added (p ws : List ℕ) (n : ℕ) (ws' : List ℕ) (n' : ℕ) (f : List ℕ → Bool) : Type 0 where
+  pub words : Words p ws' n'
+  pub holds : (x : List ℕ) → isWord p ws' n' x ≡ isWord p ws n x || f x
+
+-- the label is named by some rule's path
+abbrev pub named : List ℕ → List ℕ → Bool
+named p x = some (λ (r : Rule). some (uses false x) (r .path)) (rulesFrom p (ruleCount p) 0)
+
+-- The words for the rights of subject u: its name, and the labels that the rules name.
 pub record Sorted (p : List ℕ) (u : ℕ) (ws : List ℕ) (n : ℕ) : Type 0 where
   pub words : Words p ws n
-  pub name : 0 < numberIn p ws n (nameAt p u)
-  pub steps : (k j : ℕ) → k < ruleCount p → j < stepCount p k → 0 < numberIn p ws n (label (recAt p (stepsAt k + j * 32)))
+  pub holds : (x : List ℕ) → isWord p ws n x ≡ sameLabel x (nameAt p u) || named p x
+
+-- The policy words, sorted (document 01, "Rights").
+pub record PolicyWords (p ws : List ℕ) (n : ℕ) : Type 0 where
+  pub words : Words p ws n
+  pub holds : (x : List ℕ) → isWord p ws n x ≡ policyWord (policyOf p) x

@@ -29,7 +29,7 @@ ghost use Rattle.rights.specs.PolicyCheck.{bitOk};
 ghost use Rattle.rights.specs.Rights.{Step, stepFor};
 ghost use Rattle.rights.specs.Automaton.{value, moved, stepsFor, rulePath, chainOf, Each, Steps, Sound};
 ghost use Rattle.rights.specs.Vocabulary.{numberIn, Words};
-ghost use Rattle.rights.specs.Groups.{noted, laneAt, laid, ruled, byFive, settled, Packed, Grouped, Ready, Numbered};
+ghost use Rattle.rights.specs.Groups.{noted, laneAt, laid, ruled, byFive, settled, Packed, Grouped, Ready, Numbered, Noted};
 
 // The bit at a place.
 fn one_at(j: usize) -> u64
@@ -89,8 +89,8 @@ fn with_step(
     m: Marks,
     rows: &mut [u64],
 ) -> Marks
-    requires { ⌜ Ready (now policy) u (now words) n × Text (now policy) step × (0 < numberIn (now policy) (now words) n (label (recAt (now policy) step))) × (j ≤ 63) × (length (now rows) ≡ 2050) ⌝ }
-    ensures { λ r. ⌜ ((ss : List Step) → length ss ≡ j → Packed (numberIn (now (policy .entry)) (now (words .entry)) n) ss (m .deep) (m .every) (now (rows .entry)) → Packed (numberIn (now (policy .entry)) (now (words .entry)) n) (ss ++ (stepFor (passesOwn (policyOf (now (policy .entry))) u) (stepOf (recAt (now (policy .entry)) step)) ∷ [])) (r .deep) (r .every) (now (rows .exit))) × (length (now (rows .exit)) ≡ 2050) ⌝ }
+    requires { ⌜ Ready (now policy) u (now words) n × Text (now policy) step × Noted (now policy) (now words) n step × (j ≤ 63) × (length (now rows) ≡ 2113) ⌝ }
+    ensures { λ r. ⌜ ((ss : List Step) → length ss ≡ j → Packed (numberIn (now (policy .entry)) (now (words .entry)) n) ss (m .deep) (m .every) (now (rows .entry)) → Packed (numberIn (now (policy .entry)) (now (words .entry)) n) (ss ++ (stepFor (passesOwn (policyOf (now (policy .entry))) u) (stepOf (recAt (now (policy .entry)) step)) ∷ [])) (r .deep) (r .every) (now (rows .exit))) × (length (now (rows .exit)) ≡ 2113) ⌝ }
 {
     let deep = mark_if(is_deep(policy, step), m.deep, j);
     if policy[step + LABEL_AT] == b'*' {
@@ -119,8 +119,8 @@ fn with_path(
     before: Marks,
     rows: &mut [u64],
 ) -> Marks
-    requires { ⌜ Ready (now policy) u (now words) n × Steps (now policy) b count × ((j : ℕ) → j < count → 0 < numberIn (now policy) (now words) n (label (recAt (now policy) (b + j * 32)))) × (used + count ≤ 62) × (length (now rows) ≡ 2050) ⌝ }
-    ensures { λ r. ⌜ ((ss : List Step) → length ss ≡ used → Packed (numberIn (now (policy .entry)) (now (words .entry)) n) ss (before .deep) (before .every) (now (rows .entry)) → Packed (numberIn (now (policy .entry)) (now (words .entry)) n) (ss ++ stepsFor (passesOwn (policyOf (now (policy .entry))) u) (now (policy .entry)) b count 0) (r .deep) (r .every) (now (rows .exit))) × (length (now (rows .exit)) ≡ 2050) ⌝ }
+    requires { ⌜ Ready (now policy) u (now words) n × Steps (now policy) b count × ((j : ℕ) → j < count → Noted (now policy) (now words) n (b + j * 32)) × (used + count ≤ 62) × (length (now rows) ≡ 2113) ⌝ }
+    ensures { λ r. ⌜ ((ss : List Step) → length ss ≡ used → Packed (numberIn (now (policy .entry)) (now (words .entry)) n) ss (before .deep) (before .every) (now (rows .entry)) → Packed (numberIn (now (policy .entry)) (now (words .entry)) n) (ss ++ stepsFor (passesOwn (policyOf (now (policy .entry))) u) (now (policy .entry)) b count 0) (r .deep) (r .every) (now (rows .exit))) × (length (now (rows .exit)) ≡ 2113) ⌝ }
 {
     let mut m = before;
     let mut j = 0;
@@ -200,8 +200,8 @@ fn with_rule(
     g: Group,
     rows: &mut [u64],
 ) -> Group
-    requires { ⌜ Ready (now policy) u (now words) n × (k < ruleCount (now policy)) × (g .used + stepCount (now policy) k ≤ 62) × (length (now rows) ≡ 2050) ⌝ }
-    ensures { λ r. ⌜ ((ss : List Step) → length ss ≡ g .used → Packed (numberIn (now (policy .entry)) (now (words .entry)) n) ss (g .deep) (g .every) (now (rows .entry)) → Packed (numberIn (now (policy .entry)) (now (words .entry)) n) (ss ++ rulePath (now (policy .entry)) u k) (r .deep) (r .every) (now (rows .exit))) × (r .start ≡ bitOr (g .start) (2 ^ g .used)) × (r .yes ≡ cond (accepts (now (policy .entry)) k) (bitOr (g .yes) (2 ^ (g .used + stepCount (now (policy .entry)) k))) (g .yes)) × (r .noes ≡ cond (not (accepts (now (policy .entry)) k)) (bitOr (g .noes) (2 ^ (g .used + stepCount (now (policy .entry)) k))) (g .noes)) × (r .used ≡ g .used + stepCount (now (policy .entry)) k + 1) × (length (now (rows .exit)) ≡ 2050) ⌝ }
+    requires { ⌜ Ready (now policy) u (now words) n × (k < ruleCount (now policy)) × (g .used + stepCount (now policy) k ≤ 62) × (length (now rows) ≡ 2113) ⌝ }
+    ensures { λ r. ⌜ ((ss : List Step) → length ss ≡ g .used → Packed (numberIn (now (policy .entry)) (now (words .entry)) n) ss (g .deep) (g .every) (now (rows .entry)) → Packed (numberIn (now (policy .entry)) (now (words .entry)) n) (ss ++ rulePath (now (policy .entry)) u k) (r .deep) (r .every) (now (rows .exit))) × (r .start ≡ bitOr (g .start) (2 ^ g .used)) × (r .yes ≡ cond (accepts (now (policy .entry)) k) (bitOr (g .yes) (2 ^ (g .used + stepCount (now (policy .entry)) k))) (g .yes)) × (r .noes ≡ cond (not (accepts (now (policy .entry)) k)) (bitOr (g .noes) (2 ^ (g .used + stepCount (now (policy .entry)) k))) (g .noes)) × (r .used ≡ g .used + stepCount (now (policy .entry)) k + 1) × (length (now (rows .exit)) ≡ 2113) ⌝ }
 {
     let a = RULES_AT + k * RULE_BYTES;
     let count = wide(policy[a + 3]);
@@ -237,8 +237,8 @@ fn with_lane(
     g: Group,
     rows: &mut [u64],
 ) -> Group
-    requires { ⌜ Ready (now policy) u (now words) n × (k < ruleCount (now policy)) × (bitOk right ≡ true) × (g .used + cond (laneAt (now policy) u (now roles) right k .on) (suc (stepCount (now policy) k)) 0 ≤ 63) × (length (now rows) ≡ 2050) ⌝ }
-    ensures { λ r. ⌜ ((i size : ℕ) → i + size ≡ k → Grouped (numberIn (now (policy .entry)) (now (words .entry)) n) (laneAt (now (policy .entry)) u (now (roles .entry)) right) right i size (g .deep) (g .every) (g .start) (g .yes) (g .noes) (g .used) (now (rows .entry)) → Grouped (numberIn (now (policy .entry)) (now (words .entry)) n) (laneAt (now (policy .entry)) u (now (roles .entry)) right) right i (suc size) (r .deep) (r .every) (r .start) (r .yes) (r .noes) (r .used) (now (rows .exit))) × (length (now (rows .exit)) ≡ 2050) ⌝ }
+    requires { ⌜ Ready (now policy) u (now words) n × (k < ruleCount (now policy)) × (bitOk right ≡ true) × (g .used + cond (laneAt (now policy) u (now roles) right k .on) (suc (stepCount (now policy) k)) 0 ≤ 63) × (length (now rows) ≡ 2113) ⌝ }
+    ensures { λ r. ⌜ ((i size : ℕ) → i + size ≡ k → Grouped (numberIn (now (policy .entry)) (now (words .entry)) n) (laneAt (now (policy .entry)) u (now (roles .entry)) right) right i size (g .deep) (g .every) (g .start) (g .yes) (g .noes) (g .used) (now (rows .entry)) → Grouped (numberIn (now (policy .entry)) (now (words .entry)) n) (laneAt (now (policy .entry)) u (now (roles .entry)) right) right i (suc size) (r .deep) (r .every) (r .start) (r .yes) (r .noes) (r .used) (now (rows .exit))) × (length (now (rows .exit)) ≡ 2113) ⌝ }
 {
     if counts(policy, u, roles, right, k) {
         return with_rule(policy, u, words, n, k, g, rows);
@@ -270,7 +270,7 @@ fn make_group(
     to: usize,
     rows: &mut [u64],
 ) -> Group
-    requires { ⌜ Ready (now policy) u (now words) n × (from ≤ to) × (to ≤ ruleCount (now policy)) × (bitOk right ≡ true) × (length (laid (laneAt (now policy) u (now roles) right) from (to - from)) ≤ 63) × (length (now rows) ≡ 2050) ⌝ }
+    requires { ⌜ Ready (now policy) u (now words) n × (from ≤ to) × (to ≤ ruleCount (now policy)) × (bitOk right ≡ true) × (length (laid (laneAt (now policy) u (now roles) right) from (to - from)) ≤ 63) × (length (now rows) ≡ 2113) ⌝ }
     ensures { λ r. ⌜ Grouped (numberIn (now (policy .entry)) (now (words .entry)) n) (laneAt (now (policy .entry)) u (now (roles .entry)) right) right from (to - from) (r .deep) (r .every) (r .start) (r .yes) (r .noes) (r .used) (now (rows .exit)) ⌝ }
 {
     clear_rows(rows, n + 1);
@@ -326,8 +326,8 @@ fn try_group(
     rows: &mut [u64],
     out: &mut [u8],
 )
-    requires { ⌜ Ready (now policy) u (now words) count × (from ≤ to) × (to ≤ ruleCount (now policy)) × (bitOk right ≡ true) × (length (laid (laneAt (now policy) u (now roles) right) from (to - from)) ≤ 63) × (length (now rows) ≡ 2050) × Numbered (now policy) (now words) count (now t) n (now numbers) × (n ≤ length (now out)) ⌝ }
-    ensures { λ _. ⌜ (length (now (rows .exit)) ≡ 2050) × Each n (now (out .entry)) (now (out .exit)) (λ (i x : ℕ). ruled (laneAt (now (policy .entry)) u (now (roles .entry)) right) right (chainOf (now (t .entry)) i) from (to - from) x) ⌝ }
+    requires { ⌜ Ready (now policy) u (now words) count × (from ≤ to) × (to ≤ ruleCount (now policy)) × (bitOk right ≡ true) × (length (laid (laneAt (now policy) u (now roles) right) from (to - from)) ≤ 63) × (length (now rows) ≡ 2113) × Numbered (now policy) (now words) count (now t) n (now numbers) × (n ≤ length (now out)) ⌝ }
+    ensures { λ _. ⌜ (length (now (rows .exit)) ≡ 2113) × Each n (now (out .entry)) (now (out .exit)) (λ (i x : ℕ). ruled (laneAt (now (policy .entry)) u (now (roles .entry)) right) right (chainOf (now (t .entry)) i) from (to - from) x) ⌝ }
 {
     let g = make_group(policy, u, words, count, roles, right, from, to, rows);
     if g.used == 0 {
@@ -364,8 +364,8 @@ fn try_right(
     rows: &mut [u64],
     out: &mut [u8],
 )
-    requires { ⌜ Ready (now policy) u (now words) count × (bitOk right ≡ true) × (length (now rows) ≡ 2050) × Numbered (now policy) (now words) count (now t) n (now numbers) × (n ≤ length (now out)) ⌝ }
-    ensures { λ _. ⌜ (length (now (rows .exit)) ≡ 2050) × Each n (now (out .entry)) (now (out .exit)) (λ (i x : ℕ). ruled (laneAt (now (policy .entry)) u (now (roles .entry)) right) right (chainOf (now (t .entry)) i) 0 (ruleCount (now (policy .entry))) x) ⌝ }
+    requires { ⌜ Ready (now policy) u (now words) count × (bitOk right ≡ true) × (length (now rows) ≡ 2113) × Numbered (now policy) (now words) count (now t) n (now numbers) × (n ≤ length (now out)) ⌝ }
+    ensures { λ _. ⌜ (length (now (rows .exit)) ≡ 2113) × Each n (now (out .entry)) (now (out .exit)) (λ (i x : ℕ). ruled (laneAt (now (policy .entry)) u (now (roles .entry)) right) right (chainOf (now (t .entry)) i) 0 (ruleCount (now (policy .entry))) x) ⌝ }
 {
     let rules = wide(policy[2]);
     let mut k = 0;
@@ -403,7 +403,7 @@ pub fn try_rights(
     rows: &mut [u64],
     out: &mut [u8],
 )
-    requires { ⌜ Ready (now policy) u (now words) count × (length (now rows) ≡ 2050) × Numbered (now policy) (now words) count (now t) n (now numbers) × (n ≤ length (now out)) ⌝ }
+    requires { ⌜ Ready (now policy) u (now words) count × (length (now rows) ≡ 2113) × Numbered (now policy) (now words) count (now t) n (now numbers) × (n ≤ length (now out)) ⌝ }
     ensures { λ _. ⌜ Each n (now (out .entry)) (now (out .exit)) (λ (i x : ℕ). byFive (now (policy .entry)) u (now (roles .entry)) (chainOf (now (t .entry)) i) x) ⌝ }
 {
     try_right(

@@ -1,5 +1,5 @@
-// The vocabulary of a policy for one subject: the texts of all steps and the subject's name, sorted and each once. A label's number is its place there, found by halving,
-// so that a node's label is compared with at most 12 words, once for all rules.
+// Words of a policy, the labels that its rules name and names of subjects, sorted and each once. A label's number is its place among them, found by halving: a node's
+// label is compared with at most 12 words, once for all rules.
 use crate::bytes::wide;
 use crate::labels::BEFORE;
 use crate::labels::EQUAL;
@@ -12,14 +12,17 @@ use crate::limits::RULES_AT;
 use crate::limits::STEPS_AT;
 use crate::limits::SUBJECTS_AT;
 ghost use mathlib.Core.Path.{_≡_};
-ghost use mathlib.Core.Bool.{true, cond};
+ghost use mathlib.Core.Bool.{true, false, cond};
+ghost use mathlib.Core.List.{List};
 ghost use Prim.Native.Nat.{ℕ, _+_, _*_, _≤_, _<_};
 ghost use lib.Dec.{eqb};
 ghost use lib.ListN.{length, getD};
 ghost use Rattle.rights.specs.Table.{recAt, recordAt, recordsFrom, recordsOk, label};
-ghost use Rattle.rights.specs.PolicyBytes.{ruleCount, stepCount, stepsAt, Text, Subject};
+ghost use Rattle.rights.specs.Labels.{sameLabel};
+ghost use Rattle.rights.specs.Policy.{some, uses};
+ghost use Rattle.rights.specs.PolicyBytes.{ruleCount, stepOf, stepsFrom, pathOf, Text, Subject};
 ghost use Rattle.rights.specs.Automaton.{Each, Steps, Sound};
-ghost use Rattle.rights.specs.Vocabulary.{labelOrder, wordAt, numberIn, Words, Stands, Inserted, Grown, Sorted};
+ghost use Rattle.rights.specs.Vocabulary.{labelOrder, wordAt, numberIn, named, Words, Stands, Inserted, Added, Sorted};
 
 // Where a label stands among the words: at one that it is, or missing before one.
 pub enum Spot {
@@ -47,7 +50,7 @@ fn compare_word(policy: &[u8], words: &[u32], i: usize, s: &[u8], at: usize) -> 
 
 // The lower end of what is left to search, where the word in the middle was found to stand so.
 fn raised(o: u8, low: usize, middle: usize) -> usize
-    requires { ⌜ middle < 2049 ⌝ }
+    requires { ⌜ middle < 2112 ⌝ }
     ensures { λ r. ⌜ r ≡ cond (eqb o 0) (middle + 1) low ⌝ }
 {
     if o == BEFORE {
@@ -110,9 +113,9 @@ fn insert_word(words: &mut [u32], n: usize, i: usize, at: usize)
 }
 
 // Adds the text of the record at byte `at` of the policy, where it is new; how many words there are now.
-fn add_word(policy: &[u8], words: &mut [u32], n: usize, at: usize) -> usize
-    requires { ⌜ Words (now policy) (now words) n × (n < 2049) × Text (now policy) at × (at < 4294967296) ⌝ }
-    ensures { λ r. ⌜ Grown (now (policy .entry)) (now (words .entry)) n (now (words .exit)) r × (r ≤ n + 1) × (0 < numberIn (now (policy .entry)) (now (words .exit)) r (label (recAt (now (policy .entry)) at))) ⌝ }
+pub fn add_word(policy: &[u8], words: &mut [u32], n: usize, at: usize) -> usize
+    requires { ⌜ Words (now policy) (now words) n × (n < 2112) × Text (now policy) at × (at < 4294967296) ⌝ }
+    ensures { λ r. ⌜ Added (now (policy .entry)) (now (words .entry)) n (now (words .exit)) r (λ (x : List ℕ). sameLabel x (label (recAt (now (policy .entry)) at))) × (r ≤ n + 1) ⌝ }
 {
     let Spot::Missing(i) = search(policy, &words[..], n, policy, at) else {
         return n;
@@ -121,48 +124,72 @@ fn add_word(policy: &[u8], words: &mut [u32], n: usize, at: usize) -> usize
     n + 1
 }
 
-// Adds the texts of count steps at byte b.
+// Adds the label that the step at byte `at` names, if it names one.
+fn add_step(policy: &[u8], words: &mut [u32], n: usize, at: usize) -> usize
+    requires { ⌜ Words (now policy) (now words) n × (n < 2112) × Text (now policy) at × (at < 4294967296) ⌝ }
+    ensures { λ r. ⌜ Added (now (policy .entry)) (now (words .entry)) n (now (words .exit)) r (λ (x : List ℕ). uses false x (stepOf (recAt (now (policy .entry)) at))) × (r ≤ n + 1) ⌝ }
+{
+    let first = policy[at + LABEL_AT];
+    if first == b'*' {
+        return n;
+    }
+    if first == b'$' {
+        return n;
+    }
+    add_word(policy, words, n, at)
+}
+
+// Adds the labels that the count steps at byte b name.
 fn add_path(policy: &[u8], b: usize, count: usize, words: &mut [u32], n: usize) -> usize
-    requires { ⌜ Steps (now policy) b count × Words (now policy) (now words) n × (n + count ≤ 2049) × (b + 512 < 4294967296) ⌝ }
-    ensures { λ r. ⌜ Grown (now (policy .entry)) (now (words .entry)) n (now (words .exit)) r × (r ≤ n + count) × ((j : ℕ) → j < count → 0 < numberIn (now (policy .entry)) (now (words .exit)) r (label (recAt (now (policy .entry)) (b + j * 32)))) ⌝ }
+    requires { ⌜ Steps (now policy) b count × Words (now policy) (now words) n × (n + count ≤ 2112) × (b + 512 < 4294967296) ⌝ }
+    ensures { λ r. ⌜ Added (now (policy .entry)) (now (words .entry)) n (now (words .exit)) r (λ (x : List ℕ). some (uses false x) (stepsFrom (now (policy .entry)) b count 0)) × (r ≤ n + count) ⌝ }
 {
     let mut next = n;
     let mut j = 0;
     while j < count {
-        next = add_word(policy, words, next, b + j * RECORD_BYTES);
+        next = add_step(policy, words, next, b + j * RECORD_BYTES);
         j += 1;
     }
     next
 }
 
-// Adds the texts of the steps of rule k.
+// Adds the labels that rule k names.
 fn add_rule(policy: &[u8], k: usize, words: &mut [u32], n: usize) -> usize
-    requires { ⌜ Sound (now policy) × (k < ruleCount (now policy)) × Words (now policy) (now words) n × (n + 16 ≤ 2049) ⌝ }
-    ensures { λ r. ⌜ Grown (now (policy .entry)) (now (words .entry)) n (now (words .exit)) r × (r ≤ n + 16) × ((j : ℕ) → j < stepCount (now (policy .entry)) k → 0 < numberIn (now (policy .entry)) (now (words .exit)) r (label (recAt (now (policy .entry)) (stepsAt k + j * 32)))) ⌝ }
+    requires { ⌜ Sound (now policy) × (k < ruleCount (now policy)) × Words (now policy) (now words) n × (n + 16 ≤ 2112) ⌝ }
+    ensures { λ r. ⌜ Added (now (policy .entry)) (now (words .entry)) n (now (words .exit)) r (λ (x : List ℕ). some (uses false x) (pathOf (now (policy .entry)) k)) × (r ≤ n + 16) ⌝ }
 {
     let a = RULES_AT + k * RULE_BYTES;
     let count = wide(policy[a + 3]);
     add_path(policy, a + STEPS_AT, count, words, n)
 }
 
-// Sorts the words of the policy for subject u, and returns how many they are.
-pub fn sort_words(policy: &[u8], u: usize, words: &mut [u32]) -> usize
-    requires { ⌜ Sound (now policy) × Subject (now policy) u × (length (now words) ≡ 2049) ⌝ }
-    ensures { λ r. ⌜ Sorted (now (policy .entry)) u (now (words .exit)) r ⌝ }
+// Adds the labels that the rules name.
+pub fn add_rules(policy: &[u8], words: &mut [u32], n: usize) -> usize
+    requires { ⌜ Sound (now policy) × Words (now policy) (now words) n × (n ≤ 1) ⌝ }
+    ensures { λ r. ⌜ Added (now (policy .entry)) (now (words .entry)) n (now (words .exit)) r (named (now (policy .entry))) × (r ≤ n + 2048) ⌝ }
 {
-    let mut n = add_word(policy, words, 0, SUBJECTS_AT + u * RECORD_BYTES);
     let count = wide(policy[2]);
+    let mut next = n;
     let mut k = 0;
     while k < count {
-        n = add_rule(policy, k, words, n);
+        next = add_rule(policy, k, words, next);
         k += 1;
     }
-    n
+    next
 }
 
-// A label's number, of which there are at most 2,050, in 16 bits.
+// Sorts the words for the rights of subject u, and returns how many they are.
+pub fn sort_words(policy: &[u8], u: usize, words: &mut [u32]) -> usize
+    requires { ⌜ Sound (now policy) × Subject (now policy) u × (length (now words) ≡ 2112) ⌝ }
+    ensures { λ r. ⌜ Sorted (now (policy .entry)) u (now (words .exit)) r ⌝ }
+{
+    let n = add_word(policy, words, 0, SUBJECTS_AT + u * RECORD_BYTES);
+    add_rules(policy, words, n)
+}
+
+// A label's number, of which there are at most 2,113, in 16 bits.
 fn narrow(x: usize) -> u16
-    requires { ⌜ x ≤ 2049 ⌝ }
+    requires { ⌜ x ≤ 2112 ⌝ }
     ensures { λ r. ⌜ r ≡ x ⌝ }
 {
     x as u16

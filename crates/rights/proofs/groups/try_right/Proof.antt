@@ -12,7 +12,7 @@ use Rattle.rights.proofs.groups.try_right.Tie as tie
 
 abbrev Inv-loop : tie.InvT-loop
 Inv-loop policy u words count roles right t n numbers rows₀ out₀ rules k₀ rows out k =
-    (k ≤ rules) × (length rows ≡ 2050) × Each n out₀ out (λ (i x : ℕ). ruled (laneAt policy u roles right) right (chainOf t i) 0 k x)
+    (k ≤ rules) × (length rows ≡ 2113) × Each n out₀ out (λ (i x : ℕ). ruled (laneAt policy u roles right) right (chainOf t i) 0 k x)
 
 abbrev μ-loop : tie.MeasureT-loop
 μ-loop policy u words count roles right t n numbers rows₀ out₀ rules k₀ rows out k = rules - k

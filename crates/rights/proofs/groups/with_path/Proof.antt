@@ -16,7 +16,7 @@ use Rattle.rights.proofs.groups.with_path.Tie as tie
 abbrev Inv-loop : tie.InvT-loop
 Inv-loop policy u words n b count used rows₀ m₀ j₀ rows m j =
     (j ≤ count)
-    × (length rows ≡ 2050)
+    × (length rows ≡ 2113)
     × ((ss : List Step) → length ss ≡ used → Packed (numberIn policy words n) ss (m₀ .deep) (m₀ .every) rows₀ → Packed (numberIn policy words n) (ss ++ stepsFor (passesOwn (policyOf policy) u) policy b j 0) (m .deep) (m .every) rows)
 
 abbrev μ-loop : tie.MeasureT-loop

@@ -1,3 +1,4 @@
+use Rattle.rights.proofs.PackedLaws.{sorted-step}
 use Rattle.rights.specs.PolicyBytes.{accepts, ruleAt}
 use lib.ListN.{getD}
 use lib.Dec.{eqb}
@@ -33,7 +34,7 @@ with-path-requires : tie.Need-with-path-requires
 with-path-requires c κs =
     let a = c .before .before .before .before .before .before .args in
     let g = c .before .before .before .before .before .before .pre in
-    rw (c .before .wide .ensures) (g .0, g .0 .sound .paths (a .k) (g .1), (λ j h. g .0 .sorted .steps (a .k) j (g .1) h), g .2, g .3)
+    rw (c .before .wide .ensures) (g .0, g .0 .sound .paths (a .k) (g .1), (λ j h. sorted-step (a .policy .now) (a .u) (a .words .now) (a .n) (g .0 .sorted) (a .k) j (g .1) h), g .2, g .3)
 
 add-last : tie.Need-add-last
 add-last c = search needs

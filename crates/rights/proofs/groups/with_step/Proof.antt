@@ -75,7 +75,7 @@ returns-2 c =
     let r = g .0 .sorted in
     let d = c .before .before .before .before .before .before .is-deep .result in
     let h = c .before .before .row-of .result in
-    let f = step-row p (a .u) (a .step) (g .0 .subject) (a .words .now) (a .n) (r .name) (g .2) (λ e. c .before .before .before .if1 .left (sym (text-first p (a .step) (g .1)) ∙ e)) h (c .before .before .row-of .ensures .0) in (
+    let f = step-row p (a .u) (a .step) (g .0 .subject) (a .words .now) (a .n) r (g .2) (λ e. c .before .before .before .if1 .left (sym (text-first p (a .step) (g .1)) ∙ e)) h (c .before .before .row-of .ensures .0) in (
       (λ ss e k. rw (c .before .before .before .before .before .mark-if .ensures, c .one-at2 .ensures)
           (packed-row number ss (a .m .deep) (a .m .every) (a .rows .now) k s (a .j) e h (omega (arith, c .before .before .row-of .ensures .1, r .words .few)) f d (step-deep p (a .u) (a .step) d (c .before .before .before .before .before .before .is-deep .ensures)))),
       length-set (a .rows .now) h _ ∙ g .4,

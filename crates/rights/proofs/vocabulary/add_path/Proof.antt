@@ -1,19 +1,20 @@
-use Prim.Native.Nat.{ℕ, _+_, _*_, _-_, _≤_, _<_}
-use mathlib.Core.Path.{_≡_, sym, _∙_}
+use Prim.Native.Nat.{ℕ, _+_, _*_, _-_, _≤_}
+use mathlib.Core.Bool.{false}
+use mathlib.Core.Path.{_≡_, refl, sym, _∙_}
+use mathlib.Core.List.{List}
 use native.Mathlib.Omega.{arith}
-use lib.ListN.{length}
-use Rattle.rights.specs.Table.{recAt, label}
-use Rattle.rights.specs.Vocabulary.{numberIn, Grown}
-use Rattle.rights.proofs.VocabularyLaws.{grown-none, grown-then, there-more}
+use Rattle.rights.specs.Table.{recAt}
+use Rattle.rights.specs.Policy.{some, uses}
+use Rattle.rights.specs.PolicyBytes.{stepOf, stepsFrom}
+use Rattle.rights.specs.Vocabulary.{Added}
+use Rattle.rights.proofs.PolicyWords.{steps-last}
+use Rattle.rights.proofs.VocabularyLaws.{added-none, added-then}
 use Rattle.rights.proofs.vocabulary.add_path.Statement.{statement}
 use Rattle.rights.proofs.vocabulary.add_path.Tie as tie
 
 abbrev Inv-loop : tie.InvT-loop
 Inv-loop policy b count words₀ n next₀ j₀ words next j =
-    (j ≤ count)
-    × (next ≤ n + j)
-    × Grown policy words₀ n words next
-    × ((i : ℕ) → i < j → 0 < numberIn policy words next (label (recAt policy (b + i * 32))))
+    (j ≤ count) × (next ≤ n + j) × Added policy words₀ n words next (λ (x : List ℕ). some (uses false x) (stepsFrom policy b j 0))
 
 abbrev μ-loop : tie.MeasureT-loop
 μ-loop policy b count words₀ n next₀ j₀ words next j = count - j
@@ -22,16 +23,16 @@ loop-holds : tie.Need-loop-holds Inv-loop μ-loop
 loop-holds c =
     let a = c .before .before .args in
     let g = c .before .before .pre in
-    (omega arith, omega arith, grown-none (a .policy .now) (a .words .now) (a .n) (g .1), λ i h. absurd (omega arith))
+    (omega arith, omega arith, added-none (a .policy .now) (a .words .now) (a .n) _ (g .1) (λ x. unfold some stepsFrom in refl))
 
-mul-add-word : tie.Need-mul-add-word Inv-loop μ-loop
-mul-add-word c = omega (arith, c .before .before .before .before .before .pre .0 .few)
+mul-add-step : tie.Need-mul-add-step Inv-loop μ-loop
+mul-add-step c = omega (arith, c .before .before .before .before .before .pre .0 .few)
 
-add-add-word : tie.Need-add-add-word Inv-loop μ-loop
-add-add-word c = omega (arith, c .before .before .before .before .before .pre .0 .few, c .before .before .before .before .before .pre .3)
+add-add-step : tie.Need-add-add-step Inv-loop μ-loop
+add-add-step c = omega (arith, c .before .before .before .before .before .pre .0 .few, c .before .before .before .before .before .pre .3)
 
-add-word-requires : tie.Need-add-word-requires Inv-loop μ-loop
-add-word-requires c κs =
+add-step-requires : tie.Need-add-step-requires Inv-loop μ-loop
+add-step-requires c κs =
     let g = c .before .before .before .before .before .pre in
     let l = c .before .before .loop in
     (l .inv .2 .words, omega (arith, g .2), g .0 .texts (l .j) (c .before .loop-test .taken), omega (arith, g .0 .few, g .3))
@@ -46,12 +47,11 @@ loop-again : tie.Need-loop-again Inv-loop μ-loop
 loop-again c =
     let a = c .before .before .before .before .before .before .before .before .args in
     let l = c .before .before .before .before .before .loop in
-    let r = c .before .before .add-word .ensures in
+    let r = c .before .before .add-step .ensures in
     let p = a .policy .now in (
       omega arith,
       omega (arith, r .1),
-      grown-then p (a .words .now) (a .n) (l .words) (l .next) _ _ (l .inv .2) (r .0),
-      there-more p (a .b) (l .words) (l .next) _ _ (l .j) (r .0) (l .inv .3) (r .2),
+      added-then p (a .words .now) (a .n) (l .words) (l .next) _ _ _ _ _ (λ x. steps-last p (uses false x) (a .b) (l .j)) (l .inv .2) (r .0),
     )
 
 same-length : tie.Need-same-length Inv-loop μ-loop
@@ -61,7 +61,7 @@ returns : tie.Need-returns Inv-loop μ-loop
 returns c =
     let l = c .before .loop in
     let e : l .j ≡ c .before .before .before .before .args .count = omega arith in
-    (l .inv .2, omega arith, rw e at (l .inv .3))
+    (rw e at (l .inv .2), omega arith)
 
 pub add-path-spec : {M : Type 1} → statement M
 add-path-spec =
@@ -70,9 +70,9 @@ add-path-spec =
     Inv-loop
     μ-loop
     loop-holds
-    mul-add-word
-    add-add-word
-    add-word-requires
+    mul-add-step
+    add-add-step
+    add-step-requires
     add-j
     loop-less
     loop-again

@@ -38,7 +38,7 @@ returns c =
     let g = c .before .before .before .before .before .before .before .before .pre in
     let w = c .before .before .before .before .wide .ensures in
     let r = c .before .before .add-path .ensures in
-    (r .0, omega (arith, r .1, w, g .0 .paths (a .k) (g .1) .few), rw w at (r .2))
+    (rw w at (r .0), omega (arith, r .1, w, g .0 .paths (a .k) (g .1) .few))
 
 pub add-rule-spec : {M : Type 1} → statement M
 add-rule-spec =

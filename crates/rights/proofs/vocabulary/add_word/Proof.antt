@@ -4,7 +4,7 @@ use mathlib.Core.Path.{sym, _∙_, subst}
 use Rattle.rights.specs.Table.{recAt, label}
 use Rattle.rights.specs.Vocabulary.{wordAt, Stands}
 use Rattle.rights.proofs.LabelLaws.{order-same}
-use Rattle.rights.proofs.VocabularyLaws.{grown-none, grown-more, new-there, number-there}
+use Rattle.rights.proofs.VocabularyLaws.{added-old, added-new}
 use borrow.Author.Needs.{needs}
 use Rattle.rights.proofs.vocabulary.add_word.Statement.{statement}
 use Rattle.rights.proofs.vocabulary.add_word.Tie as tie
@@ -26,10 +26,9 @@ returns c =
     let a = c .before .before .before .before .before .before .args in
     let g = c .before .before .before .before .before .before .pre in
     let p = a .policy .now in
-    let f = wordAt p (a .words .now) in
     let x = label (recAt p (a .at)) in
-    let s = subst (Stands f (a .n) x) (c .enum-told .given .1) (c .before .before .search .ensures) in
-    (grown-none p (a .words .now) (a .n) (g .0), omega arith, number-there f (a .n) _ x (s .0) (order-same _ x (s .1)))
+    let s = subst (Stands (wordAt p (a .words .now)) (a .n) x) (c .enum-told .given .1) (c .before .before .search .ensures) in
+    (added-old p (a .words .now) (a .n) _ x (g .0) (s .0) (order-same _ x (s .1)), omega arith)
 
 insert-word-requires : tie.Need-insert-word-requires
 insert-word-requires c κs =
@@ -51,11 +50,7 @@ returns-2 c =
     let g = c .before .before .before .before .before .before .before .before .before .before .before .pre in
     let p = a .policy .now in
     let s = subst (Stands (wordAt p (a .words .now)) (a .n) (label (recAt p (a .at)))) (c .before .before .before .before .before .i .given .1) (c .before .before .before .before .before .before .before .search .ensures) in
-    let put = c .before .before .insert-word .ensures in (
-      grown-more p (a .words .now) _ (a .n) _ (a .at) (g .0) (g .1) (g .2) put (s .0) (s .1) (s .2),
-      omega arith,
-      new-there p (a .words .now) _ (a .n) _ (a .at) (g .0) (g .1) (g .2) put (s .0) (s .1) (s .2),
-    )
+    (added-new p (a .words .now) _ (a .n) _ (a .at) (g .0) (g .1) (g .2) (c .before .before .insert-word .ensures) (s .0) (s .1) (s .2), omega arith)
 
 pub add-word-spec : {M : Type 1} → statement M
 add-word-spec =

@@ -1,89 +1,42 @@
-use Prim.Native.Nat.{ℕ, _+_, _*_, _-_, _≤_, _<_}
-use mathlib.Core.Path.{_≡_, sym, _∙_}
 use native.Mathlib.Omega.{arith}
-use Rattle.rights.specs.Table.{recAt, label}
-use Rattle.rights.specs.PolicyBytes.{ruleCount, stepCount, stepsAt, nameAt}
-use Rattle.rights.specs.Vocabulary.{numberIn, Words}
-use Rattle.rights.proofs.VocabularyLaws.{words-none, rules-more}
+use mathlib.Core.Bool.{Bool, _||_}
+use mathlib.Core.Path.{refl, sym, _∙_, ap}
+use Rattle.rights.specs.Labels.{sameLabel}
+use Rattle.rights.specs.PolicyBytes.{nameAt}
+use Rattle.rights.specs.Vocabulary.{named}
+use Rattle.rights.proofs.VocabularyLaws.{words-none, none-word}
+use borrow.Author.Needs.{needs}
 use Rattle.rights.proofs.vocabulary.sort_words.Statement.{statement}
 use Rattle.rights.proofs.vocabulary.sort_words.Tie as tie
 
-abbrev Inv-loop : tie.InvT-loop
-Inv-loop policy u words₀ n₀ count k₀ words n k =
-    (k ≤ count)
-    × (n ≤ 1 + k * 16)
-    × Words policy words n
-    × (0 < numberIn policy words n (nameAt policy u))
-    × ((i j : ℕ) → i < k → j < stepCount policy i → 0 < numberIn policy words n (label (recAt policy (stepsAt i + j * 32))))
-
-abbrev μ-loop : tie.MeasureT-loop
-μ-loop policy u words₀ n₀ count k₀ words n k = count - k
-
-mul-add-word : tie.Need-mul-add-word Inv-loop μ-loop
+mul-add-word : tie.Need-mul-add-word
 mul-add-word c = omega (arith, c .before .before .before .pre .0 .subjects, c .before .before .before .pre .1 .declared)
 
-add-add-word : tie.Need-add-add-word Inv-loop μ-loop
+add-add-word : tie.Need-add-add-word
 add-add-word c = omega (arith, c .before .before .before .pre .0 .subjects, c .before .before .before .pre .1 .declared)
 
-add-word-requires : tie.Need-add-word-requires Inv-loop μ-loop
+add-word-requires : tie.Need-add-word-requires
 add-word-requires c κs =
     let g = c .before .before .before .pre in
     (words-none _ _ (g .2), omega arith, g .1 .name, omega (arith, g .0 .subjects, g .1 .declared))
 
-shared-slice-read-wide : tie.Need-shared-slice-read-wide Inv-loop μ-loop
-shared-slice-read-wide c = omega (arith, c .before .before .before .before .before .before .before .pre .0 .size)
+add-rules-requires : tie.Need-add-rules-requires
+add-rules-requires c κs =
+    let r = c .before .before .before .add-word .ensures in
+    (c .before .before .before .before .before .before .before .pre .0, r .0 .words, omega (arith, r .1))
 
-wide-requires : tie.Need-wide-requires Inv-loop μ-loop
-wide-requires c κs = tt
+same-length : tie.Need-same-length
+same-length c = c .before .before .add-rules .ensures .0 .words .long ∙ sym (c .before .before .before .before .before .before .before .before .before .before .pre .2)
 
-loop-holds : tie.Need-loop-holds Inv-loop μ-loop
-loop-holds c =
-    let r = c .before .before .before .before .add-word .ensures in
-    (omega arith, omega (arith, r .1), r .0 .words, r .2, λ i j h l. absurd (omega arith))
-
-add-rule-requires : tie.Need-add-rule-requires Inv-loop μ-loop
-add-rule-requires c κs =
-    let g = c .before .before .before .before .before .before .before .before .before .before .before .pre in
-    let l = c .before .before .loop in
-    (g .0, omega (arith, c .before .before .before .wide .ensures), l .inv .2, omega (arith, c .before .before .before .wide .ensures, g .0 .rules, l .inv .1))
-
-add-k : tie.Need-add-k Inv-loop μ-loop
-add-k c = omega arith
-
-loop-less : tie.Need-loop-less Inv-loop μ-loop
-loop-less c = omega arith
-
-loop-again : tie.Need-loop-again Inv-loop μ-loop
-loop-again c =
-    let p = c .before .before .before .before .before .before .before .before .before .before .before .before .before .before .args .policy .now in
-    let l = c .before .before .before .before .before .loop in
-    let r = c .before .before .add-rule .ensures in
-    (omega arith, omega (arith, r .1), r .0 .words, r .0 .kept _ (l .inv .3), rules-more p (l .words) (l .n) _ _ (l .k) (r .0) (l .inv .4) (r .2))
-
-same-length : tie.Need-same-length Inv-loop μ-loop
-same-length c = c .before .loop .inv .2 .long ∙ sym (c .before .before .before .before .before .before .before .before .before .before .pre .2)
-
-returns : tie.Need-returns Inv-loop μ-loop
+returns : tie.Need-returns
 returns c =
-    let l = c .before .loop in
-    let e : l .k ≡ ruleCount (c .before .before .before .before .before .before .before .before .before .before .args .policy .now) = omega (arith, c .before .before .wide .ensures) in
-    record { words = l .inv .2; name = l .inv .3; steps = rw e at (l .inv .4) }
+    let a = c .before .before .before .before .before .before .before .before .before .before .args in
+    let p = a .policy .now in
+    let one = c .before .before .before .before .before .before .add-word .ensures .0 in
+    let all = c .before .before .add-rules .ensures .0 in
+    record { words = all .words; holds = λ x. all .holds x ∙ ap (λ (b : Bool). b || named p x) (one .holds x ∙ ap (λ (b : Bool). b || sameLabel x (nameAt p (a .u))) (none-word p (a .words .now) x)) }
 
 pub sort-words-spec : {M : Type 1} → statement M
 sort-words-spec =
     tie.close
-    (tie.spec
-    Inv-loop
-    μ-loop
-    mul-add-word
-    add-add-word
-    add-word-requires
-    shared-slice-read-wide
-    wide-requires
-    loop-holds
-    add-rule-requires
-    add-k
-    loop-less
-    loop-again
-    same-length
-    returns)
+    (tie.spec mul-add-word add-add-word add-word-requires add-rules-requires same-length returns)

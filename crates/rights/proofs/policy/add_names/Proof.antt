@@ -1,0 +1,88 @@
+use Prim.Native.Nat.{ℕ, _+_, _*_, _-_, _≤_}
+use mathlib.Core.Path.{_≡_, refl, sym, _∙_}
+use mathlib.Core.List.{List}
+use native.Mathlib.Omega.{arith}
+use Rattle.rights.specs.Labels.{sameLabel}
+use Rattle.rights.specs.Policy.{some}
+use Rattle.rights.specs.PolicyBytes.{subjectCount, namesFrom}
+use Rattle.rights.specs.Vocabulary.{Added}
+use Rattle.rights.proofs.PolicyWords.{names-last}
+use Rattle.rights.proofs.VocabularyLaws.{added-none, added-then}
+use Rattle.rights.proofs.policy.add_names.Statement.{statement}
+use Rattle.rights.proofs.policy.add_names.Tie as tie
+
+abbrev Inv-loop : tie.InvT-loop
+Inv-loop policy words₀ n count next₀ u₀ words next u =
+    (u ≤ count) × (next ≤ n + u) × Added policy words₀ n words next (λ (x : List ℕ). some (sameLabel x) (namesFrom policy u 0))
+
+abbrev μ-loop : tie.MeasureT-loop
+μ-loop policy words₀ n count next₀ u₀ words next u = count - u
+
+shared-slice-read-wide : tie.Need-shared-slice-read-wide Inv-loop μ-loop
+shared-slice-read-wide c = omega (arith, c .before .before .before .pre .0 .size)
+
+wide-requires : tie.Need-wide-requires Inv-loop μ-loop
+wide-requires c κs = tt
+
+loop-holds : tie.Need-loop-holds Inv-loop μ-loop
+loop-holds c =
+    let a = c .before .before .before .before .args in
+    let g = c .before .before .before .before .pre in
+    (omega arith, omega arith, added-none (a .policy .now) (a .words .now) (a .n) _ (g .1) (λ x. unfold some namesFrom in refl))
+
+mul-add-word : tie.Need-mul-add-word Inv-loop μ-loop
+mul-add-word c = omega (arith, c .before .before .before .wide .ensures, c .before .before .before .before .before .before .before .pre .0 .subjects)
+
+add-add-word : tie.Need-add-add-word Inv-loop μ-loop
+add-add-word c = omega (arith, c .before .before .before .wide .ensures, c .before .before .before .before .before .before .before .pre .0 .subjects)
+
+add-word-requires : tie.Need-add-word-requires Inv-loop μ-loop
+add-word-requires c κs =
+    let g = c .before .before .before .before .before .before .before .pre in
+    let l = c .before .before .loop in
+    let w = c .before .before .before .wide .ensures in
+    (l .inv .2 .words, omega (arith, w, g .0 .subjects, g .2), g .0 .names (l .u) (omega (arith, w)), omega (arith, w, g .0 .subjects))
+
+add-u : tie.Need-add-u Inv-loop μ-loop
+add-u c = omega arith
+
+loop-less : tie.Need-loop-less Inv-loop μ-loop
+loop-less c = omega arith
+
+loop-again : tie.Need-loop-again Inv-loop μ-loop
+loop-again c =
+    let a = c .before .before .before .before .before .before .before .before .before .before .args in
+    let l = c .before .before .before .before .before .loop in
+    let r = c .before .before .add-word .ensures in
+    let p = a .policy .now in (
+      omega arith,
+      omega (arith, r .1),
+      added-then p (a .words .now) (a .n) (l .words) (l .next) _ _ _ _ _ (λ x. names-last p (sameLabel x) (l .u)) (l .inv .2) (r .0),
+    )
+
+same-length : tie.Need-same-length Inv-loop μ-loop
+same-length c = c .before .loop .inv .2 .words .long ∙ sym (c .before .before .before .before .before .before .pre .1 .long)
+
+returns : tie.Need-returns Inv-loop μ-loop
+returns c =
+    let l = c .before .loop in
+    let e : l .u ≡ subjectCount (c .before .before .before .before .before .before .args .policy .now) = omega (arith, c .before .before .wide .ensures) in
+    rw e at (l .inv .2)
+
+pub add-names-spec : {M : Type 1} → statement M
+add-names-spec =
+    tie.close
+    (tie.spec
+    Inv-loop
+    μ-loop
+    shared-slice-read-wide
+    wide-requires
+    loop-holds
+    mul-add-word
+    add-add-word
+    add-word-requires
+    add-u
+    loop-less
+    loop-again
+    same-length
+    returns)

@@ -1,0 +1,16 @@
+use native.Mathlib.Omega.{arith}
+use mathlib.Core.Path.{refl, sym, _∙_, ap}
+use Prim.Native.Nat.{ℕ}
+use lib.Dec.{ltb}
+use borrow.Author.Needs.{needs}
+use Rattle.rights.proofs.policy.is_among.Statement.{statement}
+use Rattle.rights.proofs.policy.is_among.Tie as tie
+
+number-of-requires : tie.Need-number-of-requires
+number-of-requires c κs = (c .before .before .before .pre .0 .words, c .before .before .before .pre .1)
+
+returns : tie.Need-returns
+returns c = ap (λ (k : ℕ). ltb 0 k) (c .number-of .ensures .0) ∙ c .before .before .before .before .pre .0 .holds _
+
+pub is-among-spec : {M : Type 1} → statement M
+is-among-spec = tie.close (tie.spec number-of-requires returns)

@@ -1,0 +1,63 @@
+use native.Mathlib.Omega.{arith}
+use mathlib.Core.Bool.{Bool, _||_}
+use mathlib.Core.List.{[]}
+use mathlib.Core.Path.{refl, sym, _∙_, ap}
+use Rattle.rights.specs.Labels.{sameLabel}
+use Rattle.rights.specs.Policy.{some}
+use Rattle.rights.specs.PolicyBytes.{subjectCount, namesFrom}
+use Rattle.rights.specs.Vocabulary.{named}
+use Rattle.rights.proofs.Sounds.{policy-sound}
+use Rattle.rights.proofs.PolicyWords.{words-with-names, words-alone}
+use Rattle.rights.proofs.VocabularyLaws.{words-none, none-word}
+use borrow.Author.Needs.{needs}
+use Rattle.rights.proofs.policy.sort_policy_words.Statement.{statement}
+use Rattle.rights.proofs.policy.sort_policy_words.Tie as tie
+
+add-rules-requires : tie.Need-add-rules-requires
+add-rules-requires c κs = (policy-sound _ (c .before .before .before .pre .0), words-none _ _ (c .before .before .before .pre .1), omega arith)
+
+rules-use-requires : tie.Need-rules-use-requires
+rules-use-requires c κs = (policy-sound _ (c .before .before .before .before .before .before .pre .0), omega arith)
+
+add-names-requires : tie.Need-add-names-requires
+add-names-requires c κs =
+    let r = c .before .before .before .before .before .add-rules .ensures in
+    (policy-sound _ (c .before .before .before .before .before .before .before .before .before .pre .0), r .0 .words, omega (arith, r .1))
+
+same-length : tie.Need-same-length
+same-length c = c .before .before .add-names .ensures .words .long ∙ sym (c .before .before .before .before .before .before .before .before .before .before .before .before .pre .1)
+
+returns : tie.Need-returns
+returns c =
+    let a = c .before .before .before .before .before .before .before .before .before .before .before .before .args in
+    let p = a .policy .now in
+    let named-all = c .before .before .before .before .before .before .before .before .add-rules .ensures .0 in
+    let all = c .before .before .add-names .ensures in
+    record {
+      words = all .words;
+      holds = λ x. all .holds x
+          ∙ ap (λ (b : Bool). b || some (sameLabel x) (namesFrom p (subjectCount p) 0)) (named-all .holds x ∙ ap (λ (b : Bool). b || named p x) (none-word p (a .words .now) x))
+          ∙ words-with-names p x [] (sym (c .before .before .before .before .before .rules-use .ensures) ∙ c .before .before .before .before .if1 .taken);
+    }
+
+same-length-2 : tie.Need-same-length-2
+same-length-2 c = c .before .before .before .before .add-rules .ensures .0 .words .long ∙ sym (c .before .before .before .before .before .before .before .before .pre .1)
+
+returns-2 : tie.Need-returns-2
+returns-2 c =
+    let a = c .before .before .before .before .before .before .before .before .args in
+    let p = a .policy .now in
+    let all = c .before .before .before .before .add-rules .ensures .0 in
+    record { words = all .words; holds = λ x. all .holds x ∙ ap (λ (b : Bool). b || named p x) (none-word p (a .words .now) x) ∙ words-alone p x [] (sym (c .before .rules-use .ensures) ∙ c .if1 .left) }
+
+pub sort-policy-words-spec : {M : Type 1} → statement M
+sort-policy-words-spec =
+    tie.close
+    (tie.spec
+    add-rules-requires
+    rules-use-requires
+    add-names-requires
+    same-length
+    returns
+    same-length-2
+    returns-2)
