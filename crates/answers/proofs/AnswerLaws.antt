@@ -1,14 +1,16 @@
 -- Laws of what is put into an area. Assumes nothing.
 use Prim.Native.Nat.{ℕ, zero, suc, _+_, _-_, _/_, _%_, _≤_, _<_}
+use mathlib.Core.Bool.{true}
 use mathlib.Core.Path.{_≡_, refl, sym, ap, _∙_}
 use mathlib.Core.List.{List, [], _∷_, _++_, append-assoc, append-nil}
 use native.Mathlib.Omega.{arith}
 use native.Mathlib.Numerals.{add-one}
+use lib.Dec.{leb}
 use lib.ListN.{length, getD, set, take, drop, length-append, length-take, take-append-drop}
 use lib.Seq.{paste, paste-suc, length-take-le, take-at, drop-at, drop-drop, take-length}
-use borrow.Author.Tests.{lt-ltb, le-ltb, le-leb, lt-leb}
+use borrow.Author.Tests.{lt-ltb, le-ltb, le-leb, lt-leb, leb-true}
 use Rattle.rights.specs.PathText.{decimal}
-use Rattle.answers.specs.AnswerArea.{Puts, Answered}
+use Rattle.answers.specs.AnswerArea.{Puts, Answered, textMost}
 
 -- one byte more copied
 pub copy-more : (d d₀ s : List ℕ) (at j : ℕ) → j < length s → at + length s ≤ length d₀ → d ≡ paste d₀ at s j → set d (at + j) (getD s j 0) ≡ paste d₀ at s (j + 1)
@@ -71,6 +73,10 @@ pub answered-fits : (text a b : List ℕ) (r s : ℕ) → Puts text 0 a b r → 
 answered-fits text a b r s p q h =
     let n : r ≡ length text = omega (arith, p .next) in
     record { size = q ∙ n; area = rw (le-leb (length text) (length a) (omega arith), ← n) (p .fits h) }
+
+-- an answer that surely fits
+pub answered-surely : (text a b : List ℕ) (n r : ℕ) → Puts text 0 a b r × (r ≤ textMost n) → leb (textMost n) (length a) ≡ true → Answered text a b r
+answered-surely text a b n r p e = answered-fits text a b r r (p .0) refl (omega (arith, p .1, leb-true (textMost n) (length a) e))
 
 pub answered-not : (text a : List ℕ) (r : ℕ) → r ≡ length text → length a < r → Answered text a a r
 answered-not text a r e h = record { size = e; area = rw (lt-leb (length text) (length a) (omega arith)) }

@@ -1,5 +1,5 @@
 -- What is put into an area that the caller lends.
-use Prim.Native.Nat.{ℕ, _+_, _≤_}
+use Prim.Native.Nat.{ℕ, _+_, _*_, _≤_}
 use mathlib.Core.Path.{_≡_}
 use mathlib.Core.Bool.{cond}
 use mathlib.Core.List.{List, _++_}
@@ -11,6 +11,11 @@ pub record Puts (p : List ℕ) (at : ℕ) (before after : List ℕ) (r : ℕ) : 
   pub next : r ≡ at + length p
   pub same : length after ≡ length before
   pub fits : r ≤ length before → after ≡ take at before ++ (p ++ drop r before)
+
+-- The most bytes of an answer of n nodes: 52 a hit, whose level has at most 20 digits and whose label at most 24 bytes, 46 a node of a
+-- view, 27 the last line.
+abbrev pub textMost : ℕ → ℕ
+textMost n = 52 * n + 27
 
 -- the area with an answer at its start: "the area beyond it keeps its bytes"; an answer that is longer than the area leaves it whole
 abbrev pub written : List ℕ → List ℕ → List ℕ

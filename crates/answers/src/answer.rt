@@ -1,5 +1,6 @@
 // Answers (document 01, "What is written"), put into an area that the caller lends. An answer's length is found by putting it into an
 // area of one byte, and what does not fit is not written; so the area of an answer that is too long keeps its bytes (refusal 12).
+// A view or a query that surely fits is put at once.
 // The time is in proportion to the nodes looked at and the bytes of the answer.
 use rights::bytes::wide;
 use rights::limits::LABEL_AT;
@@ -10,6 +11,7 @@ use rights::nodes::wide_number;
 ghost use mathlib.Core.Path.{_≡_};
 ghost use mathlib.Core.List.{List, _∷_, [], _++_};
 ghost use Prim.Native.Nat.{ℕ, _+_, _-_, _*_, _%_, _^_, _≤_, _<_, suc};
+ghost use lib.Dec.{leb};
 ghost use lib.ListN.{length, getD, drop, replicate};
 ghost use lib.Seq.{paste};
 ghost use Rattle.rights.specs.PathText.{decimal};
@@ -18,10 +20,23 @@ ghost use Rattle.answers.specs.Answer.{okText, doneText, refusedText, en
 ghost use Rattle.answers.specs.Answer.{viewText, childLines, opening, closing, nextLevel, rootLine};
 ghost use Rattle.answers.specs.AnswerParts.{nodeAt, hitLineAt, nodeText, setMark, markedCount};
 ghost use Rattle.answers.specs.AnswerChoice.{chosen, findText};
-ghost use Rattle.answers.specs.AnswerArea.{Puts, Answered};
+ghost use Rattle.answers.specs.AnswerArea.{Puts, Answered, textMost};
 
 // A number of 64 bits has at most 20 digits.
 const DIGITS_MAX: usize = 20;
+
+// A hit's line has at most 52 bytes, a node of a view 46, and the last line 27.
+const NODE_TEXT_MAX: usize = 52;
+
+const END_TEXT_MAX: usize = 27;
+
+// Whether an answer of n nodes surely fits.
+fn surely_fits(n: usize, room: usize) -> bool
+    requires { ⌜ n ≤ 16384 ⌝ }
+    ensures { λ r. ⌜ r ≡ leb (textMost n) room ⌝ }
+{
+    NODE_TEXT_MAX * n + END_TEXT_MAX <= room
+}
 
 // Copies s into the area at byte `at`.
 fn copy(area: &mut [u8], at: usize, s: &[u8])
@@ -96,7 +111,7 @@ fn put_label(area: &mut [u8], at: usize, table: &[u8], shown: &[u16], i: usize) 
 // Puts `(hit LEVEL L)` of shown node i.
 fn put_hit(area: &mut [u8], at: usize, table: &[u8], shown: &[u16], i: usize) -> usize
     requires { ⌜ (Fits (now table) (now shown)) × (i < length (now shown)) × (at < 2 ^ 61) ⌝ }
-    ensures { λ r. ⌜ (Puts (hitLine (nodeAt (viewOf (now (table .entry)) (now (shown .entry))) i)) at (now (area .entry)) (now (area .exit)) r) × (r ≤ at + 64) ⌝ }
+    ensures { λ r. ⌜ (Puts (hitLine (nodeAt (viewOf (now (table .entry)) (now (shown .entry))) i)) at (now (area .entry)) (now (area .exit)) r) × (r ≤ at + 52) ⌝ }
 {
     let level = level_at(table, shown, i);
     let a = put_bytes(area, at, b"(hit ");
@@ -116,7 +131,7 @@ fn put_marked(
     i: usize,
 ) -> usize
     requires { ⌜ (Fits (now table) (now shown)) × (i < length (now shown)) × (i < length (now marks)) × (at < 2 ^ 61) ⌝ }
-    ensures { λ r. ⌜ (Puts (hitLineAt (now (marks .entry)) (viewOf (now (table .entry)) (now (shown .entry))) i) at (now (area .entry)) (now (area .exit)) r) × (r ≤ at + 64) ⌝ }
+    ensures { λ r. ⌜ (Puts (hitLineAt (now (marks .entry)) (viewOf (now (table .entry)) (now (shown .entry))) i) at (now (area .entry)) (now (area .exit)) r) × (r ≤ at + 52) ⌝ }
 {
     if marks[i] == 0 {
         return at;
@@ -127,7 +142,7 @@ fn put_marked(
 // Puts the lines of the marked nodes.
 fn put_hits(area: &mut [u8], table: &[u8], shown: &[u16], marks: &[u8]) -> usize
     requires { ⌜ (Fits (now table) (now shown)) × (length (now shown) ≤ length (now marks)) ⌝ }
-    ensures { λ r. ⌜ (Puts (hitLines (hitsOf (now (marks .entry)) (viewOf (now (table .entry)) (now (shown .entry))))) 0 (now (area .entry)) (now (area .exit)) r) × (r ≤ 1048576) ⌝ }
+    ensures { λ r. ⌜ (Puts (hitLines (hitsOf (now (marks .entry)) (viewOf (now (table .entry)) (now (shown .entry))))) 0 (now (area .entry)) (now (area .exit)) r) × (r ≤ 52 * length (now (shown .entry))) ⌝ }
 {
     let mut at = 0;
     let mut i = 0;
@@ -164,7 +179,7 @@ fn set_mark(m: u8) -> usize
 // Puts `(end K)`.
 fn put_end(area: &mut [u8], at: usize, k: usize) -> usize
     requires { ⌜ at < 2 ^ 61 ⌝ }
-    ensures { λ r. ⌜ Puts (endLine k) at (now (area .entry)) (now (area .exit)) r ⌝ }
+    ensures { λ r. ⌜ (Puts (endLine k) at (now (area .entry)) (now (area .exit)) r) × (r ≤ at + 27) ⌝ }
 {
     let a = put_bytes(area, at, b"(end ");
     let b = put_decimal(area, a, DIGITS_MAX, k);
@@ -174,7 +189,7 @@ fn put_end(area: &mut [u8], at: usize, k: usize) -> usize
 // Puts the answer to `query`.
 fn put_query(area: &mut [u8], table: &[u8], shown: &[u16], marks: &[u8]) -> usize
     requires { ⌜ (Fits (now table) (now shown)) × (length (now shown) ≤ length (now marks)) ⌝ }
-    ensures { λ r. ⌜ Puts (queryText (hitsOf (now (marks .entry)) (viewOf (now (table .entry)) (now (shown .entry))))) 0 (now (area .entry)) (now (area .exit)) r ⌝ }
+    ensures { λ r. ⌜ (Puts (queryText (hitsOf (now (marks .entry)) (viewOf (now (table .entry)) (now (shown .entry))))) 0 (now (area .entry)) (now (area .exit)) r) × (r ≤ textMost (length (now (shown .entry)))) ⌝ }
 {
     let n = shown.len();
     let k = count_marked(&marks[0..n]);
@@ -260,7 +275,7 @@ fn next_level(table: &[u8], shown: &[u16], i: usize) -> usize
 // Puts shown node i, which is not the root.
 fn put_node(area: &mut [u8], at: usize, table: &[u8], shown: &[u16], i: usize) -> usize
     requires { ⌜ (Fits (now table) (now shown)) × (i < length (now shown)) × (at < 2 ^ 60) ⌝ }
-    ensures { λ r. ⌜ (Puts (nodeText (viewOf (now (table .entry)) (now (shown .entry))) i) at (now (area .entry)) (now (area .exit)) r) × (r ≤ at + 64) ⌝ }
+    ensures { λ r. ⌜ (Puts (nodeText (viewOf (now (table .entry)) (now (shown .entry))) i) at (now (area .entry)) (now (area .exit)) r) × (r ≤ at + 46) ⌝ }
 {
     let level = level_at(table, shown, i);
     let next = next_level(table, shown, i);
@@ -272,7 +287,7 @@ fn put_node(area: &mut [u8], at: usize, table: &[u8], shown: &[u16], i: usize) -
 // Puts the lines of the root's children.
 fn put_children(area: &mut [u8], at: usize, table: &[u8], shown: &[u16]) -> usize
     requires { ⌜ (Fits (now table) (now shown)) × (0 < length (now shown)) × (at < 64) ⌝ }
-    ensures { λ r. ⌜ (Puts (childLines (drop 1 (viewOf (now (table .entry)) (now (shown .entry))))) at (now (area .entry)) (now (area .exit)) r) × (r ≤ 2097152) ⌝ }
+    ensures { λ r. ⌜ (Puts (childLines (drop 1 (viewOf (now (table .entry)) (now (shown .entry))))) at (now (area .entry)) (now (area .exit)) r) × (r + 46 ≤ at + 46 * length (now (shown .entry))) ⌝ }
 {
     let mut next = at;
     let mut i = 1;
@@ -286,7 +301,7 @@ fn put_children(area: &mut [u8], at: usize, table: &[u8], shown: &[u16]) -> usiz
 // Puts `(root L)`.
 fn put_root(area: &mut [u8], table: &[u8], shown: &[u16]) -> usize
     requires { ⌜ (Fits (now table) (now shown)) × (0 < length (now shown)) ⌝ }
-    ensures { λ r. ⌜ (Puts (rootLine (labelAt (viewOf (now (table .entry)) (now (shown .entry))) 0)) 0 (now (area .entry)) (now (area .exit)) r) × (r < 64) ⌝ }
+    ensures { λ r. ⌜ (Puts (rootLine (labelAt (viewOf (now (table .entry)) (now (shown .entry))) 0)) 0 (now (area .entry)) (now (area .exit)) r) × (r ≤ 32) ⌝ }
 {
     let a = put_bytes(area, 0, b"(root ");
     let b = put_label(area, a, table, shown, 0);
@@ -296,7 +311,7 @@ fn put_root(area: &mut [u8], table: &[u8], shown: &[u16]) -> usize
 // Puts the answer to `view`.
 fn put_view(area: &mut [u8], table: &[u8], shown: &[u16]) -> usize
     requires { ⌜ Fits (now table) (now shown) ⌝ }
-    ensures { λ r. ⌜ Puts (viewText (viewOf (now (table .entry)) (now (shown .entry)))) 0 (now (area .entry)) (now (area .exit)) r ⌝ }
+    ensures { λ r. ⌜ (Puts (viewText (viewOf (now (table .entry)) (now (shown .entry)))) 0 (now (area .entry)) (now (area .exit)) r) × (r ≤ textMost (length (now (shown .entry)))) ⌝ }
 {
     if shown.len() == 0 {
         return put_end(area, 0, 0);
@@ -355,6 +370,9 @@ pub fn answer_view(table: &[u8], shown: &[u16], area: &mut [u8]) -> usize
     requires { ⌜ Fits (now table) (now shown) ⌝ }
     ensures { λ r. ⌜ Answered (viewText (viewOf (now (table .entry)) (now (shown .entry)))) (now (area .entry)) (now (area .exit)) r ⌝ }
 {
+    if surely_fits(shown.len(), area.len()) {
+        return put_view(area, table, shown);
+    }
     let mut scratch = [0u8; 1];
     let need = put_view(&mut scratch, table, shown);
     if area.len() < need {
@@ -368,6 +386,9 @@ pub fn answer_query(table: &[u8], shown: &[u16], marks: &[u8], area: &mut [u8]) 
     requires { ⌜ (Fits (now table) (now shown)) × (length (now shown) ≤ length (now marks)) ⌝ }
     ensures { λ r. ⌜ Answered (queryText (hitsOf (now (marks .entry)) (viewOf (now (table .entry)) (now (shown .entry))))) (now (area .entry)) (now (area .exit)) r ⌝ }
 {
+    if surely_fits(shown.len(), area.len()) {
+        return put_query(area, table, shown, marks);
+    }
     let mut scratch = [0u8; 1];
     let need = put_query(&mut scratch, table, shown, marks);
     if area.len() < need {

@@ -12,7 +12,7 @@ use Rattle.answers.proofs.answer.put_children.Statement.{statement}
 use Rattle.answers.proofs.answer.put_children.Tie as tie
 
 abbrev Inv-loop : tie.InvT-loop
-Inv-loop area₀ at table shown next₀ i₀ area next i = (i ≤ length shown) × (next ≤ at + 64 * i) × (length area ≡ length area₀) × (Toward (childLines (drop 1 (viewOf table shown))) (childLines (drop i (viewOf table shown))) at area₀ area next)
+Inv-loop area₀ at table shown next₀ i₀ area next i = (i ≤ length shown) × (1 ≤ i) × (next + 46 ≤ at + 46 * i) × (length area ≡ length area₀) × (Toward (childLines (drop 1 (viewOf table shown))) (childLines (drop i (viewOf table shown))) at area₀ area next)
 
 abbrev μ-loop : tie.MeasureT-loop
 μ-loop area₀ at table shown next₀ i₀ area next i = length shown - i
@@ -20,7 +20,7 @@ abbrev μ-loop : tie.MeasureT-loop
 loop-holds : tie.Need-loop-holds Inv-loop μ-loop
 loop-holds c =
     let a = c .before .before .before .args in
-    (search needs, search needs, refl, toward-start (childLines (drop 1 (viewOf (a .table .now) (a .shown .now)))) (a .at) (a .area .now))
+    (search needs, search needs, search needs, refl, toward-start (childLines (drop 1 (viewOf (a .table .now) (a .shown .now)))) (a .at) (a .area .now))
 
 put-node-requires : tie.Need-put-node-requires Inv-loop μ-loop
 put-node-requires c κs = search needs
@@ -36,7 +36,7 @@ loop-again c =
     let a = c .before .before .before .before .before .before .before .before .before .args in
     let l = c .before .before .before .before .before .loop in
     let n = view-length (a .table .now) (a .shown .now) in
-    (search needs, search needs, search needs, toward-more (l .inv .3) (c .before .before .put-node .ensures .0) (children-step (viewOf (a .table .now) (a .shown .now)) (l .i) (omega arith)))
+    (search needs, search needs, search needs, search needs, toward-more (l .inv .4) (c .before .before .put-node .ensures .0) (children-step (viewOf (a .table .now) (a .shown .now)) (l .i) (omega arith)))
 
 same-length : tie.Need-same-length Inv-loop μ-loop
 same-length c = search needs
@@ -46,7 +46,7 @@ returns c =
     let a = c .before .before .before .before .before .args in
     let l = c .before .loop in
     let n = view-length (a .table .now) (a .shown .now) in
-    (toward-end (l .inv .3) (children-end (viewOf (a .table .now) (a .shown .now)) (l .i) (omega arith)), omega (arith, c .before .before .before .before .before .pre .0 .few))
+    (toward-end (l .inv .4) (children-end (viewOf (a .table .now) (a .shown .now)) (l .i) (omega arith)), omega (arith, c .before .before .before .before .before .pre .0 .few))
 
 pub put-children-spec : {M : Type 1} → statement M
 put-children-spec =

@@ -1,4 +1,5 @@
 use Rattle.answers.proofs.AnswerLaws.{puts-more}
+use native.Mathlib.Omega.{arith}
 use borrow.Author.Needs.{needs}
 use Rattle.answers.proofs.answer.put_end.Statement.{statement}
 use Rattle.answers.proofs.answer.put_end.Tie as tie
@@ -22,7 +23,11 @@ same-length : tie.Need-same-length
 same-length c = search needs
 
 returns : tie.Need-returns
-returns c = puts-more (c .before .before .before .before .before .before .before .before .before .before .before .put-bytes .ensures) (puts-more (c .before .before .before .before .before .before .before .put-decimal .ensures .0) (c .before .before .put-bytes2 .ensures))
+returns c =
+    let one = c .before .before .before .before .before .before .before .before .before .before .before .put-bytes .ensures in
+    let two = c .before .before .before .before .before .before .before .put-decimal .ensures in
+    let three = c .before .before .put-bytes2 .ensures in
+    (puts-more one (puts-more (two .0) three), omega (arith, one .next, two .1, three .next))
 
 pub put-end-spec : {M : Type 1} → statement M
 put-end-spec =

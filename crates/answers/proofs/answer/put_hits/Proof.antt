@@ -12,7 +12,7 @@ use Rattle.answers.proofs.answer.put_hits.Statement.{statement}
 use Rattle.answers.proofs.answer.put_hits.Tie as tie
 
 abbrev Inv-loop : tie.InvT-loop
-Inv-loop area₀ table shown marks at₀ i₀ area at i = (i ≤ length shown) × (at ≤ 64 * i) × (length area ≡ length area₀) × (Toward (hitLines (hitsOf marks (viewOf table shown))) (hitLines (hitsOf (drop i marks) (drop i (viewOf table shown)))) 0 area₀ area at)
+Inv-loop area₀ table shown marks at₀ i₀ area at i = (i ≤ length shown) × (at ≤ 52 * i) × (length area ≡ length area₀) × (Toward (hitLines (hitsOf marks (viewOf table shown))) (hitLines (hitsOf (drop i marks) (drop i (viewOf table shown)))) 0 area₀ area at)
 
 abbrev μ-loop : tie.MeasureT-loop
 μ-loop area₀ table shown marks at₀ i₀ area at i = length shown - i

@@ -36,7 +36,9 @@ returns c =
     let a = c .before .before .before .before .before .before .before .before .before .before .before .before .before .before .args in
     let n = view-length (a .table .now) (a .shown .now) in
     let q = c .before .before .before .before .before .before .before .before .count-marked .ensures .0 ∙ count-shown (a .marks .now) (viewOf (a .table .now) (a .shown .now)) (length (a .shown .now) - 0) (omega arith) in
-    rw (← q) (puts-more (c .before .before .before .before .before .before .put-hits .ensures .0) (c .before .before .put-end .ensures))
+    let hits = c .before .before .before .before .before .before .put-hits .ensures in
+    let end = c .before .before .put-end .ensures in
+    (rw (← q) (puts-more (hits .0) (end .0)), omega (arith, hits .1, end .1))
 
 pub put-query-spec : {M : Type 1} → statement M
 put-query-spec =

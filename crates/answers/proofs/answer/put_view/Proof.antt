@@ -19,7 +19,7 @@ returns : tie.Need-returns
 returns c =
     let a = c .before .before .before .before .before .before .before .before .args in
     let n = view-length (a .table .now) (a .shown .now) in
-    rw (view-none (viewOf (a .table .now) (a .shown .now)) (omega arith)) (c .before .before .put-end .ensures)
+    (rw (view-none (viewOf (a .table .now) (a .shown .now)) (omega arith)) (c .before .before .put-end .ensures .0), omega (arith, c .before .before .put-end .ensures .1))
 
 put-root-requires : tie.Need-put-root-requires
 put-root-requires c κs = search needs
@@ -37,7 +37,10 @@ returns-2 : tie.Need-returns-2
 returns-2 c =
     let a = c .before .before .before .before .before .before .before .before .before .before .before .before .before .before .before .before .args in
     let n = view-length (a .table .now) (a .shown .now) in
-    rw (view-some (viewOf (a .table .now) (a .shown .now)) (length (a .shown .now)) (omega arith) (sym n)) (puts-more (c .before .before .before .before .before .before .before .before .before .before .put-root .ensures .0) (puts-more (c .before .before .before .before .before .before .put-children .ensures .0) (c .before .before .put-end2 .ensures)))
+    let root = c .before .before .before .before .before .before .before .before .before .before .put-root .ensures in
+    let children = c .before .before .before .before .before .before .put-children .ensures in
+    let end = c .before .before .put-end2 .ensures in
+    (rw (view-some (viewOf (a .table .now) (a .shown .now)) (length (a .shown .now)) (omega arith) (sym n)) (puts-more (root .0) (puts-more (children .0) (end .0))), omega (arith, root .1, children .1, end .1))
 
 pub put-view-spec : {M : Type 1} → statement M
 put-view-spec =

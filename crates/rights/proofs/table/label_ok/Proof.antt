@@ -1,0 +1,134 @@
+-- The label bytes counted and those left are the record's; the bits gathered and those left behind the label are those behind it.
+use Prim.Native.Nat.{ℕ, _+_, _-_, _≤_}
+use mathlib.Core.Bool.{Bool, and-false, and-true}
+use mathlib.Core.Path.{_≡_, sym, ap, _∙_}
+use mathlib.Core.List.{List}
+use native.Mathlib.Nat.{zero-add}
+use native.Mathlib.Omega.{arith}
+use borrow.Author.Needs.{needs}
+use borrow.Author.Tests.{ne-eqb, eq-eqb}
+use lib.Dec.{eqb}
+use lib.ListN.{length, take, drop, getD}
+use Rattle.rights.specs.Bytes.{all, isZero, orAll}
+use Rattle.rights.specs.Labels.{sameLabel, restricted}
+use Rattle.rights.specs.Table.{label}
+use Rattle.rights.proofs.LabelLaws.{labelCount, count-step, count-end, count-record}
+use Rattle.rights.proofs.Lists.{or-end, or-all-zero}
+use Rattle.rights.proofs.Records.{behind-step}
+use Rattle.rights.proofs.table.label_ok.Statement.{statement}
+use Rattle.rights.proofs.table.label_ok.Tie as tie
+
+abbrev Inv-loop : tie.InvT-loop
+Inv-loop r n labels₀ bits₀ side₀ i₀ labels bits side i =
+    (i ≤ 32)
+    × (side + i ≡ 127 + (2 + n))
+    × (labels ≤ i)
+    × (labelCount r ≡ labels + labelCount (drop i r))
+    × (orAll 0 (drop (2 + n) r) ≡ orAll bits (drop (2 + n - i + i) r))
+
+abbrev μ-loop : tie.MeasureT-loop
+μ-loop r n labels₀ bits₀ side₀ i₀ labels bits side i = 32 - i
+
+add-side : tie.Need-add-side Inv-loop μ-loop
+add-side c = omega arith
+
+loop-holds : tie.Need-loop-holds Inv-loop μ-loop
+loop-holds c =
+    let n = c .before .args .n in
+    let e : 2 + n - 0 + 0 ≡ 2 + n = omega arith in
+    (omega arith, omega arith, omega arith, sym (zero-add _), rw e)
+
+shared-slice-read-b : tie.Need-shared-slice-read-b Inv-loop μ-loop
+shared-slice-read-b c = omega arith
+
+label-bit-requires : tie.Need-label-bit-requires Inv-loop μ-loop
+label-bit-requires c κs = tt
+
+add-labels : tie.Need-add-labels Inv-loop μ-loop
+add-labels c = omega (arith, c .label-bit .ensures .1)
+
+behind-requires : tie.Need-behind-requires Inv-loop μ-loop
+behind-requires c κs = tt
+
+sub-side : tie.Need-sub-side Inv-loop μ-loop
+sub-side c = omega arith
+
+add-i : tie.Need-add-i Inv-loop μ-loop
+add-i c = omega arith
+
+loop-less : tie.Need-loop-less Inv-loop μ-loop
+loop-less c = omega arith
+
+loop-again : tie.Need-loop-again Inv-loop μ-loop
+loop-again c =
+    let at = c .before .before .before .before .loop in
+    let r = c .before .before .before .before .before .before .args .r .now in
+    let e = 2 + c .before .before .before .before .before .before .args .n in
+    let bit = c .before .label-bit .ensures in (
+      omega arith,
+      omega arith,
+      omega (arith, bit .1),
+      at .inv .3 ∙ rw (count-step r (at .i) (omega arith), ← (bit .0)) (omega arith),
+      at .inv .4 ∙ behind-step r e (at .i) (at .side) (at .bits) (omega arith) (omega arith) ∙ rw (← (c .behind .ensures)),
+    )
+
+-- the bits gathered are those behind the label
+module _ (r : List ℕ) (n i bits : ℕ) (h : length r ≤ i) (e : orAll 0 (drop (2 + n) r) ≡ orAll bits (drop (2 + n - i + i) r)) where
+  zeros-told : eqb bits 0 ≡ all isZero (drop (2 + n) r)
+  zeros-told = rw (← or-end bits r (2 + n - i + i) (omega arith), ← e) (or-all-zero 0 (drop (2 + n) r))
+
+banned-told : (r : List ℕ) (n : ℕ) (v : Bool) → n ≡ getD r 1 0 → v ≡ sameLabel (take n (drop 2 r)) restricted → v ≡ sameLabel (label r) restricted
+banned-told r n v e h = h ∙ ap (λ k. sameLabel (take k (drop 2 r)) restricted) e
+
+returns : tie.Need-returns Inv-loop μ-loop
+returns c =
+    let at = c .before .before .loop in
+    let a = c .before .before .before .before .args in
+    let zero = sym (zeros-told (a .r .now) (a .n) (at .i) (at .bits) (omega arith) (at .inv .4)) ∙ ne-eqb (at .bits) 0 (c .if1 .taken) in
+    simp (zero, and-false)
+
+wide-requires : tie.Need-wide-requires Inv-loop μ-loop
+wide-requires c κs = search needs
+
+is-restricted-requires : tie.Need-is-restricted-requires Inv-loop μ-loop
+is-restricted-requires c κs = search needs
+
+returns-2 : tie.Need-returns-2 Inv-loop μ-loop
+returns-2 c =
+    let r = c .before .before .before .before .before .before .before .args .r .now in
+    let same = sym (banned-told r (c .before .before .wide .result) (c .before .is-restricted .result) (omega arith) (c .before .is-restricted .ensures)) ∙ c .if2 .taken in
+    simp (same, and-false)
+
+returns-3 : tie.Need-returns-3 Inv-loop μ-loop
+returns-3 c =
+    let at = c .before .before .before .before .before .loop in
+    let a = c .before .before .before .before .before .before .before .args in
+    let r = a .r .now in
+    let zero = sym (zeros-told r (a .n) (at .i) (at .bits) (omega arith) (at .inv .4)) ∙ eq-eqb (at .bits) 0 (c .before .before .before .if1 .left) in
+    let same = sym (banned-told r (c .before .before .wide .result) (c .before .is-restricted .result) (omega arith) (c .before .is-restricted .ensures)) ∙ c .if2 .left in
+    let labels : labelCount r ≡ at .labels = at .inv .3 ∙ rw (count-end r (at .i) (omega arith)) (omega arith) in
+    let count = count-record r (a .n) (omega arith) (omega arith) (omega arith) (omega arith) zero in
+    let n : getD r 1 0 ≡ a .n = omega arith in
+    rw (zero, same, n, ← count, labels) (sym (and-true _))
+
+pub label-ok-spec : {M : Type 1} → statement M
+label-ok-spec =
+    tie.close
+    (tie.spec
+    Inv-loop
+    μ-loop
+    add-side
+    loop-holds
+    shared-slice-read-b
+    label-bit-requires
+    add-labels
+    behind-requires
+    sub-side
+    add-i
+    loop-less
+    loop-again
+    returns
+    wide-requires
+    is-restricted-requires
+    returns-2
+    returns-3)
