@@ -120,10 +120,12 @@ def school(nodes=NODES_MAX, lessons=53):
     return tree[:nodes]
 
 
+KINDS = {"DAY": DAYS, "PERIOD": PERIODS, "CLASS": CLASSES, "ROOM": ROOMS, "TEACHER": TEACHERS, "NOTE": NOTES}
+
+
 def fill(k, path):
-    """The path with the k-th of each kind of label for its capital letters."""
-    kinds = {"DAY": DAYS, "PERIOD": PERIODS, "CLASS": CLASSES, "ROOM": ROOMS, "TEACHER": TEACHERS, "NOTE": NOTES}
-    return re.sub("[A-Z]{3,}", lambda kind: kinds[kind.group()][k * 5 % len(kinds[kind.group()])], path)
+    """The path of rule k with one of their kind for its words in capitals."""
+    return re.sub("[A-Z]{3,}", lambda kind: KINDS[kind.group()][(7 * k + k // 16) % len(KINDS[kind.group()])], path)
 
 
 # 3 of 7 rules are of read

@@ -1,32 +1,32 @@
 """Where a line's instructions go: the parts of a view, a query and each change, by differences of callgrind's counts, since most functions are inlined."""
 from functools import cache
 from measure import count, hot, millions
-from stores import MIXED, NODES_MAX, POLICIES, READERS, school, state, table
+from stores import MIXED, NODES_MAX, POLICIES, READ_ALL, READERS, school, state, table
 
-NOTHING = "(find /none)"  # checks the store, works out rights and what is shown, and selects nothing
 LOGIN = f"(user {READERS[-1]})"  # only checks the store
+ROOT = "(find /*)"  # also works out rights and what is shown; selects the root, which is found at once
 NODES_WITH_ROOM = 14_000  # leaves room for a node beside or below each lesson
 
-# the line up to its path, the path, the line behind it, nodes of the table
+# a line, the path in its braces, nodes of the table; a view selects nothing above the root
 LINES = [
-    ("(view)", None, "", NODES_MAX),
-    ("(query ", "//lesson/*", ")", NODES_MAX),
-    ("(find ", "//lesson/*", ")", NODES_MAX),
-    ("(rename ", "//lesson/*/*", " x)", NODES_MAX),
-    ("(update ", "//room", " x)", NODES_MAX),
-    ("(append ", "//lesson", " (x))", NODES_WITH_ROOM),
-    ("(before ", "//lesson", " (x))", NODES_WITH_ROOM),
-    ("(after ", "//lesson", " (x))", NODES_WITH_ROOM),
-    ("(remove ", "//note", ")", NODES_MAX),
-]  # fmt: skip
+    ("(view)", "/*", NODES_MAX),
+    ("(query {})", "//lesson/*", NODES_MAX),
+    ("(find {})", "//lesson/*", NODES_MAX),
+    ("(rename {} x)", "//lesson/*/*", NODES_MAX),
+    ("(update {} x)", "//room", NODES_MAX),
+    ("(append {} (x))", "//lesson", NODES_WITH_ROOM),
+    ("(before {} (x))", "//lesson", NODES_WITH_ROOM),
+    ("(after {} (x))", "//lesson", NODES_WITH_ROOM),
+    ("(remove {})", "//note", NODES_MAX),
+]
 
 HEAD = f"""
 ## Where a line's instructions go
 
 Millions of instructions of the Rattle library on the school and the policy of (b) above; for the insertions {NODES_WITH_ROOM:,} of the 16,384 records are in use. The
-parts are differences: 13's check of the state is `{LOGIN}` on a table of one record, of the table the rest of it on the whole one; what is shown is `{NOTHING}`
-without rules, rights the rest of it with them; the selection is `(find P)` above that; the last part is what the line takes above `(find P)`: the answer of a view
-or a query, and for a change which nodes are done, the change and the answer.
+parts are differences. 13's check of the state is `{LOGIN}` on a table of one record; the check of the table is the rest of it on the whole table. What is shown is
+`{ROOT}` above the check, under one rule `accept read //*`; rights are what the policy's 128 rules take above that. The selection is `(find P)` above `{ROOT}`. The
+last part is the line above `(find P)`: for a view or a query the answer; for a change which nodes are done, the change and the answer.
 
 | line | all | state | table | rights | shown | selection | change, answer | most of it in |
 |---|---|---|---|---|---|---|---|---|
@@ -42,11 +42,10 @@ def where(work, library):
         return count(work, library, (rules, table(school(nodes))), line)
 
     text = HEAD
-    for start, path, end, nodes in LINES:
-        line = start + (path or "") + end
+    for form, path, nodes in LINES:
+        line = form.format(path)
         checked, checked_state = cost(LOGIN, nodes), cost(LOGIN, 1)
-        shown, ruled = cost(NOTHING, nodes, state(READERS, [])), cost(NOTHING, nodes)
-        selected = cost(f"(find {path})", nodes) if path else ruled
+        shown, ruled, selected = cost(ROOT, nodes, state(READERS, [READ_ALL])), cost(ROOT, nodes), cost(f"(find {path})", nodes)
         whole = count(work, library, (policy, table(school(nodes))), line)
         parts = [whole, checked_state, checked - checked_state, ruled - shown, shown - checked, selected - ruled, whole - selected]
         text += f"| `{line}` | " + " | ".join(map(millions, parts)) + f" | {hot(work)} |\n"
