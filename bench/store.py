@@ -193,9 +193,10 @@ def main():
             if cpu[0] > RATIO_BOUND * cpu[1]:
                 above.append(("the program", hot(work)))
             text = HEAD + about + lines_text(rows, spreads) + program_text(cpu, wall, counts) + above_text(above)
-            text += views(work, [rattle, view_alone], bounds) + where(work, rattle) + "\n![CPU times and growth](benchmark.svg)\n"
+            views_text, view_rows = views(work, [rattle, view_alone], bounds)
+            text += views_text + where(work, rattle) + "\n![CPU times and growth](benchmark.svg)\n"
             (ROOT / "docs/BENCHMARK.md").write_text(text)
-            (ROOT / "docs/benchmark.svg").write_text(plot(rows, FEW, MOST))
+            (ROOT / "docs/benchmark.svg").write_text(plot(rows, FEW, MOST, view_rows))
     sys.exit(bounds.failed)
 
 

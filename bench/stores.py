@@ -58,6 +58,11 @@ def flat(nodes=NODES_MAX):
     return [0] + [1] * (nodes - 1)
 
 
+def bottom(nodes=NODES_MAX):
+    """One chain to level 10, all other nodes on level 11 below it."""
+    return [*range(LEVEL_MAX), *[LEVEL_MAX] * (nodes - LEVEL_MAX)]
+
+
 LEVELS = ["school", "week", "day", "lesson", "class", "group", "room", "note", "item", "line", "part", "word"]
 
 
@@ -133,12 +138,12 @@ RIGHTS_IN_TURN = ["read", "position", "update", "read", "insert", "read", "delet
 MIXED_PATHS = [
     "//*", "/school//lesson", "//DAY//room", "/school/week/DAY/*", "//room/ROOM", "//lesson/*//*", "//class/CLASS", "/school/week/DAY/PERIOD/lesson/note",
     "//teacher/TEACHER", "//PERIOD//class/CLASS", "/school//DAY//teacher/*", "//lesson/note/*", "//PERIOD/*", "//PERIOD//room", "//lesson", "//note/NOTE",
-]  # fmt: skip
+]
 LABEL_PATHS = [path for path in MIXED_PATHS if path not in ("//*", "//lesson", "//lesson/*//*")]
 OWN_PATHS = [
     "//$", "//$//*", "//class/$/*", "/school//$/note", "//teacher/$", "//room/ROOM", "//lesson/*/$", "/school/week/*/*/$", "//$/*/*", "//note/NOTE", "//lesson//$",
     "//DAY//$/note", "//class/CLASS",
-]  # fmt: skip
+]
 
 
 def in_turn(paths, deny, first, last):
@@ -165,7 +170,7 @@ POLICIES = [
 
 # --- Made to hurt: 128 rules, of read and position in turn, after one that shows every node ---
 
-# 64 bytes of labels in their order, and a byte that no word has where the words differ
+# 64 bytes of labels in their order
 BYTES = sorted(set("ABCDEFGHIJKLMNOPQRSTUVWXYZabcdefghijklmnopqrstuvwxyz0123456789-_"))
 WORDS_MAX = (RULES_MAX - 1) * STEPS_MAX
 LONG = "L" * LABEL_MAX
@@ -186,9 +191,9 @@ TAIL, BESIDE, HEAD, INNER = labels_at(22, 23), labels_at(22, 23, beside=True), l
 SHUFFLED = [TAIL[i * 1365 % WORDS_MAX] for i in range(WORDS_MAX)]
 
 
-def paths_of(words, axis="//", steps=STEPS_MAX):
+def paths_of(words, axis="//"):
     """Paths of 16 steps with the words one after the other."""
-    return ["".join(axis + word for word in words[k * steps : (k + 1) * steps]) for k in range(RULES_MAX - 1)]
+    return ["".join(axis + word for word in words[k : k + STEPS_MAX]) for k in range(0, WORDS_MAX, STEPS_MAX)]
 
 
 def hurting(paths):
@@ -199,12 +204,14 @@ def hurting(paths):
 
 # name, paths, labels of the nodes in order
 HURTING = [
-    ("`//L/L/..`, 16 steps, every node L", ["//" + "/".join([LONG] * 16)], [LONG]),
-    ("`//L/L/..`, 12 steps, every node L", ["//" + "/".join([LONG] * 12)], [LONG]),
-    ("`//L//L..`, 16 steps, every node L", ["//" + "//".join([LONG] * 16)], [LONG]),
+    ("`//L/L/..`, 16 steps, every node L", ["/" + f"/{LONG}" * 16], [LONG]),
+    ("`//L/L/..`, 12 steps, every node L", ["/" + f"/{LONG}" * 12], [LONG]),
+    ("`//L//L..`, 16 steps, every node L", [f"//{LONG}" * 16], [LONG]),
     ("`//a//a..`, 16 steps, every node a", ["//a" * 16], ["a"]),
     ("`//$//$..`, 16 steps, every node the user's name", ["//$" * 16], LONG_NAMES[-1:]),
+    ("`//$/$/..`, 16 steps, every node the user's name", ["/" + "/$" * 16], LONG_NAMES[-1:]),
     ("`//*//*..`, 16 steps", ["//*" * 16], [LONG]),
+    ("`//K/L/L/L/L/L//L`, every node L", [f"//K{('/' + LONG) * 5}//{LONG}"], [LONG]),
     ("`//L`, every node L", ["//" + LONG], [LONG]),
     ("`//L`, nodes that differ from L in the last byte", ["//" + LONG], [LONG[:-1] + "K"]),
     ("2,032 words alike in 22 bytes, nodes among them", paths_of(TAIL), TAIL),
@@ -215,11 +222,12 @@ HURTING = [
     ("the same words with `/`, nodes among them", paths_of(TAIL, "/"), TAIL),
     ("2,032 words that differ in the first bytes", paths_of(HEAD), HEAD),
     ("2,032 words alike in first, middle and last byte", paths_of(INNER), INNER),
-]  # fmt: skip
+]
+SHAPES = {"deep": deep, "flat": flat, "bottom": bottom}
 
 
 def hurting_stores():
-    """Each of them on chains to level 11 and flat under the root: name, shape and store."""
+    """Each of them on each shape: name, shape and store."""
     for name, paths, labels in HURTING:
-        for shape in (deep, flat):
-            yield name, shape.__name__, (hurting(paths), table(in_order(shape(), labels)))
+        for shape, levels in SHAPES.items():
+            yield name, shape, (hurting(paths), table(in_order(levels(), labels)))

@@ -4,7 +4,7 @@ Fails where Rattle takes more instructions than the view alone under one of the 
 the mixed policy.
 """
 from measure import count, millions, spread, times
-from stores import MIXED, POLICIES, hurting_stores
+from stores import MIXED, POLICIES, SHAPES, hurting_stores
 
 VIEWS = 60
 RATIO_BOUND, HURT_BOUND = 1.0, 20
@@ -26,11 +26,11 @@ HURT_HEAD = f"""
 ### Made to hurt
 
 Views of 16,384 nodes under 128 rules, of read and position in turn behind one that shows every node, with labels and names of 24 bytes: L is one such label. Deep is
-a tree of chains to level 11, flat has all nodes under the root. Millions of instructions of the Rattle library, and how many times those of (b): at most
-{HURT_BOUND} are allowed.
+a tree of chains to level 11, flat has all nodes under the root, bottom has all but one chain on level 11. Millions of instructions of the Rattle library, and how
+many times those of (b): at most {HURT_BOUND} are allowed.
 
-| rules and nodes | deep | flat |
-|---|---|---|
+| rules and nodes | {" | ".join(SHAPES)} |
+|---|---|---|---|
 """
 
 
@@ -49,13 +49,13 @@ def hurt_text(counts, mixed):
     """counts: by name and shape."""
     text = ""
     for name in dict.fromkeys(name for name, _ in counts):
-        cells = [f"{millions(counts[name, shape])}, {counts[name, shape] / mixed:.1f} times" for shape in ("deep", "flat")]
-        text += f"| {name} | {cells[0]} | {cells[1]} |\n"
+        cells = [f"{millions(counts[name, shape])}, {counts[name, shape] / mixed:.1f} times" for shape in SHAPES]
+        text += f"| {name} | {' | '.join(cells)} |\n"
     return text
 
 
 def views(work, libraries, bounds):
-    """The report's section. libraries: Rattle's and the view alone."""
+    """The report's section, and its rows for the plot. libraries: Rattle's and the view alone."""
     rows = [policy_row(work, libraries, name, store) for name, store in POLICIES]
     for name, ms, _, (rattle, rust) in rows:
         told = f"view, {name}: {rattle:,} instructions, the view alone {rust:,}, ratio {rattle / rust:.2f}, at most {RATIO_BOUND}; {ms[0]:.2f} and {ms[1]:.2f} ms"
@@ -68,4 +68,4 @@ def views(work, libraries, bounds):
         if found > worst:
             worst, hurt = found, (f"(e) {name}, {shape}", store)
     rows.append(policy_row(work, libraries, *hurt))
-    return HEAD + "".join(map(row_text, rows)) + HURT_HEAD + hurt_text(counts, mixed)
+    return HEAD + "".join(map(row_text, rows)) + HURT_HEAD + hurt_text(counts, mixed), rows

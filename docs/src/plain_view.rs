@@ -140,7 +140,16 @@ struct Step<'a> {
     label: Option<&'a Padded>,
 }
 
-impl Step<'_> {
+impl<'a> Step<'a> {
+    fn new(step: &'a [u8], own: &'a Padded) -> Step<'a> {
+        let label = match text(step) {
+            b"*" => None,
+            b"$" => Some(own),
+            _ => Some(padded(step)),
+        };
+        Step { descendants: step[0] == 1, label }
+    }
+
     fn passes(&self, label: &Padded) -> bool {
         self.label.is_none_or(|wanted| wanted == label)
     }
@@ -150,6 +159,13 @@ struct Rule<'a> {
     accept: bool,
     right: u8,
     path: Vec<Step<'a>>,
+}
+
+impl<'a> Rule<'a> {
+    fn new(rule: &'a [u8], own: &'a Padded) -> Rule<'a> {
+        let steps = &rule[RULE_STEPS_AT..][..rule[3] as usize * RECORD_BYTES];
+        Rule { accept: rule[0] == 1, right: rule[1], path: steps.chunks_exact(RECORD_BYTES).map(|step| Step::new(step, own)).collect() }
+    }
 }
 
 impl Policy<'_> {
@@ -170,23 +186,8 @@ impl Policy<'_> {
     fn rules(&self, user: usize) -> Vec<Rule<'_>> {
         let roles = self.roles(user);
         let own = padded(&self.subjects[user * RECORD_BYTES..]);
-        let step = |step| Self::step(step, own);
-        let applying = self.rules.chunks_exact(RULE_BYTES).rev().filter(|rule| rule[1] & (READ | POSITION) != 0 && roles >> rule[2] & 1 == 1);
-        applying
-            .map(|rule| {
-                let steps = &rule[RULE_STEPS_AT..][..rule[3] as usize * RECORD_BYTES];
-                Rule { accept: rule[0] == 1, right: rule[1], path: steps.chunks_exact(RECORD_BYTES).map(step).collect() }
-            })
-            .collect()
-    }
-
-    fn step<'a>(step: &'a [u8], own: &'a Padded) -> Step<'a> {
-        let label = match text(step) {
-            b"*" => None,
-            b"$" => Some(own),
-            _ => Some(padded(step)),
-        };
-        Step { descendants: step[0] == 1, label }
+        let applies = |rule: &&[u8]| rule[1] & (READ | POSITION) != 0 && roles >> rule[2] & 1 == 1;
+        self.rules.chunks_exact(RULE_BYTES).rev().filter(applies).map(|rule| Rule::new(rule, own)).collect()
     }
 }
 
