@@ -174,6 +174,7 @@ POLICIES = [
 BYTES = sorted(set("ABCDEFGHIJKLMNOPQRSTUVWXYZabcdefghijklmnopqrstuvwxyz0123456789-_"))
 WORDS_MAX = (RULES_MAX - 1) * STEPS_MAX
 LONG = "L" * LABEL_MAX
+NEXT = LONG[:-1] + "K"  # differs from it in the last byte
 LONG_NAMES = ["N" * (LABEL_MAX - 2) + f"{k:02}" for k in range(SUBJECTS_MAX)]
 
 
@@ -211,9 +212,9 @@ HURTING = [
     ("`//$//$..`, 16 steps, every node the user's name", ["//$" * 16], LONG_NAMES[-1:]),
     ("`//$/$/..`, 16 steps, every node the user's name", ["/" + "/$" * 16], LONG_NAMES[-1:]),
     ("`//*//*..`, 16 steps", ["//*" * 16], [LONG]),
-    ("`//K/L/L/L/L/L//L`, every node L", [f"//K{('/' + LONG) * 5}//{LONG}"], [LONG]),
+    ("`//K/L/L/L/L/L//L`, every node L, K but for the last byte", [f"//{NEXT}{('/' + LONG) * 5}//{LONG}"], [LONG]),
     ("`//L`, every node L", ["//" + LONG], [LONG]),
-    ("`//L`, nodes that differ from L in the last byte", ["//" + LONG], [LONG[:-1] + "K"]),
+    ("`//L`, every node L but for the last byte", ["//" + LONG], [NEXT]),
     ("2,032 words alike in 22 bytes, nodes among them", paths_of(TAIL), TAIL),
     ("the same words, nodes just beside them", paths_of(TAIL), BESIDE),
     ("the same words in falling order, nodes beside", paths_of(TAIL[::-1]), BESIDE),
