@@ -1,4 +1,4 @@
-// The bytes of tables and policies (docs/FORMAT.md), for the drivers.
+// The bytes of tables and policies (docs/FORMAT.md), for the driver.
 #ifndef LAYOUT_H
 #define LAYOUT_H
 #include <stddef.h>
@@ -11,10 +11,7 @@ enum {
     LEVEL_MAX = 11,
     RECORDS_MAX = 16384,
     POLICY_BYTES = 68872,
-    SUBJECTS_MAX = 64,
     SUBJECTS_AT = 8,
-    ISA_MAX = 128,
-    ISA_AT = 2056,
     RULES_MAX = 128,
     RULES_AT = 2312,
     RULE_BYTES = 520,
@@ -36,13 +33,6 @@ static inline void put_count(uint8_t *table, size_t n) {
 static inline void put_subject(uint8_t *policy, int k, const char *name) {
     policy[0] = (uint8_t)(k + 1);
     put_record(policy + SUBJECTS_AT + k * RECORD, 0, name, strlen(name));
-}
-
-// The next isa line: subject n is an r.
-static inline void put_isa(uint8_t *policy, int n, int r) {
-    uint8_t *at = policy + ISA_AT + 2 * policy[1]++;
-    at[0] = (uint8_t)n;
-    at[1] = (uint8_t)r;
 }
 
 // The next rule: accept a right (by its bit) on a path without brackets, for a subject.

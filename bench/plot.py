@@ -1,4 +1,4 @@
-"""The plot of the benchmark as SVG: for each case the CPU times of both versions on a logarithmic axis, and how instructions grow."""
+"""The plot of the benchmark as SVG: for each case the CPU times of both versions on a logarithmic axis, and how instructions grow; below, the views of card 12."""
 from html import escape
 from math import floor, log10
 
@@ -30,13 +30,14 @@ def ticks(low, high):
     return [x for x in found if low <= x <= high]
 
 
-def plot(rows, few, most):
-    """rows: name, CPU ms of (Rattle, Rust) at few and at most nodes, instructions at few and at most."""
-    values = [x for _, _, ms, _, _ in rows for x in ms]
+def plot(rows, few, most, views):
+    """rows: name, CPU ms of (Rattle, Rust) at few and at most nodes, instructions at few and at most; views: name, CPU ms, quartiles, instructions."""
+    values = [x for _, _, ms, _, _ in rows for x in ms] + [x for _, ms, _, _ in views for x in ms]
     low, high = min(values) / 1.4, max(values) * 1.4
     growths = [[b / a for a, b in zip(few_i, most_i)] for _, _, _, few_i, most_i in rows]
     limit = max(20, *(x for pair in growths for x in pair)) * 1.05
-    bottom = TOP + ROW * len(rows)
+    middle = TOP + ROW * len(rows)
+    bottom = middle + ROW * (len(views) + 1.5)
     right = LEFT + WIDTH + GAP
     width, height = right + GROWTH_WIDTH + 40, bottom + 40
 
@@ -45,6 +46,13 @@ def plot(rows, few, most):
 
     def grown(x):
         return right + GROWTH_WIDTH * x / limit
+
+    def times(y, name, ms):
+        return [
+            text(LEFT - 14, y + 4.5, name.replace("`", ""), "end"),
+            rule(at(ms[0]), y, at(ms[1]), y, FAINT, 1.5),
+            dot(at(ms[1]), y, RUST, True) + dot(at(ms[0]), y, RATTLE),
+        ]
 
     out = [
         f'<svg xmlns="http://www.w3.org/2000/svg" viewBox="0 0 {width} {height}" width="{width}" height="{height}" font-family="Helvetica, Arial, sans-serif">',
@@ -58,12 +66,15 @@ def plot(rows, few, most):
     for x in ticks(low, high):
         out += [rule(at(x), TOP - 6, at(x), bottom), text(at(x), bottom + 18, f"{x:g}", "middle", FAINT, 12)]
     for x in range(0, int(limit) + 1, 4):
-        out += [rule(grown(x), TOP - 6, grown(x), bottom), text(grown(x), bottom + 18, str(x), "middle", FAINT, 12)]
-    out.append(rule(grown(most / few), TOP - 6, grown(most / few), bottom, FAINT, 1.5, "4 3"))
+        out += [rule(grown(x), TOP - 6, grown(x), middle), text(grown(x), middle + 18, str(x), "middle", FAINT, 12)]
+    out.append(rule(grown(most / few), TOP - 6, grown(most / few), middle, FAINT, 1.5, "4 3"))
     for i, ((name, _, ms, _, _), growth) in enumerate(zip(rows, growths)):
         y = TOP + ROW * (i + 0.5)
-        out.append(text(LEFT - 14, y + 4.5, name.replace("`", ""), "end"))
-        out.append(rule(at(ms[0]), y, at(ms[1]), y, FAINT, 1.5))
-        out.append(dot(at(ms[1]), y, RUST, True) + dot(at(ms[0]), y, RATTLE))
+        out += times(y, name, ms)
         out.append(dot(grown(growth[1]), y + 7, RUST, True) + dot(grown(growth[0]), y - 6, RATTLE))
+    out.append(text(LEFT - 14, middle + ROW, "view, beside the version for it alone:", "end", weight="bold"))
+    for i, (name, ms, _, counts) in enumerate(views):
+        y = middle + ROW * (i + 2)
+        out += times(y, name.split(",")[0], ms)
+        out.append(text(right, y + 4.5, f"{counts[0] / counts[1]:.2f} times the instructions", size=12))
     return "\n".join(out + ["</svg>", ""])

@@ -1,10 +1,10 @@
 #!/usr/bin/env python3
 """store.py [--archive FILE.a] [--program FILE] [--runs N] [--quick]: the library and the program beside the straightforward Rust version (docs/src).
 
-Builds all four optimised, runs each case through both libraries in one process, turn by turn, and both programs turn by turn; writes docs/BENCHMARK.md and
-docs/benchmark.svg. A time is the median of CPU times; instructions are counted by callgrind, which no other load disturbs (left out by --quick, which writes
-no file). Both versions must leave the same bytes in every case. Fails where a bound does not hold: 100,000 lines of the example's stage E within 10 s, a ratio
-of CPU times above 1.5 at 16,384 nodes, a growth of instructions above 20 from 1,024 to 16,384 nodes.
+Builds all of them optimised, runs each case through both libraries in one process, turn by turn, and both programs turn by turn; writes docs/BENCHMARK.md and
+docs/benchmark.svg. A time is the median of CPU times; instructions are counted by callgrind, which no other load disturbs. Both versions must leave the same bytes
+in every case. --quick measures times of lines and programs alone and writes no file. Fails where a bound does not hold: 100,000 lines of the example's stage E
+within 10 s, a ratio of CPU times above 1.5 at 16,384 nodes, a growth of instructions above 20 from 1,024 to 16,384 nodes, and those of views.py.
 Needs rt, gcc, cargo and valgrind.
 """
 import argparse
@@ -17,15 +17,16 @@ import sys
 import tempfile
 import time
 from pathlib import Path
+from measure import ROOT, Bounds, build, collected, count, hot, millions, run, spread, times
 from plot import plot
+from stores import ALL, FIVE, WITH_LABELS, by_level, deep, flat, table
+from views import views
+from where import where
 
-ROOT = Path(__file__).resolve().parent.parent
 FEW, MOST = 1024, 16384
 LINES = 100_000
 SECONDS_BOUND, RATIO_BOUND, GROWTH_BOUND = 10, 1.5, 20
 COUNTED_LINES = 5_000
-# callgrind counts `rep stosb` and `rep movsb` once a byte: with this the C library sets and copies by vector instructions while it counts
-NO_REP = "glibc.cpu.x86_rep_stosb_threshold=1000000000:glibc.cpu.x86_rep_movsb_threshold=1000000000"
 
 POLICY_AND_TREE = """\
 (subject staff)
@@ -50,72 +51,23 @@ def room_for_one_a_chain(capacity):
     return 1 + (capacity - 1) // 12 * 11
 
 
-# name, shape, nodes for a capacity, rules, line
+# name, shape, nodes for a capacity, state, line
 CASES = [
-    ("view, 64 subjects, 128 rules `//*`, all applying", "deep", full, "all", "(view)"),
-    ("view, 64 subjects, 128 rules with labels", "deep", full, "labels", "(view)"),
-    ("query, 16 steps `//*`", "deep", full, "five", "(query " + "//*" * 16 + ")"),
-    ("query, nested brackets", "deep", full, "five", "(query //*[*//*[*//*[*//zz]]])"),
-    ("query, `//*[5000]`", "flat", full, "five", "(query //*[5000])"),
-    ("append to every node on level 1", "deep", room_for_one_a_chain, "five", "(append /school/* (x))"),
-    ("remove every node on level 6", "deep", full, "five", "(remove /school/*/*/*/*/*/*)"),
-    ("rename every node", "deep", full, "five", "(rename //* x)"),
-    ("user, which only checks state and table", "deep", full, "five", "(user s0)"),
+    ("view, 64 subjects, 128 rules `//*`, all applying", deep, full, ALL, "(view)"),
+    ("view, 64 subjects, 128 rules with labels", deep, full, WITH_LABELS, "(view)"),
+    ("query, 16 steps `//*`", deep, full, FIVE, "(query " + "//*" * 16 + ")"),
+    ("query, nested brackets", deep, full, FIVE, "(query //*[*//*[*//*[*//zz]]])"),
+    ("query, `//*[5000]`", flat, full, FIVE, "(query //*[5000])"),
+    ("append to every node on level 1", deep, room_for_one_a_chain, FIVE, "(append /school/* (x))"),
+    ("remove every node on level 6", deep, full, FIVE, "(remove /school/*/*/*/*/*/*)"),
+    ("rename every node", deep, full, FIVE, "(rename //* x)"),
+    ("user, which only checks state and table", deep, full, FIVE, "(user s0)"),
 ]
 
 
-def run(*command, **options):
-    done = subprocess.run([str(word) for word in command], stdout=subprocess.PIPE, stderr=subprocess.STDOUT, text=True, **options)
-    if done.returncode != 0:
-        sys.exit(f"{done.stdout}\nFAILED: {' '.join(str(word) for word in command)}")
-    return done.stdout
-
-
-def build(work, archive, program):
-    """The driver, the two libraries as shared objects and the two programs: Rattle first."""
-    if archive is None:
-        run("rt", "staticlib", "louvretansy", cwd=ROOT)
-        archive = ROOT / "target/staticlib/liblouvretansy.a"
-    if program is None:
-        run("rt", "check", "timetable", cwd=ROOT)
-        program = ROOT / "target/bin/timetable"
-    source = ROOT / "docs/src"
-    run("cargo", "build", "--quiet", "--release", "--offline", "--bins", "--example", "shared", "--manifest-path", source / "Cargo.toml")
-    run("gcc", "-O2", "-Wall", "-Wextra", "-Werror", "-o", work / "store", ROOT / "bench/store.c", "-ldl")
-    run("gcc", "-shared", "-o", work / "rattle.so", "-Wl,--whole-archive", archive, "-Wl,--no-whole-archive")
-    release = source / "target/release"
-    return [work / "rattle.so", release / "examples/libshared.so"], [Path(program), release / "timetable"]
-
-
-def words(case, capacity, runs):
-    _, shape, nodes, rules, line = case
-    return [shape, nodes(capacity), capacity, rules, line, runs]
-
-
-def times(work, libraries, case, capacity, runs):
-    """The CPU milliseconds of each library: of the median run, and of the quartiles."""
-    out = run(work / "store", *words(case, capacity, runs), *libraries)
-    found = [[int(word) / 1e6 for word in line.split()[:3]] for line in out.splitlines()]
-    return [x[0] for x in found], [x[1:] for x in found]
-
-
-def collected(work, options, command, text=""):
-    """The instructions that callgrind counts; its output file stays in `work`."""
-    output = [f"--callgrind-out-file={work / 'callgrind'}", f"--log-file={work / 'log'}"]
-    run("valgrind", "--tool=callgrind", *output, *options, *command, input=text, env=dict(os.environ, GLIBC_TUNABLES=NO_REP))
-    return int(re.search(r"Collected : (\d+)", (work / "log").read_text()).group(1))
-
-
-def count(work, library, case, capacity):
-    return collected(work, ["--toggle-collect=timetable_line"], [work / "store", *words(case, capacity, 1), library])
-
-
-def hot(work):
-    """The three functions with most of the instructions counted last. callgrind names a recursive call apart, by `'2`."""
-    shares = {}
-    for share, name in re.findall(r"^ *[\d,]+ \( *([\d.]+)%\) +\S*?:(\S.*?)(?:'\d+)?(?: \[.*)?$", run("callgrind_annotate", work / "callgrind"), re.M):
-        shares[name] = shares.get(name, 0) + float(share)
-    return ", ".join(f"`{name}` {share:.0f} %" for name, share in sorted(shares.items(), key=lambda item: -item[1])[:3])
+def store_of(case, capacity):
+    _, shape, nodes, state, _ = case
+    return state, table(by_level(shape(nodes(capacity))), capacity)
 
 
 def example(lines):
@@ -167,71 +119,85 @@ to run, by more than the quartiles of one run show; the counts do not.
 """
 
 
-def report(rows, spreads, program, above, about):
-    """docs/BENCHMARK.md"""
-    text = HEAD + about + "\n\n## One line on a full table\n\n"
-    text += f"At {MOST:,} records, ms of CPU (median, and quartiles) and millions of instructions; growth of CPU time and of instructions from {FEW:,} records.\n\n"
+def lines_text(rows, spreads):
+    """The section on lines."""
+    text = f"\n\n## One line on a full table\n\nAt {MOST:,} records, ms of CPU (median, and quartiles) and millions of instructions; growth of CPU time and of "
+    text += f"instructions from {FEW:,} records.\n\n"
     text += "| line | Rattle ms | Rust ms | ratio | Rattle instr. | Rust instr. | ratio | growth Rattle | growth Rust |\n|---|---|---|---|---|---|---|---|---|\n"
-    for (name, few, most, few_i, most_i), spread in zip(rows, spreads):
-        ms = [f"{x:.2f} ({low:.2f} to {high:.2f})" for x, (low, high) in zip(most, spread)]
-        text += f"| {name} | {ms[0]} | {ms[1]} | {most[0] / most[1]:.2f} | {most_i[0] / 1e6:.1f} | {most_i[1] / 1e6:.1f} | {most_i[0] / most_i[1]:.2f} "
+    for (name, few, most, few_i, most_i), quartiles in zip(rows, spreads):
+        ms = list(map(spread, most, quartiles))
+        text += f"| {name} | {ms[0]} | {ms[1]} | {most[0] / most[1]:.2f} | {millions(most_i[0])} | {millions(most_i[1])} | {most_i[0] / most_i[1]:.2f} "
         text += f"| {most[0] / few[0]:.1f}, {most_i[0] / few_i[0]:.1f} | {most[1] / few[1]:.1f}, {most_i[1] / few_i[1]:.1f} |\n"
-    cpu, wall, counts = program
-    text += f"\n## The program\n\nThe example of document 01, its stage E lines repeated to {LINES:,} lines; at most {SECONDS_BOUND} s are allowed. "
+    return text
+
+
+def program_text(cpu, wall, counts):
+    """The section on the program."""
+    text = f"\n## The program\n\nThe example of document 01, its stage E lines repeated to {LINES:,} lines; at most {SECONDS_BOUND} s are allowed. "
     text += f"Instructions are of {COUNTED_LINES:,} lines.\n\n"
     text += "| | Rattle | Rust | ratio |\n|---|---|---|---|\n"
     text += f"| CPU seconds | {cpu[0]:.2f} | {cpu[1]:.2f} | {cpu[0] / cpu[1]:.2f} |\n"
     text += f"| seconds | {wall[0]:.2f} | {wall[1]:.2f} | {wall[0] / wall[1]:.2f} |\n"
     text += f"| lines a CPU second | {LINES / cpu[0]:,.0f} | {LINES / cpu[1]:,.0f} | |\n"
-    text += f"| instructions (millions) | {counts[0] / 1e6:.1f} | {counts[1] / 1e6:.1f} | {counts[0] / counts[1]:.2f} |\n"
-    text += f"\n## Where the ratio is above {RATIO_BOUND}\n\n"
-    text += "".join(f"- {name}: {share} of Rattle's instructions.\n" for name, share in above) or "Nowhere.\n"
-    return text + "\n![CPU times and growth](benchmark.svg)\n"
+    return text + f"| instructions (millions) | {millions(counts[0])} | {millions(counts[1])} | {counts[0] / counts[1]:.2f} |\n"
 
 
-def main():
+def above_text(above):
+    text = f"\n## Where the ratio is above {RATIO_BOUND}\n\n"
+    return text + ("".join(f"- {name}: {share} of Rattle's instructions.\n" for name, share in above) or "Nowhere.\n")
+
+
+def lines(work, libraries, bounds, runs, quick):
+    """Each case through both libraries: rows and quartiles for the report, and the cases above the bound with their functions."""
+    rows, spreads, above = [], [], []
+    for case in CASES:
+        name, line = case[0], case[-1]
+        stores = [store_of(case, capacity) for capacity in (FEW, MOST)]
+        (few, _), (most, quartiles) = (times(work, libraries, store, line, runs) for store in stores)
+        ratio = most[0] / most[1]
+        bounds.hold(ratio <= RATIO_BOUND, f"{name}: {most[0]:.2f} ms, Rust {most[1]:.2f} ms, ratio {ratio:.2f}, at most {RATIO_BOUND}")
+        if quick:
+            continue
+        few_i = [count(work, library, stores[0], line) for library in libraries]
+        most_i = [count(work, library, stores[1], line) for library in reversed(libraries)][::-1]
+        growth = most_i[0] / few_i[0]
+        bounds.hold(growth <= GROWTH_BOUND, f"{name}: {MOST:,} nodes against {FEW:,}, {growth:.2f} times the instructions, at most {GROWTH_BOUND}")
+        if ratio > RATIO_BOUND:
+            above.append((name, hot(work)))
+        rows.append((name, few, most, few_i, most_i))
+        spreads.append(quartiles)
+    return rows, spreads, above
+
+
+def arguments():
     options = argparse.ArgumentParser(description=__doc__, formatter_class=argparse.RawDescriptionHelpFormatter)
     options.add_argument("--archive")
     options.add_argument("--program")
     options.add_argument("--runs", type=int, default=31)
     options.add_argument("--quick", action="store_true")
-    options = options.parse_args()
-    failed = False
+    return options.parse_args()
 
-    def bound(holds, text):
-        nonlocal failed
-        failed = failed or not holds
-        print(("" if holds else "FAILED: ") + "store: " + text, flush=True)
 
+def main():
+    options, bounds = arguments(), Bounds()
     with tempfile.TemporaryDirectory() as folder:
         work = Path(folder)
         about = machine(options.runs)
-        libraries, programs = build(work, options.archive, options.program)
-        rows, spreads, above = [], [], []
-        for case in CASES:
-            (few, _), (most, quartiles) = (times(work, libraries, case, capacity, options.runs) for capacity in (FEW, MOST))
-            ratio = most[0] / most[1]
-            bound(ratio <= RATIO_BOUND, f"{case[0]}: {most[0]:.2f} ms, Rust {most[1]:.2f} ms, ratio {ratio:.2f}, at most {RATIO_BOUND}")
-            if options.quick:
-                continue
-            few_i = [count(work, library, case, FEW) for library in libraries]
-            most_i = [count(work, library, case, MOST) for library in reversed(libraries)][::-1]
-            growth = most_i[0] / few_i[0]
-            bound(growth <= GROWTH_BOUND, f"{case[0]}: {MOST:,} nodes against {FEW:,}, {growth:.2f} times the instructions, at most {GROWTH_BOUND}")
-            if ratio > RATIO_BOUND:
-                above.append((case[0], hot(work)))
-            rows.append((case[0], few, most, few_i, most_i))
-            spreads.append(quartiles)
+        (rattle, rust, view_alone), programs = build(work, options.archive, options.program)
+        rows, spreads, above = lines(work, [rattle, rust], bounds, options.runs, options.quick)
         cpu, wall = program_times(work, programs, 3 if options.quick else 7)
-        bound(wall[0] <= SECONDS_BOUND, f"{LINES:,} lines of the program: {wall[0]:.2f} s, at most {SECONDS_BOUND}; CPU {cpu[0]:.2f} s, Rust {cpu[1]:.2f} s")
-        bound(cpu[0] <= RATIO_BOUND * cpu[1], f"the program: ratio {cpu[0] / cpu[1]:.2f}, at most {RATIO_BOUND}")
+        bounds.hold(wall[0] <= SECONDS_BOUND, f"{LINES:,} lines of the program: {wall[0]:.2f} s, at most {SECONDS_BOUND}; CPU {cpu[0]:.2f} s, Rust {cpu[1]:.2f} s")
+        bounds.hold(cpu[0] <= RATIO_BOUND * cpu[1], f"the program: ratio {cpu[0] / cpu[1]:.2f}, at most {RATIO_BOUND}")
         if not options.quick:
             counts = [collected(work, [], [program], example(COUNTED_LINES)) for program in reversed(programs)][::-1]
             if cpu[0] > RATIO_BOUND * cpu[1]:
                 above.append(("the program", hot(work)))
-            (ROOT / "docs/BENCHMARK.md").write_text(report(rows, spreads, (cpu, wall, counts), above, about))
-            (ROOT / "docs/benchmark.svg").write_text(plot(rows, FEW, MOST))
-    sys.exit(failed)
+            text = HEAD + about + lines_text(rows, spreads) + program_text(cpu, wall, counts) + above_text(above)
+            views_text, view_rows = views(work, [rattle, view_alone], bounds)
+            text += views_text + where(work, rattle) + "\n![CPU times and growth](benchmark.svg)\n"
+            (ROOT / "docs/BENCHMARK.md").write_text(text)
+            (ROOT / "docs/benchmark.svg").write_text(plot(rows, FEW, MOST, view_rows))
+    sys.exit(bounds.failed)
 
 
 main()

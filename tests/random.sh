@@ -30,5 +30,7 @@ else
     for wrong in rename-into-word rename-of-word no-own-names update-hidden stored-labels count-freed spare-hidden readers-words place-by-place; do
         run "$wrong is found by the comparer" fails "$bin/compare" --wrong "$wrong"
     done
+    run 'the view alone and the straightforward version' "$bin/views"
+    run 'first-rule-wins is found by the tester of views' fails "$bin/views" --wrong first-rule-wins
 fi
 counted

@@ -9,6 +9,7 @@ use std::process::ExitCode;
 use timetable::form::WORDS;
 use timetable::step::{read_store, Reading};
 use timetable::testing::engine::{Engine, Straightforward};
+use timetable::testing::lent::{agree, new_area, Lent};
 use timetable::testing::options::Options;
 use timetable::testing::random::Random;
 use timetable::testing::sessions::{self, Start};
@@ -27,53 +28,9 @@ struct Counts {
     effective_changes: usize,
 }
 
-/// Lent bytes for one engine.
-#[derive(Clone, PartialEq)]
-struct Lent {
-    state: Vec<u8>,
-    table: Vec<u8>,
-    area: Vec<u8>,
-}
-
-impl Lent {
-    fn line(&mut self, engine: &dyn Engine, line: &[u8]) -> i64 {
-        engine.line(&mut self.state, &mut self.table, line, &mut self.area)
-    }
-
-    fn copy_from(&mut self, other: &Lent) {
-        self.state.clone_from(&other.state);
-        self.table.clone_from(&other.table);
-        self.area.clone_from(&other.area);
-    }
-}
-
-fn first_difference(name: &str, one: &[u8], other: &[u8]) -> Option<String> {
-    if one == other {
-        return None;
-    }
-    let at = one.iter().zip(other).position(|(one, other)| one != other).unwrap_or(one.len().min(other.len()));
-    Some(format!("byte {at} of the {name} is {:?} and {:?}", one.get(at), other.get(at)))
-}
-
-fn differences(one: &Lent, other: &Lent) -> Option<String> {
-    first_difference("state", &one.state, &other.state)
-        .or_else(|| first_difference("table", &one.table, &other.table))
-        .or_else(|| first_difference("area", &one.area, &other.area))
-}
-
 fn form_number(line: &[u8]) -> usize {
     let word: Vec<u8> = line.iter().skip(1).copied().take_while(|byte| byte.is_ascii_lowercase()).collect();
     WORDS.iter().position(|known| line.first() == Some(&b'(') && known.as_bytes() == word).unwrap_or(WORDS.len())
-}
-
-fn new_area(random: &mut Random) -> Vec<u8> {
-    let length = match random.below(40) {
-        0 => 65_536,
-        1..=4 => random.below(40),
-        5 => random.below(600),
-        _ => 4_096,
-    };
-    (0..length).map(|_| random.byte()).collect()
 }
 
 fn compare_session(engine: &dyn Engine, random: &mut Random, start: Start, counts: &mut Counts, told: &mut Vec<String>) -> Result<(), String> {
@@ -93,18 +50,7 @@ fn compare_session(engine: &dyn Engine, random: &mut Random, start: Start, count
         let second = other.line(engine, &line);
         told.push(format!("{returned} {second} {}", line.escape_ascii()));
         count(counts, &line, returned, &one.area);
-        if returned != second {
-            return Err(format!("the engines return {returned} and {second}"));
-        }
-        if let Some(difference) = differences(&one, &other) {
-            return Err(difference);
-        }
-        if returned < 0 && one != before {
-            return Err("a refused line changes something".to_string());
-        }
-        if returned >= 0 && one.area[returned as usize..] != before.area[returned as usize..] {
-            return Err("the area changes behind the answer".to_string());
-        }
+        agree(&before, (&one, returned), (&other, second))?;
     }
     Ok(())
 }
@@ -165,7 +111,7 @@ fn run(engine: &dyn Engine, seed: u64, lines: usize) -> bool {
 
 fn main() -> ExitCode {
     let usage = "compare [--seed N] [--lines N] [--library FILE.so | --wrong NAME]";
-    let Some(options) = Options::read(usage, DEFAULT_LINES) else {
+    let Some(options) = Options::read(usage, DEFAULT_LINES, Box::new(Straightforward(Reading::Right))) else {
         return ExitCode::from(2);
     };
     if run(options.engine.as_ref(), options.seed, options.lines) {

@@ -376,7 +376,7 @@ fn self_test(seed: u64, lines: usize) -> bool {
 
 fn main() -> ExitCode {
     let usage = "demand3 [--seed N] [--lines N] [--library FILE.so | --wrong NAME] [--self-test]";
-    let Some(options) = Options::read(usage, DEFAULT_LINES) else {
+    let Some(options) = Options::read(usage, DEFAULT_LINES, Box::new(Straightforward(Reading::Right))) else {
         return ExitCode::from(2);
     };
     let passed = if options.self_test { self_test(options.seed, options.lines) } else { test(options.engine.as_ref(), options.seed, options.lines) };

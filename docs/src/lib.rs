@@ -4,6 +4,7 @@
 pub mod form;
 pub mod label;
 pub mod path;
+pub mod plain_view;
 pub mod policy;
 pub mod state;
 pub mod step;
@@ -13,3 +14,36 @@ pub mod view;
 
 pub use state::STATE_BYTES;
 pub use step::timetable_line;
+
+/// Exports a function on lent bytes as `timetable_line` with C's calling convention, and `timetable_state_bytes` beside it.
+#[macro_export]
+macro_rules! export_line {
+    ($line:path) => {
+        /// # Safety
+        /// Each pointer lends as many bytes as the length behind it says, and no two of them overlap.
+        #[no_mangle]
+        pub unsafe extern "C" fn timetable_line(
+            state: *mut u8,
+            state_length: usize,
+            table: *mut u8,
+            table_length: usize,
+            line: *const u8,
+            line_length: usize,
+            area: *mut u8,
+            area_length: usize,
+        ) -> i64 {
+            use std::slice::{from_raw_parts, from_raw_parts_mut};
+            $line(
+                from_raw_parts_mut(state, state_length),
+                from_raw_parts_mut(table, table_length),
+                from_raw_parts(line, line_length),
+                from_raw_parts_mut(area, area_length),
+            )
+        }
+
+        #[no_mangle]
+        pub extern "C" fn timetable_state_bytes() -> usize {
+            $crate::STATE_BYTES
+        }
+    };
+}

@@ -5,11 +5,11 @@ use crate::path::{Step, Test, STEPS_MAXIMUM};
 use crate::policy::{Policy, Rule, DELETE, INSERT, ISA_MAXIMUM, POSITION, READ, RULES_MAXIMUM, SUBJECTS_MAXIMUM, UPDATE};
 
 pub const SESSION_BYTES: usize = 8;
-const SUBJECTS_AT: usize = 8;
-const ISA_AT: usize = SUBJECTS_AT + RECORD_BYTES * SUBJECTS_MAXIMUM;
-const RULES_AT: usize = ISA_AT + 2 * ISA_MAXIMUM;
-const RULE_STEPS_AT: usize = 8;
-const RULE_BYTES: usize = RULE_STEPS_AT + RECORD_BYTES * STEPS_MAXIMUM;
+pub const SUBJECTS_AT: usize = 8;
+pub const ISA_AT: usize = SUBJECTS_AT + RECORD_BYTES * SUBJECTS_MAXIMUM;
+pub const RULES_AT: usize = ISA_AT + 2 * ISA_MAXIMUM;
+pub const RULE_STEPS_AT: usize = 8;
+pub const RULE_BYTES: usize = RULE_STEPS_AT + RECORD_BYTES * STEPS_MAXIMUM;
 pub const POLICY_BYTES: usize = RULES_AT + RULE_BYTES * RULES_MAXIMUM;
 pub const STATE_BYTES: usize = SESSION_BYTES + POLICY_BYTES;
 

@@ -4,7 +4,7 @@ use crate::label::{all_zero, read_record, write_record, Label, RECORD_BYTES, RES
 
 pub const LEVEL_MAXIMUM: usize = 11;
 pub const CAPACITY_MAXIMUM: usize = 16_384;
-const COUNT_BYTES: usize = 4;
+pub const COUNT_BYTES: usize = 4;
 
 /// A node in a list in document order; its parent is a number in the same list, none for the root.
 #[derive(Clone, Copy, PartialEq, Eq, Debug)]

@@ -1,6 +1,9 @@
-//! The engines under test: the straightforward version, under the right reading or a false one, and a library with C's calling convention.
+//! The engines under test: the straightforward version, under the right reading or a false one, the view alone, and a library with C's calling convention.
 
-use crate::step::{read_line, Reading};
+use crate::plain_view;
+use crate::policy::RULES_MAXIMUM;
+use crate::state::{RULES_AT, RULE_BYTES, SESSION_BYTES};
+use crate::step::{read_line, Reading, FALSE_READINGS};
 use crate::STATE_BYTES;
 use std::ffi::{c_char, c_int, c_void, CStr, CString};
 
@@ -23,6 +26,48 @@ impl Engine for Straightforward {
     fn reading(&self) -> Reading {
         self.0
     }
+}
+
+/// The view alone (plain_view.rs).
+pub struct PlainView;
+
+impl Engine for PlainView {
+    fn line(&self, state: &mut [u8], table: &mut [u8], line: &[u8], area: &mut [u8]) -> i64 {
+        plain_view::timetable_line(state, table, line, area)
+    }
+
+    fn reading(&self) -> Reading {
+        Reading::Right
+    }
+}
+
+/// The view alone with the rules tried from the first to the last. False, and here for the test of its tester alone.
+struct FirstRuleWins;
+
+impl Engine for FirstRuleWins {
+    fn line(&self, state: &mut [u8], table: &mut [u8], line: &[u8], area: &mut [u8]) -> i64 {
+        let mut turned = state.to_vec();
+        if state.len() == STATE_BYTES {
+            let rules = usize::from(state[SESSION_BYTES + 2]).min(RULES_MAXIMUM);
+            let at = |rule: usize| SESSION_BYTES + RULES_AT + RULE_BYTES * rule..SESSION_BYTES + RULES_AT + RULE_BYTES * (rule + 1);
+            for rule in 0..rules {
+                turned[at(rule)].copy_from_slice(&state[at(rules - 1 - rule)]);
+            }
+        }
+        plain_view::timetable_line(&mut turned, table, line, area)
+    }
+
+    fn reading(&self) -> Reading {
+        Reading::Right
+    }
+}
+
+/// The engine that is wrong in the way named.
+pub fn wrong_engine(name: &str) -> Option<Box<dyn Engine>> {
+    if name == "first-rule-wins" {
+        return Some(Box::new(FirstRuleWins));
+    }
+    FALSE_READINGS.iter().find(|(known, _)| *known == name).map(|(_, reading)| Box::new(Straightforward(*reading)) as Box<dyn Engine>)
 }
 
 // --- A library: `timetable_line` and `timetable_state_bytes` of a shared object, each slice as a pointer and a length ---

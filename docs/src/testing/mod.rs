@@ -2,6 +2,7 @@
 
 pub mod engine;
 pub mod generate;
+pub mod lent;
 pub mod options;
 pub mod random;
 pub mod sessions;

@@ -1,7 +1,6 @@
 //! The command line of the testers.
 
-use crate::step::{Reading, FALSE_READINGS};
-use crate::testing::engine::{Engine, Library, Straightforward};
+use crate::testing::engine::{wrong_engine, Engine, Library};
 
 pub const DEFAULT_SEED: u64 = 20_261_115;
 
@@ -15,8 +14,7 @@ pub struct Options {
 
 impl Options {
     /// The options that the command line gives; none, and why, where it is not understood.
-    pub fn read(usage: &str, lines: usize) -> Option<Options> {
-        let engine = Box::new(Straightforward(Reading::Right));
+    pub fn read(usage: &str, lines: usize, engine: Box<dyn Engine>) -> Option<Options> {
         let mut options = Options { seed: DEFAULT_SEED, lines, engine, self_test: false };
         let mut arguments = std::env::args().skip(1);
         while let Some(argument) = arguments.next() {
@@ -38,7 +36,7 @@ impl Options {
         match argument {
             "--seed" => value.parse().map(|number| self.seed = number).is_ok(),
             "--lines" => value.parse().map(|number| self.lines = number).is_ok(),
-            "--wrong" => FALSE_READINGS.iter().find(|(name, _)| *name == value).map(|(_, reading)| self.engine = Box::new(Straightforward(*reading))).is_some(),
+            "--wrong" => wrong_engine(&value).map(|engine| self.engine = engine).is_some(),
             "--library" => Library::open(&value).map(|library| self.engine = Box::new(library)).map_err(|error| eprintln!("{value}: {error}")).is_ok(),
             _ => false,
         }

@@ -3,9 +3,9 @@
 use super::generate::{self, label, path_text, text_of, tree, tree_text};
 use super::random::Random;
 use crate::form::LINE_MAXIMUM;
-use crate::label::{write_record, RECORD_BYTES};
+use crate::label::{write_record, Label, RECORD_BYTES};
 use crate::path::{Step, Test};
-use crate::policy::{Policy, Rule, ISA_MAXIMUM, RULES_MAXIMUM, SUBJECTS_MAXIMUM};
+use crate::policy::{Policy, Rule, ISA_MAXIMUM, POSITION, READ, RULES_MAXIMUM, SUBJECTS_MAXIMUM};
 use crate::state::{self, Stage, State};
 use crate::step::{step, Reading, Store};
 use crate::table::{self, flatten, Node, Tree, CAPACITY_MAXIMUM, LEVEL_MAXIMUM};
@@ -387,6 +387,39 @@ fn large_start(random: &mut Random) -> Start {
     let free = CAPACITY_MAXIMUM - count + random.below(40);
     let odd = random.below(RECORD_BYTES);
     Start { kind: "large", state: bytes, table: table_bytes(&nodes, free, odd) }
+}
+
+/// Few labels, and paths of up to 12 steps over them, so that many paths fit or nearly fit, in a session of stage E that shows most nodes.
+pub fn tight_start(random: &mut Random) -> Start {
+    let labels = [label("a"), label("b"), label("c")];
+    let mut policy = Policy { subjects: labels[..2].to_vec(), isa: vec![(1, 0)], rules: Vec::new() };
+    let all = vec![Step { descendants: true, test: Test::Any, brackets: Vec::new() }];
+    policy.rules.push(Rule { accept: true, right: READ, subject: 0, path: all });
+    for _ in 0..random.within(0, 12) {
+        let longest = random.within(1, 12);
+        let path = (0..random.within(1, longest)).map(|_| tight_step(random, &labels)).collect();
+        policy.rules.push(Rule { accept: random.percent(40), right: *random.pick(&[READ, READ, POSITION]), subject: random.below(2), path });
+    }
+    let mut nodes = vec![Node { level: 0, label: *random.pick(&labels), parent: None }];
+    for _ in 0..random.within(1, 60) {
+        let deepest = (nodes[nodes.len() - 1].level + 1).min(LEVEL_MAXIMUM);
+        let level = if random.percent(75) { deepest } else { random.within(1, deepest) };
+        let label = if random.percent(90) { labels[random.below(2)] } else { labels[2] };
+        nodes.push(Node { level, label, parent: None });
+    }
+    let mut bytes = vec![0; STATE_BYTES];
+    state::encode(&State { stage: Stage::E, user: Some(random.below(2)), policy }, &mut bytes);
+    let free = random.below(3);
+    Start { kind: "tight", state: bytes, table: table_bytes(&nodes, free, 0) }
+}
+
+fn tight_step(random: &mut Random, labels: &[Label]) -> Step {
+    let test = match random.below(6) {
+        0 => Test::Any,
+        1 => Test::Own,
+        _ => Test::Label(labels[random.below(2)]),
+    };
+    Step { descendants: random.percent(50), test, brackets: Vec::new() }
 }
 
 fn other_byte(random: &mut Random, byte: u8) -> u8 {

@@ -1,0 +1,3 @@
+//! The view alone (plain_view.rs) as a shared object, for the benchmark.
+
+timetable::export_line!(timetable::plain_view::timetable_line);
