@@ -8,7 +8,8 @@ use lib.Bits.{bitAnd}
 use lib.Dec.{eqb, ltb}
 use lib.ListN.{length, getD, replicate}
 use Rattle.rights.specs.PolicyBytes.{ruleCount, rightBit, whose, accepts, Subject}
-use Rattle.rights.specs.Rights.{Step, withRule, tried, finds}
+use Rattle.rights.specs.Policy.{Right, position, read, insert, update, delete, bitOf}
+use Rattle.rights.specs.Rights.{Step, withRule, tried, finds, holds}
 use Rattle.rights.specs.Automaton.{value, deeps, passedBy, rulePath, Sound}
 use Rattle.rights.specs.Table.{recAt, recordAt, recordsFrom, recordsOk, label}
 use Rattle.rights.specs.Vocabulary.{numberIn, Sorted}
@@ -70,12 +71,16 @@ unfoldable pub ruled : (ℕ → Lane) → ℕ → List (List ℕ) → ℕ → �
 ruled q b c i zero x = x
 ruled q b c i (suc n) x = cond (q (i + n) .on) (tried (q (i + n) .path) c b (q (i + n) .accept) (ruled q b c i n x)) (ruled q b c i n x)
 
--- all rules of one right, and of the five rights in turn
+-- all rules of one right, if it is asked, and of the five rights in turn
 abbrev pub byRight : List ℕ → ℕ → List ℕ → List (List ℕ) → ℕ → ℕ → ℕ
 byRight p u roles c b x = ruled (laneAt p u roles b) b c 0 (ruleCount p) x
 
-abbrev pub byFive : List ℕ → ℕ → List ℕ → List (List ℕ) → ℕ → ℕ
-byFive p u roles c x = byRight p u roles c 16 (byRight p u roles c 8 (byRight p u roles c 4 (byRight p u roles c 2 (byRight p u roles c 1 x))))
+abbrev pub byAsked : List ℕ → ℕ → List ℕ → List (List ℕ) → ℕ → Right → ℕ → ℕ
+byAsked p u roles c asked w x = cond (holds w asked) (byRight p u roles c (bitOf w) x) x
+
+abbrev pub byFive : List ℕ → ℕ → List ℕ → List (List ℕ) → ℕ → ℕ → ℕ
+byFive p u roles c asked x =
+    byAsked p u roles c asked delete (byAsked p u roles c asked update (byAsked p u roles c asked insert (byAsked p u roles c asked read (byAsked p u roles c asked position x))))
 
 -- the later rule has the higher bit: the higher of the two numbers wins
 abbrev pub settled : ℕ → ℕ → ℕ → ℕ → ℕ

@@ -14,12 +14,14 @@ use crate::limits::STEPS_AT;
 use crate::limits::SUBJECTS_AT;
 use crate::limits::UPDATE;
 use crate::nodes::wide_number;
+use crate::rights::holds_right;
 use crate::vocabulary::number_of;
 ghost use mathlib.Core.Path.{_≡_};
 ghost use mathlib.Core.List.{List, [], _∷_, _++_};
 ghost use mathlib.Core.Bool.{Bool, true, cond, not};
 ghost use Prim.Native.Nat.{ℕ, suc, _+_, _-_, _*_, _/_, _%_, _^_, _≤_, _<_};
 ghost use lib.Bits.{bitOr};
+ghost use lib.Dec.{eqb};
 ghost use lib.ListN.{length, getD};
 ghost use Rattle.rights.specs.Path.{far};
 ghost use Rattle.rights.specs.Policy.{passesOwn};
@@ -29,7 +31,7 @@ ghost use Rattle.rights.specs.PolicyCheck.{bitOk};
 ghost use Rattle.rights.specs.Rights.{Step, stepFor};
 ghost use Rattle.rights.specs.Automaton.{value, moved, stepsFor, rulePath, chainOf, Each, Steps, Sound};
 ghost use Rattle.rights.specs.Vocabulary.{numberIn, Words};
-ghost use Rattle.rights.specs.Groups.{noted, laneAt, laid, ruled, byFive, settled, Packed, Grouped, Ready, Numbered, Noted};
+ghost use Rattle.rights.specs.Groups.{noted, laneAt, laid, ruled, byRight, byFive, settled, Packed, Grouped, Ready, Numbered, Noted};
 
 // The bit at a place.
 fn one_at(j: usize) -> u64
@@ -390,8 +392,44 @@ fn try_right(
     }
 }
 
-// Tries all rules on the first n nodes, right by right.
+// Tries all rules of one right, if it is asked.
+fn try_asked(
+    asked: u8,
+    policy: &[u8],
+    u: usize,
+    words: &[u32],
+    count: usize,
+    roles: &[u8; 64],
+    right: u8,
+    t: &[u8],
+    n: usize,
+    numbers: &[u16],
+    rows: &mut [u64],
+    out: &mut [u8],
+)
+    requires { ⌜ Ready (now policy) u (now words) count × (bitOk right ≡ true) × (length (now rows) ≡ 2113) × Numbered (now policy) (now words) count (now t) n (now numbers) × (n ≤ length (now out)) ⌝ }
+    ensures { λ _. ⌜ (length (now (rows .exit)) ≡ 2113) × Each n (now (out .entry)) (now (out .exit)) (λ (i x : ℕ). cond (eqb (asked / right % 2) 1) (byRight (now (policy .entry)) u (now (roles .entry)) (chainOf (now (t .entry)) i) right x) x) ⌝ }
+{
+    if holds_right(asked, right) {
+        try_right(
+            policy,
+            u,
+            words,
+            count,
+            roles,
+            right,
+            t,
+            n,
+            numbers,
+            rows,
+            out,
+        );
+    }
+}
+
+// Tries all rules on the first n nodes, right by right of those that are asked.
 pub fn try_rights(
+    asked: u8,
     policy: &[u8],
     u: usize,
     words: &[u32],
@@ -404,9 +442,10 @@ pub fn try_rights(
     out: &mut [u8],
 )
     requires { ⌜ Ready (now policy) u (now words) count × (length (now rows) ≡ 2113) × Numbered (now policy) (now words) count (now t) n (now numbers) × (n ≤ length (now out)) ⌝ }
-    ensures { λ _. ⌜ Each n (now (out .entry)) (now (out .exit)) (λ (i x : ℕ). byFive (now (policy .entry)) u (now (roles .entry)) (chainOf (now (t .entry)) i) x) ⌝ }
+    ensures { λ _. ⌜ Each n (now (out .entry)) (now (out .exit)) (λ (i x : ℕ). byFive (now (policy .entry)) u (now (roles .entry)) (chainOf (now (t .entry)) i) asked x) ⌝ }
 {
-    try_right(
+    try_asked(
+        asked,
         policy,
         u,
         words,
@@ -419,7 +458,8 @@ pub fn try_rights(
         rows,
         out,
     );
-    try_right(
+    try_asked(
+        asked,
         policy,
         u,
         words,
@@ -432,7 +472,8 @@ pub fn try_rights(
         rows,
         out,
     );
-    try_right(
+    try_asked(
+        asked,
         policy,
         u,
         words,
@@ -445,7 +486,8 @@ pub fn try_rights(
         rows,
         out,
     );
-    try_right(
+    try_asked(
+        asked,
         policy,
         u,
         words,
@@ -458,7 +500,8 @@ pub fn try_rights(
         rows,
         out,
     );
-    try_right(
+    try_asked(
+        asked,
         policy,
         u,
         words,

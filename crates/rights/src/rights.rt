@@ -1,6 +1,7 @@
 // The rights of a subject on every node (document 01, "Rights"): the last applicable rule for a right decides, with none there is no right.
 use crate::bytes::wide;
 use crate::groups::try_rights;
+use crate::limits::ALL_RIGHTS;
 use crate::limits::ISA_AT;
 use crate::limits::ISA_BYTES;
 use crate::limits::RECORDS_MAX;
@@ -17,7 +18,7 @@ ghost use lib.Dec.{eqb};
 ghost use Rattle.rights.specs.Table.{recordsFrom, recordsOk, records, count, tableOk};
 ghost use Rattle.rights.specs.PolicyCheck.{bitOk, policyOk};
 ghost use Rattle.rights.specs.PolicyBytes.{policyOf, subjectCount, isaCount, ruleCount, rightBit};
-ghost use Rattle.rights.specs.Rights.{rightsOn};
+ghost use Rattle.rights.specs.Rights.{rightsOn, askedOn};
 ghost use Rattle.rights.specs.Automaton.{bit, isAt, lined, widened, Each, Sound};
 
 // Sets the first n bytes of out to 0: no rights.
@@ -76,10 +77,10 @@ fn roles_of(policy: &[u8], u: usize) -> [u8; 64]
     out
 }
 
-// Writes the rights that subject u has on each of the first n nodes.
-fn rights_of(policy: &[u8], u: usize, t: &[u8], n: usize, out: &mut [u8])
+// Writes the asked rights that subject u has on each of the first n nodes.
+fn rights_of(policy: &[u8], u: usize, t: &[u8], n: usize, asked: u8, out: &mut [u8])
     requires { ⌜ Sound (now policy) × ((k : ℕ) → k < ruleCount (now policy) → bitOk (rightBit (now policy) k) ≡ true) × (u < subjectCount (now policy)) × (4 + n * 32 ≤ length (now t)) × (recordsOk 0 0 (recordsFrom (now t) n 0) ≡ true) × (n ≤ 16384) × (n ≤ length (now out)) ⌝ }
-    ensures { λ _. ⌜ now (out .exit) ≡ rightsOn (policyOf (now (policy .entry))) u (recordsFrom (now (t .entry)) n 0) ++ drop n (now (out .entry)) ⌝ }
+    ensures { λ _. ⌜ now (out .exit) ≡ askedOn asked (policyOf (now (policy .entry))) u (recordsFrom (now (t .entry)) n 0) ++ drop n (now (out .entry)) ⌝ }
 {
     let roles = roles_of(policy, u);
     let mut words = [0u32; WORDS_MAX];
@@ -89,6 +90,7 @@ fn rights_of(policy: &[u8], u: usize, t: &[u8], n: usize, out: &mut [u8])
     let mut rows = [0u64; WORDS_MAX + 1];
     clear_rights(out, n);
     try_rights(
+        asked,
         policy,
         u,
         &words,
@@ -102,13 +104,21 @@ fn rights_of(policy: &[u8], u: usize, t: &[u8], n: usize, out: &mut [u8])
     );
 }
 
-// Writes the rights that subject u has on each node of a table: one byte a node, one bit a right.
+// Writes the asked ones of the rights that subject u has on each node of a table: one byte a node, one bit a right.
+pub fn asked_on(policy: &[u8], u: usize, table: &[u8], asked: u8, out: &mut [u8])
+    requires { ⌜ (policyOk (now policy) ≡ true) × (u < subjectCount (now policy)) × (tableOk (now table) ≡ true) × (count (now table) ≤ length (now out)) ⌝ }
+    ensures { λ _. ⌜ now (out .exit) ≡ askedOn asked (policyOf (now (policy .entry))) u (records (now (table .entry))) ++ drop (count (now (table .entry))) (now (out .entry)) ⌝ }
+{
+    let n = count_of(table);
+    rights_of(policy, u, table, n, asked, out);
+}
+
+// Writes the rights that subject u has on each node of a table.
 pub fn rights_on(policy: &[u8], u: usize, table: &[u8], out: &mut [u8])
     requires { ⌜ (policyOk (now policy) ≡ true) × (u < subjectCount (now policy)) × (tableOk (now table) ≡ true) × (count (now table) ≤ length (now out)) ⌝ }
     ensures { λ _. ⌜ now (out .exit) ≡ rightsOn (policyOf (now (policy .entry))) u (records (now (table .entry))) ++ drop (count (now (table .entry))) (now (out .entry)) ⌝ }
 {
-    let n = count_of(table);
-    rights_of(policy, u, table, n, out);
+    asked_on(policy, u, table, ALL_RIGHTS, out);
 }
 
 // Whether a set of rights holds the right with this bit.

@@ -1,3 +1,4 @@
+use lib.Bits.{bitAnd}
 use Rattle.rights.proofs.FiveRights.{five}
 use Rattle.rights.proofs.Model.{all-rights}
 use Rattle.rights.proofs.Eaches.{each-then, each-alike}
@@ -63,8 +64,8 @@ returns c =
     let p = a .policy .now in
     let t = a .t .now in
     let r = c .before .before .before .before .before .before .before .before .before .before .before .before .before .before .before .before .before .before .before .before .roles-of .result in
-    all-rights p t (a .u) (a .n) _ _ (g .6)
-    (each-alike (a .n) _ _ (λ (i x : ℕ). byFive p (a .u) r (chainOf t i) 0) (λ (i x : ℕ). rightsAt p (a .u) (chainOf t i)) (λ i x. five p (a .u) (chainOf t i) (g .0) r (c .before .before .before .before .before .before .before .before .before .before .before .before .before .before .before .before .before .before .before .before .roles-of .ensures) (g .1))
+    all-rights p t (a .u) (a .n) (a .asked) _ _ (g .6)
+    (each-alike (a .n) _ _ (λ (i x : ℕ). byFive p (a .u) r (chainOf t i) (a .asked) 0) (λ (i x : ℕ). bitAnd (rightsAt p (a .u) (chainOf t i)) (a .asked)) (λ i x. five p (a .u) (chainOf t i) (g .0) r (c .before .before .before .before .before .before .before .before .before .before .before .before .before .before .before .before .before .before .before .before .roles-of .ensures) (a .asked) (g .1))
     (each-then (a .n) _ _ _ _ _ (c .before .before .before .before .before .before .before .before .before .before .before .clear-rights .ensures) (c .before .before .before .try-rights .ensures)))
 
 pub rights-of-spec : {M : Type 1} → statement M
