@@ -20,3 +20,4 @@ pub mod NestedLaws
 pub mod TableKept
 pub mod NodeLaws
 pub mod KeptLaws
+pub mod AskedView
