@@ -7,12 +7,13 @@ use rights::bytes::wide;
 use rights::limits::COUNT_BYTES;
 use rights::limits::DELETE;
 use rights::limits::INSERT;
-use rights::limits::LABEL_AT;
 use rights::limits::READ;
 use rights::limits::RECORD_BYTES;
 use rights::limits::RECORDS_MAX;
 use rights::limits::UPDATE;
-use rights::policy::is_policy_word;
+use rights::limits::WORDS_MAX;
+use rights::policy::is_among;
+use rights::policy::sort_policy_words;
 use rights::rights::holds_right;
 use rights::table::count_of;
 ghost use mathlib.Core.Path.{_≡_};
@@ -28,6 +29,7 @@ ghost use Rattle.rights.specs.PolicyBytes.{policyOf, Text};
 ghost use Rattle.rights.specs.PolicyCheck.{policyOk};
 ghost use Rattle.rights.specs.Rights.{holds};
 ghost use Rattle.rights.specs.Table.{recordAt, label, count, tableOk};
+ghost use Rattle.rights.specs.Vocabulary.{PolicyWords};
 ghost use Rattle.views.specs.Done.{byNumbers, does, doneMarks};
 
 // Slots a level, 0 to 15: more than there are levels.
@@ -112,14 +114,12 @@ fn pass_down(slots: &mut [u8; 16], level: usize, v: u8)
     }
 }
 
-// Whether the label of record i is a policy word.
-fn is_word(policy: &[u8], table: &[u8], i: usize) -> bool
-    requires { ⌜ (policyOk (now policy) ≡ true) × Text (now table) (4 + i * 32) ⌝ }
+// Whether the label of record i is one of the k policy words.
+fn is_word(policy: &[u8], words: &[u32], k: usize, table: &[u8], i: usize) -> bool
+    requires { ⌜ PolicyWords (now policy) (now words) k × Text (now table) (4 + i * 32) ⌝ }
     ensures { λ r. ⌜ r ≡ policyWord (policyOf (now (policy .entry))) (label (recordAt (now (table .entry)) i)) ⌝ }
 {
-    let at = COUNT_BYTES + i * RECORD_BYTES;
-    let n = wide(table[at + 1]);
-    is_policy_word(policy, table, at + LABEL_AT, n)
+    is_among(policy, words, k, table, COUNT_BYTES + i * RECORD_BYTES)
 }
 
 // Whether both hold.
@@ -143,14 +143,22 @@ fn is_inner(may: bool, level: u8) -> bool
 }
 
 // Whether record i, with these rights, is concerned and may be renamed.
-fn is_renamable(concerned: bool, policy: &[u8], table: &[u8], i: usize, set: u8) -> bool
-    requires { ⌜ (policyOk (now policy) ≡ true) × Text (now table) (4 + i * 32) ⌝ }
+fn is_renamable(
+    concerned: bool,
+    policy: &[u8],
+    words: &[u32],
+    k: usize,
+    table: &[u8],
+    i: usize,
+    set: u8,
+) -> bool
+    requires { ⌜ PolicyWords (now policy) (now words) k × Text (now table) (4 + i * 32) ⌝ }
     ensures { λ r. ⌜ r ≡ (concerned && (holds read set && (holds update set && not (policyWord (policyOf (now (policy .entry))) (label (recordAt (now (table .entry)) i)))))) ⌝ }
 {
     if concerned {
         if holds_right(set, READ) {
             if holds_right(set, UPDATE) {
-                return !is_word(policy, table, i);
+                return !is_word(policy, words, k, table, i);
             }
         }
     }
@@ -162,6 +170,8 @@ fn is_renamable(concerned: bool, policy: &[u8], table: &[u8], i: usize, set: u8)
 fn is_done(
     change: Change,
     policy: &[u8],
+    words: &[u32],
+    k: usize,
     table: &[u8],
     i: usize,
     set: u8,
@@ -171,12 +181,12 @@ fn is_done(
     chosen: bool,
     granting: bool,
 ) -> bool
-    requires { ⌜ (policyOk (now policy) ≡ true) × Text (now table) (4 + i * 32) ⌝ }
+    requires { ⌜ PolicyWords (now policy) (now words) k × Text (now table) (4 + i * 32) ⌝ }
     ensures { λ r. ⌜ r ≡ does change (record { level = level; rights = set; shown = shown; selected = selected; word = policyWord (policyOf (now (policy .entry))) (label (recordAt (now (table .entry)) i)); parentSelected = chosen; parentInsert = granting }) ⌝ }
 {
     match change {
-        Change::Rename => is_renamable(selected, policy, table, i, set),
-        Change::Update => is_renamable(both(shown, chosen), policy, table, i, set),
+        Change::Rename => is_renamable(selected, policy, words, k, table, i, set),
+        Change::Update => is_renamable(both(shown, chosen), policy, words, k, table, i, set),
         Change::Append => both(selected, holds_right(set, INSERT)),
         Change::Before => both(selected, is_inner(granting, level)),
         Change::After => both(selected, is_inner(granting, level)),
@@ -184,17 +194,19 @@ fn is_done(
     }
 }
 
-// Writes for each record whether the change does it. `selected` has a mark for each record. A slot a level says of the node above, which is the
+// Writes for each record whether the change does it, where words are the k policy words. A slot a level says of the node above, which is the
 // parent of the next node at that level, whether it is selected, and whether the user has insert on it.
-pub fn mark_done(
+fn mark_by_words(
     change: Change,
     policy: &[u8],
+    words: &[u32],
+    k: usize,
     table: &[u8],
     rights: &[u8],
     selected: &[u8],
     done: &mut [u8],
 )
-    requires { ⌜ (policyOk (now policy) ≡ true) × (tableOk (now table) ≡ true) × (count (now table) ≤ length (now rights)) × (count (now table) ≤ length (now selected)) × (count (now table) ≤ length (now done)) ⌝ }
+    requires { ⌜ PolicyWords (now policy) (now words) k × (tableOk (now table) ≡ true) × (count (now table) ≤ length (now rights)) × (count (now table) ≤ length (now selected)) × (count (now table) ≤ length (now done)) ⌝ }
     ensures { λ _. ⌜ now (done .exit) ≡ map bit (doneMarks change (policyWord (policyOf (now (policy .entry)))) (now (table .entry)) (now (rights .entry)) (marksOf (now (selected .entry)))) ++ drop (count (now (table .entry))) (now (done .entry)) ⌝ }
 {
     let n = count_of(table);
@@ -210,11 +222,41 @@ pub fn mark_done(
         let sel = is_set(selected[i]);
         let up = is_set(chosen[l]);
         let may = is_set(granting[l]);
-        let does = is_done(change, policy, table, i, set, level, on, sel, up, may);
+        let does = is_done(
+            change,
+            policy,
+            words,
+            k,
+            table,
+            i,
+            set,
+            level,
+            on,
+            sel,
+            up,
+            may,
+        );
         done[i] = mark_of(does);
         pass_down(&mut chosen, l, mark_of(sel));
         pass_down(&mut granting, l, mark_of(holds_right(set, INSERT)));
         depth = depth_after(depth, level, on);
         i += 1;
     }
+}
+
+// Writes for each record whether the change does it. `selected` has a mark for each record.
+pub fn mark_done(
+    change: Change,
+    policy: &[u8],
+    table: &[u8],
+    rights: &[u8],
+    selected: &[u8],
+    done: &mut [u8],
+)
+    requires { ⌜ (policyOk (now policy) ≡ true) × (tableOk (now table) ≡ true) × (count (now table) ≤ length (now rights)) × (count (now table) ≤ length (now selected)) × (count (now table) ≤ length (now done)) ⌝ }
+    ensures { λ _. ⌜ now (done .exit) ≡ map bit (doneMarks change (policyWord (policyOf (now (policy .entry)))) (now (table .entry)) (now (rights .entry)) (marksOf (now (selected .entry)))) ++ drop (count (now (table .entry))) (now (done .entry)) ⌝ }
+{
+    let mut words = [0u32; WORDS_MAX];
+    let k = sort_policy_words(policy, &mut words);
+    mark_by_words(change, policy, &words, k, table, rights, selected, done);
 }

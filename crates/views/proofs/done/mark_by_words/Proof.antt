@@ -8,43 +8,43 @@ use Rattle.rights.specs.PolicyBytes.{policyOf}
 use Rattle.rights.specs.Table.{count}
 use Rattle.views.proofs.StoredNodes.{good, record-text}
 use Rattle.views.proofs.DonePass.{Marking, marking-start, marking-more, marking-gives}
-use Rattle.views.proofs.done.mark_done.Statement.{statement}
-use Rattle.views.proofs.done.mark_done.Tie as tie
+use Rattle.views.proofs.done.mark_by_words.Statement.{statement}
+use Rattle.views.proofs.done.mark_by_words.Tie as tie
 
 abbrev Inv-loop : tie.InvT-loop
-Inv-loop change policy table rights selected done₀ n chosen₀ granting₀ depth₀ i₀ done chosen granting depth i =
+Inv-loop change policy words k table rights selected done₀ n chosen₀ granting₀ depth₀ i₀ done chosen granting depth i =
     (n ≡ count table) × Marking change (policyWord (policyOf policy)) table rights selected done₀ n done chosen granting depth i
 
 abbrev μ-loop : tie.MeasureT-loop
-μ-loop change policy table rights selected done₀ n chosen₀ granting₀ depth₀ i₀ done chosen granting depth i = n - i
+μ-loop change policy words k table rights selected done₀ n chosen₀ granting₀ depth₀ i₀ done chosen granting depth i = n - i
 
 count-of-requires : tie.Need-count-of-requires Inv-loop μ-loop
-count-of-requires c κs = good _ (c .before .before .before .before .before .pre .1) .head
+count-of-requires c κs = good _ (c .before .before .before .before .before .before .pre .1) .head
 
 loop-holds : tie.Need-loop-holds Inv-loop μ-loop
 loop-holds c =
-    let a = c .before .before .before .before .before .before .args in
-    (c .count-of .ensures, marking-start (a .change) (policyWord (policyOf (a .policy .now))) (a .table .now) (a .rights .now) (a .selected .now) (a .done .now) (c .count-of .result) (c .count-of .ensures) (c .before .before .before .before .before .before .pre .1))
+    let a = c .before .before .before .before .before .before .before .args in
+    (c .count-of .ensures, marking-start (a .change) (policyWord (policyOf (a .policy .now))) (a .table .now) (a .rights .now) (a .selected .now) (a .done .now) (c .count-of .result) (c .count-of .ensures) (c .before .before .before .before .before .before .before .pre .1))
 
 mul-level : tie.Need-mul-level Inv-loop μ-loop
 mul-level c =
-    let a = c .before .before .before .before .before .before .before .before .args in
+    let a = c .before .before .before .before .before .before .before .before .before .args in
     let l = c .before .loop in
-    let g = good (a .table .now) (c .before .before .before .before .before .before .before .before .pre .1) in
+    let g = good (a .table .now) (c .before .before .before .before .before .before .before .before .before .pre .1) in
     omega arith
 
 add-level : tie.Need-add-level Inv-loop μ-loop
 add-level c =
-    let a = c .before .before .before .before .before .before .before .before .args in
+    let a = c .before .before .before .before .before .before .before .before .before .args in
     let l = c .before .loop in
-    let g = good (a .table .now) (c .before .before .before .before .before .before .before .before .pre .1) in
+    let g = good (a .table .now) (c .before .before .before .before .before .before .before .before .before .pre .1) in
     omega arith
 
 shared-slice-read-level : tie.Need-shared-slice-read-level Inv-loop μ-loop
 shared-slice-read-level c =
-    let a = c .before .before .before .before .before .before .before .before .before .args in
+    let a = c .before .before .before .before .before .before .before .before .before .before .args in
     let l = c .before .before .loop in
-    let g = good (a .table .now) (c .before .before .before .before .before .before .before .before .before .pre .1) in
+    let g = good (a .table .now) (c .before .before .before .before .before .before .before .before .before .before .pre .1) in
     omega arith
 
 wide-requires : tie.Need-wide-requires Inv-loop μ-loop
@@ -64,9 +64,9 @@ is-set-requires c κs = search needs
 
 array-read-is-set : tie.Need-array-read-is-set Inv-loop μ-loop
 array-read-is-set c =
-    let a = c .before .before .before .before .before .before .before .before .before .before .before .before .before .before .args in
+    let a = c .before .before .before .before .before .before .before .before .before .before .before .before .before .before .before .args in
     let l = c .before .before .before .before .before .before .before .loop in
-    let k = record-text (a .table .now) (c .before .before .before .before .before .before .before .before .before .before .before .before .before .before .pre .1) (l .i) (omega arith) in
+    let k = record-text (a .table .now) (c .before .before .before .before .before .before .before .before .before .before .before .before .before .before .before .pre .1) (l .i) (omega arith) in
     omega (arith, k .1, c .before .before .before .before .wide .ensures)
 
 is-set-requires-2 : tie.Need-is-set-requires-2 Inv-loop μ-loop
@@ -74,9 +74,9 @@ is-set-requires-2 c κs = search needs
 
 array-read-is-set-2 : tie.Need-array-read-is-set-2 Inv-loop μ-loop
 array-read-is-set-2 c =
-    let a = c .before .before .before .before .before .before .before .before .before .before .before .before .before .before .before .args in
+    let a = c .before .before .before .before .before .before .before .before .before .before .before .before .before .before .before .before .args in
     let l = c .before .before .before .before .before .before .before .before .loop in
-    let k = record-text (a .table .now) (c .before .before .before .before .before .before .before .before .before .before .before .before .before .before .before .pre .1) (l .i) (omega arith) in
+    let k = record-text (a .table .now) (c .before .before .before .before .before .before .before .before .before .before .before .before .before .before .before .before .pre .1) (l .i) (omega arith) in
     omega (arith, k .1, c .before .before .before .before .before .wide .ensures)
 
 is-set-requires-3 : tie.Need-is-set-requires-3 Inv-loop μ-loop
@@ -84,10 +84,10 @@ is-set-requires-3 c κs = search needs
 
 is-done-requires : tie.Need-is-done-requires Inv-loop μ-loop
 is-done-requires c κs =
-    let a = c .before .before .before .before .before .before .before .before .before .before .before .before .before .before .before .before .args in
+    let a = c .before .before .before .before .before .before .before .before .before .before .before .before .before .before .before .before .before .args in
     let l = c .before .before .before .before .before .before .before .before .before .loop in
-    let k = record-text (a .table .now) (c .before .before .before .before .before .before .before .before .before .before .before .before .before .before .before .before .pre .1) (l .i) (omega arith) in
-    (c .before .before .before .before .before .before .before .before .before .before .before .before .before .before .before .before .pre .0, k .0)
+    let k = record-text (a .table .now) (c .before .before .before .before .before .before .before .before .before .before .before .before .before .before .before .before .before .pre .1) (l .i) (omega arith) in
+    (c .before .before .before .before .before .before .before .before .before .before .before .before .before .before .before .before .before .pre .0, k .0)
 
 mark-of-requires : tie.Need-mark-of-requires Inv-loop μ-loop
 mark-of-requires c κs = search needs
@@ -121,10 +121,10 @@ loop-less c = search needs
 
 loop-again : tie.Need-loop-again Inv-loop μ-loop
 loop-again c =
-    let a = c .before .before .before .before .before .before .before .before .before .before .before .before .before .before .before .before .before .before .before .before .before .before .before .before .before .before .args in
+    let a = c .before .before .before .before .before .before .before .before .before .before .before .before .before .before .before .before .before .before .before .before .before .before .before .before .before .before .before .args in
     let l = c .before .before .before .before .before .before .before .before .before .before .before .before .before .before .before .before .before .before .before .loop in
-    let k = record-text (a .table .now) (c .before .before .before .before .before .before .before .before .before .before .before .before .before .before .before .before .before .before .before .before .before .before .before .before .before .before .pre .1) (l .i) (omega arith) in
-    let p = c .before .before .before .before .before .before .before .before .before .before .before .before .before .before .before .before .before .before .before .before .before .before .before .before .before .before .pre in
+    let k = record-text (a .table .now) (c .before .before .before .before .before .before .before .before .before .before .before .before .before .before .before .before .before .before .before .before .before .before .before .before .before .before .before .pre .1) (l .i) (omega arith) in
+    let p = c .before .before .before .before .before .before .before .before .before .before .before .before .before .before .before .before .before .before .before .before .before .before .before .before .before .before .before .pre in
     let e = l .inv .0 in
     let h = c .before .before .before .before .before .before .before .before .before .before .before .before .before .before .before .before .before .before .loop-test .taken in (
       l .inv .0,
@@ -142,12 +142,12 @@ same-length c = search needs
 
 returns : tie.Need-returns Inv-loop μ-loop
 returns c =
-    let a = c .before .before .before .before .before .before .before .before .args in
+    let a = c .before .before .before .before .before .before .before .before .before .args in
     let l = c .before .loop in
     marking-gives (a .change) (policyWord (policyOf (a .policy .now))) (a .table .now) (a .rights .now) (a .selected .now) (a .done .now) (c .before .before .count-of .result) (l .done) (l .chosen) (l .granting) (l .depth) (l .i) (l .inv .0) (omega arith) (l .inv .1)
 
-pub mark-done-spec : {M : Type 1} → statement M
-mark-done-spec =
+pub mark-by-words-spec : {M : Type 1} → statement M
+mark-by-words-spec =
     tie.close
     (tie.spec
     Inv-loop
