@@ -13,7 +13,12 @@ use Rattle.rights.specs.declared.path.Read.the-variants.{At, Bad}
 use Rattle.rights.specs.PolicyBytes.{policyOf, subjectCount, isaCount, ruleCount, Subject}
 use Rattle.rights.specs.Table.{count, records, recordsFrom, tableOk}
 use Rattle.rights.specs.PolicyCheck.{policyOk}
-use Rattle.rights.specs.Rights.{rightsBy, chains, rightsOn}
+use Rattle.rights.specs.Rights.{rightsBy, chains, rightsOn, askedOn}
+use lib.Bits.{bitAnd}
+use Rattle.rights.proofs.FiveRights.{asked-all}
+use Rattle.rights.proofs.RightsLaws.{rule-bit}
+use Rattle.views.proofs.AskedView.{shown-asked}
+use Rattle.lines.specs.ChangeRoom.{ForView}
 use Rattle.rights.proofs.Facts.{table-few}
 use Rattle.rights.proofs.Lists.{rest-of}
 use borrow.Rule.Slice.PartMut.{putMid, postOf}
@@ -106,9 +111,6 @@ records-length t (suc n) i = ap suc (records-length t n (suc i))
 pub rights-length : (s t : List ℕ) → length (rightsIn s t) ≡ count t
 rights-length s t = length-map (chains [] (records t)) (rightsBy _ (userOf s)) ∙ chains-length [] (records t) ∙ records-length t (count t) 0
 
-pub stored-in : (s t more rights' : List ℕ) → rights' ≡ rightsIn s t ++ more → stored t rights' ≡ storedIn s t
-stored-in s t more rights' e = ap (stored t) e ∙ stored-more (records t) (rightsIn s t) more 0 (rights-length s t ∙ sym (records-length t (count t) 0))
-
 -- what the rights of the user ask, where the policy is a part of the state
 module _ (s t : List ℕ) (ok : storeOk s t ≡ true) (u : noUser s ≡ false) (user n : ℕ) (e : user ≡ userByte s) where
   pub rights-asks : n ≡ 16384
@@ -117,19 +119,30 @@ module _ (s t : List ℕ) (ok : storeOk s t ≡ true) (u : noUser s ≡ false) (
       let h = store-held s t ok in
       rw (rest-of s 8) (h .policy, rw e (user-declared s t ok u), h .table, omega (arith, table-few t (h .table)))
 
--- what the rights of the user are, and give
-module _ (s t rights' more : List ℕ) (user : ℕ) (e : user ≡ userByte s) (q : rights' ≡ rightsOn (policyOf (take (length s - 8) (drop 8 s))) (user - 1) (records t) ++ more) where
-  pub rights-held : rights' ≡ rightsIn s t ++ more
-  rights-held =
+-- what the asked rights of the user are, and give
+module _ (s t rights' more : List ℕ) (user asked : ℕ) (e : user ≡ userByte s) (q : rights' ≡ askedOn asked (policyOf (take (length s - 8) (drop 8 s))) (user - 1) (records t) ++ more) where
+  pub asked-held : rights' ≡ askedOn asked (policyIn s) (userOf s) (records t) ++ more
+  asked-held =
       q
-      ∙ ap (λ p. rightsOn (policyOf p) (user - 1) (records t) ++ more) (rest-of s 8)
-      ∙ ap (λ n. rightsOn (policyIn s) (n - 1) (records t) ++ more) e
+      ∙ ap (λ p. askedOn asked (policyOf p) (user - 1) (records t) ++ more) (rest-of s 8)
+      ∙ ap (λ n. askedOn asked (policyIn s) (n - 1) (records t) ++ more) e
 
-  pub rights-cover : count t ≤ length rights'
-  rights-cover = omega (arith, ap length rights-held, length-append (rightsIn s t) more, rights-length s t)
+  asked-length : length (askedOn asked (policyIn s) (userOf s) (records t)) ≡ count t
+  asked-length = length-map (chains [] (records t)) (λ c. bitAnd (rightsBy (policyIn s) (userOf s) c) asked) ∙ chains-length [] (records t) ∙ records-length t (count t) 0
 
-  pub rights-stored : stored t rights' ≡ storedIn s t
-  rights-stored = stored-in s t more rights' rights-held
+  pub asked-cover : count t ≤ length rights'
+  asked-cover = omega (arith, ap length asked-held, length-append (askedOn asked (policyIn s) (userOf s) (records t)) more, asked-length)
+
+  -- where position and read are asked, the same nodes are shown
+  pub asked-shown : ForView asked → shownNumbers (stored t rights') ≡ shownNumbers (storedIn s t)
+  asked-shown v =
+      ap (λ r. shownNumbers (stored t r)) asked-held
+      ∙ ap shownNumbers (stored-more (records t) (askedOn asked (policyIn s) (userOf s) (records t)) more 0 (asked-length ∙ sym (records-length t (count t) 0)))
+      ∙ shown-asked (rightsBy (policyIn s) (userOf s)) asked (v .reading) (v .seeing) (records t) (chains [] (records t))
+
+-- where all rights are asked, they are the user's rights
+pub all-held : (s t : List ℕ) → storeOk s t ≡ true → (rights' more : List ℕ) → rights' ≡ askedOn 31 (policyIn s) (userOf s) (records t) ++ more → rights' ≡ rightsIn s t ++ more
+all-held s t ok rights' more e = e ∙ ap (λ r. r ++ more) (asked-all (policyBytes s) (userOf s) (rule-bit (policyBytes s) (store-held s t ok .policy)) (chains [] (records t)))
 
 -- the numbers of the shown nodes, as the part of an area that holds them
 module _ (s t : List ℕ) (ok : storeOk s t ≡ true) (shown' more : List ℕ) (k : ℕ) (e : k ≡ length (shownNumbers (storedIn s t))) (q : shown' ≡ shownNumbers (storedIn s t) ++ more) where

@@ -1,14 +1,27 @@
 -- What a change decides before anything changes, in the areas that the caller lends (document 01, "Changes").
 use Prim.Native.Nat.{ℕ}
+use mathlib.Core.Bool.{true}
 use mathlib.Core.Path.{_≡_}
 use mathlib.Core.List.{List, _++_, map}
 use lib.ListN.{drop}
 use Rattle.rights.specs.Automaton.{bit}
-use Rattle.rights.specs.Table.{count}
+use Rattle.rights.specs.Policy.{position, read}
+use Rattle.rights.specs.Rights.{holds, askedOn}
+use Rattle.rights.specs.Table.{count, records}
 use Rattle.views.specs.Marks.{marksOf, markCount}
 use Rattle.views.specs.declared.done.Change.{Change}
+use Rattle.lines.specs.State.{policyIn, userOf}
 use Rattle.lines.specs.Step.{rightsIn, marksIn}
 use Rattle.lines.specs.StepTree.{selectedIn, doneIn}
+
+-- a set of rights with the two that decide what is shown
+pub record ForView (asked : ℕ) : Type 0 where
+  pub reading : holds read asked ≡ true
+  pub seeing : holds position asked ≡ true
+
+-- the asked rights of the user on each record; the rest of the area is as it was
+abbrev pub AskedHeld : ℕ → List ℕ → List ℕ → List ℕ → List ℕ → Type 0
+AskedHeld asked s t rights rights' = rights' ≡ askedOn asked (policyIn s) (userOf s) (records t) ++ drop (count t) rights
 
 -- the user's rights on each record; the rest of the area is as it was
 abbrev pub RightsHeld : List ℕ → List ℕ → List ℕ → List ℕ → Type 0

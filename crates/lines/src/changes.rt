@@ -6,6 +6,7 @@ use crate::tree_lines::tree_restricted;
 use crate::tree_lines::turned_down;
 use answers::answer::answer_done;
 use rights::labels::is_restricted;
+use rights::limits::ALL_RIGHTS;
 use rights::limits::RECORDS_MAX;
 use rights::path::Read;
 use rights::path::check_path;
@@ -50,7 +51,15 @@ fn mark_selected(
 {
     let mut shown = [0u16; RECORDS_MAX];
     let mut marks = [0u8; RECORDS_MAX];
-    let k = select_user(state, table, path, rights, &mut shown, &mut marks);
+    let k = select_user(
+        state,
+        table,
+        path,
+        ALL_RIGHTS,
+        rights,
+        &mut shown,
+        &mut marks,
+    );
     let n = count_of(table);
     mark_records(&shown, k, &marks[0..k], n, selected);
     count_marks(&marks, k)

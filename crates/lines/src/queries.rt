@@ -6,9 +6,10 @@ use answers::answer::answer_query;
 use answers::answer::answer_view;
 use rights::bytes::wide;
 use rights::limits::RECORDS_MAX;
+use rights::limits::VIEW_RIGHTS;
 use rights::path::Read;
 use rights::path::check_path;
-use rights::rights::rights_on;
+use rights::rights::asked_on;
 use rights::selection::select;
 use views::shown::show;
 ghost use mathlib.Core.Path.{_≡_};
@@ -19,7 +20,7 @@ ghost use lib.ListN.{length, drop};
 ghost use Rattle.rights.specs.PathReader.{pathOf};
 ghost use Rattle.views.specs.Shown.{shownNumbers};
 ghost use Rattle.answers.specs.AnswerChoice.{chosen};
-ghost use Rattle.lines.specs.ChangeRoom.{RightsHeld};
+ghost use Rattle.lines.specs.ChangeRoom.{AskedHeld, ForView};
 ghost use Rattle.lines.specs.State.{userByte, storeOk};
 ghost use Rattle.lines.specs.Step.{Made, fitted, noUser, notPath, storedIn, marksIn, stepView, stepQuery, stepFind, Chosen};
 
@@ -33,13 +34,13 @@ fn finished(need: usize, room: usize) -> Answer
     Answer::Accepted(need)
 }
 
-// Writes the user's rights on each node and the numbers of the nodes that the user is shown, and returns how many they are.
-fn show_user(state: &[u8], table: &[u8], rights: &mut [u8], shown: &mut [u16]) -> usize
-    requires { ⌜ (storeOk (now state) (now table) ≡ true) × (noUser (now state) ≡ false) × (length (now rights) ≡ 16384) × (length (now shown) ≡ 16384) ⌝ }
-    ensures { λ r. ⌜ (r ≡ length (shownNumbers (storedIn (now (state .entry)) (now (table .entry))))) × (now (shown .exit) ≡ shownNumbers (storedIn (now (state .entry)) (now (table .entry))) ++ drop r (now (shown .entry))) × RightsHeld (now (state .entry)) (now (table .entry)) (now (rights .entry)) (now (rights .exit)) ⌝ }
+// Writes the asked rights of the user on each node, position and read among them, and the numbers of the nodes that the user is shown, and returns how many they are.
+fn show_user(state: &[u8], table: &[u8], asked: u8, rights: &mut [u8], shown: &mut [u16]) -> usize
+    requires { ⌜ (storeOk (now state) (now table) ≡ true) × (noUser (now state) ≡ false) × ForView asked × (length (now rights) ≡ 16384) × (length (now shown) ≡ 16384) ⌝ }
+    ensures { λ r. ⌜ (r ≡ length (shownNumbers (storedIn (now (state .entry)) (now (table .entry))))) × (now (shown .exit) ≡ shownNumbers (storedIn (now (state .entry)) (now (table .entry))) ++ drop r (now (shown .entry))) × AskedHeld asked (now (state .entry)) (now (table .entry)) (now (rights .entry)) (now (rights .exit)) ⌝ }
 {
     let user = wide(state[1]) - 1;
-    rights_on(&state[POLICY_AT..], user, table, rights);
+    asked_on(&state[POLICY_AT..], user, table, asked, rights);
     show(table, &rights[..], shown)
 }
 
@@ -50,7 +51,7 @@ fn view_user(state: &[u8], table: &[u8], area: &mut [u8]) -> Answer
 {
     let mut rights = [0u8; RECORDS_MAX];
     let mut shown = [0u16; RECORDS_MAX];
-    let k = show_user(state, table, &mut rights, &mut shown);
+    let k = show_user(state, table, VIEW_RIGHTS, &mut rights, &mut shown);
     let need = answer_view(table, &shown[0..k], area);
     finished(need, area.len())
 }
@@ -66,20 +67,21 @@ pub fn view(state: &[u8], table: &[u8], area: &mut [u8]) -> Answer
     view_user(state, table, area)
 }
 
-// Writes the user's rights on each node, the numbers of the nodes that the user is shown and the marks of those that a path selects, and returns how many
-// are shown.
+// Writes the asked rights of the user on each node, the numbers of the nodes that the user is shown and the marks of those that a path selects, and returns
+// how many are shown.
 pub fn select_user(
     state: &[u8],
     table: &[u8],
     path: &[u8],
+    asked: u8,
     rights: &mut [u8],
     shown: &mut [u16],
     marks: &mut [u8],
 ) -> usize
-    requires { ⌜ (storeOk (now state) (now table) ≡ true) × (noUser (now state) ≡ false) × (notPath (pathOf (now path)) ≡ false) × (length (now rights) ≡ 16384) × (length (now shown) ≡ 16384) × (length (now marks) ≡ 16384) ⌝ }
-    ensures { λ r. ⌜ (Chosen (now (state .entry)) (now (table .entry)) (now (path .entry)) (now (shown .entry)) (now (marks .entry)) r (now (shown .exit)) (now (marks .exit))) × RightsHeld (now (state .entry)) (now (table .entry)) (now (rights .entry)) (now (rights .exit)) ⌝ }
+    requires { ⌜ (storeOk (now state) (now table) ≡ true) × (noUser (now state) ≡ false) × (notPath (pathOf (now path)) ≡ false) × ForView asked × (length (now rights) ≡ 16384) × (length (now shown) ≡ 16384) × (length (now marks) ≡ 16384) ⌝ }
+    ensures { λ r. ⌜ (Chosen (now (state .entry)) (now (table .entry)) (now (path .entry)) (now (shown .entry)) (now (marks .entry)) r (now (shown .exit)) (now (marks .exit))) × AskedHeld asked (now (state .entry)) (now (table .entry)) (now (rights .entry)) (now (rights .exit)) ⌝ }
 {
-    let k = show_user(state, table, rights, shown);
+    let k = show_user(state, table, asked, rights, shown);
     let user = wide(state[1]) - 1;
     select(&state[POLICY_AT..], user, table, &shown[0..k], path, marks);
     k
@@ -93,7 +95,15 @@ fn query_user(state: &[u8], table: &[u8], path: &[u8], area: &mut [u8]) -> Answe
     let mut rights = [0u8; RECORDS_MAX];
     let mut shown = [0u16; RECORDS_MAX];
     let mut marks = [0u8; RECORDS_MAX];
-    let k = select_user(state, table, path, &mut rights, &mut shown, &mut marks);
+    let k = select_user(
+        state,
+        table,
+        path,
+        VIEW_RIGHTS,
+        &mut rights,
+        &mut shown,
+        &mut marks,
+    );
     let need = answer_query(table, &shown[0..k], &marks[0..k], area);
     finished(need, area.len())
 }
@@ -120,7 +130,15 @@ fn find_user(state: &[u8], table: &[u8], path: &[u8], area: &mut [u8]) -> Answer
     let mut rights = [0u8; RECORDS_MAX];
     let mut shown = [0u16; RECORDS_MAX];
     let mut marks = [0u8; RECORDS_MAX];
-    let k = select_user(state, table, path, &mut rights, &mut shown, &mut marks);
+    let k = select_user(
+        state,
+        table,
+        path,
+        VIEW_RIGHTS,
+        &mut rights,
+        &mut shown,
+        &mut marks,
+    );
     let need = answer_find(table, &shown[0..k], &marks[0..k], area);
     finished(need, area.len())
 }

@@ -3,7 +3,7 @@ use lib.ListN.{replicate}
 use native.Mathlib.Omega.{arith}
 use Rattle.lines.proofs.StateLaws.{store-held}
 use Rattle.rights.proofs.Facts.{table-long, table-few}
-use Rattle.lines.proofs.StepLaws.{shown-long, marks-long-enough}
+use Rattle.lines.proofs.StepLaws.{shown-long, marks-long-enough, all-held}
 use Rattle.lines.proofs.ChangeLaws.{selected-count, selected-records}
 use borrow.Author.Needs.{needs}
 use Rattle.lines.proofs.changes.mark_selected.Statement.{statement}
@@ -16,7 +16,7 @@ slice-aggregate-select-user-2 : tie.Need-slice-aggregate-select-user-2
 slice-aggregate-select-user-2 c = search needs
 
 select-user-requires : tie.Need-select-user-requires
-select-user-requires c κs = let g = c .before .before .before .before .before .before .before .before .pre in (g .0, g .1, g .2, g .3, refl {a = 16384}, refl {a = 16384})
+select-user-requires c κs = let g = c .before .before .before .before .before .before .before .before .pre in (g .0, g .1, g .2, record { reading = refl; seeing = refl }, g .3, refl {a = 16384}, refl {a = 16384})
 
 count-of-requires : tie.Need-count-of-requires
 count-of-requires c κs = table-long _ (store-held _ _ (c .before .before .before .before .before .before .before .before .before .before .before .before .before .pre .0) .table)
@@ -65,7 +65,7 @@ returns c = let g = c .before .before .before .before .before .before .before .b
     let t = a .table .now in
     record {
       size = selected-count s t (a .path .now) (g .0) (replicate 16384 0) (replicate 16384 0) _ _ _ (r .0) _ (c .count-marks .ensures .0);
-      held = r .1;
+      held = all-held s t (g .0) _ _ (r .1);
       picked = selected-records s t (a .path .now) (g .0) (replicate 16384 0) (replicate 16384 0) _ _ _ (r .0) (a .selected .now) _ _ (c .before .before .before .before .before .before .before .before .before .count-of .ensures) (c .before .before .before .before .mark-records .ensures);
     }
 

@@ -17,7 +17,7 @@ slice-aggregate-select-user-3 : tie.Need-slice-aggregate-select-user-3
 slice-aggregate-select-user-3 c = search needs
 
 select-user-requires : tie.Need-select-user-requires
-select-user-requires c κs = let g = c .before .before .before .before .before .before .before .pre in (g .0, g .1, g .2, refl {a = 16384}, refl {a = 16384}, refl {a = 16384})
+select-user-requires c κs = let g = c .before .before .before .before .before .before .before .pre in (g .0, g .1, g .2, record { reading = refl; seeing = refl }, refl {a = 16384}, refl {a = 16384}, refl {a = 16384})
 
 sub-answer-query : tie.Need-sub-answer-query
 sub-answer-query c = search needs

@@ -45,7 +45,7 @@ select-requires c κs = let g = c .before .before .before .before .before .befor
     let a = c .before .before .before .before .before .before .before .before .before .before .before .before .before .before .before .before .before .before .before .args in
     let r = c .before .before .before .before .before .before .before .before .before .before .show-user .ensures in
     let f = shown-fits (a .state .now) (a .table .now) (g .0) _ _ _ (r .0) (r .1) in
-    (subject-asks (a .state .now) (a .table .now) (g .0) (g .1) _ (c .before .before .before .before .wide .ensures), f, omega (arith, f .few, g .5))
+    (subject-asks (a .state .now) (a .table .now) (g .0) (g .1) _ (c .before .before .before .before .wide .ensures), f, omega (arith, f .few, g .6))
 
 same-length : tie.Need-same-length
 same-length c = search needs

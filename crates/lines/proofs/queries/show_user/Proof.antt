@@ -2,14 +2,14 @@ use Rattle.rights.specs.Table.{count}
 use mathlib.Core.List.{_++_}
 use lib.ListN.{drop}
 use Rattle.views.specs.Shown.{shownNumbers}
-use Rattle.lines.proofs.StepLaws.{rights-cover, rights-stored, rights-held}
+use Rattle.lines.proofs.StepLaws.{asked-cover, asked-shown, asked-held}
 use mathlib.Core.Path.{_≡_, sym, ap, _∙_}
 use native.Mathlib.Omega.{arith}
 use lib.ListN.{length}
 use Rattle.rights.proofs.Facts.{table-few}
 use Rattle.rights.proofs.Lists.{rest-of}
 use Rattle.lines.proofs.StateLaws.{store-held}
-use Rattle.lines.proofs.StepLaws.{user-some, rights-asks, stored-in}
+use Rattle.lines.proofs.StepLaws.{user-some, rights-asks}
 use borrow.Author.Needs.{needs}
 use Rattle.lines.proofs.queries.show_user.Statement.{statement}
 use Rattle.lines.proofs.queries.show_user.Tie as tie
@@ -23,23 +23,23 @@ wide-requires c κs = search needs
 sub-user : tie.Need-sub-user
 sub-user c = let g = c .before .before .before .before .before .before .pre in omega (arith, c .wide .ensures, user-some _ _ (g .0) (g .1))
 
-sub-rights-on : tie.Need-sub-rights-on
-sub-rights-on c = let g = c .before .before .before .before .before .before .pre in omega (arith, store-held _ _ (g .0) .size)
+sub-asked-on : tie.Need-sub-asked-on
+sub-asked-on c = let g = c .before .before .before .before .before .before .pre in omega (arith, store-held _ _ (g .0) .size)
 
-part-rights-on-start : tie.Need-part-rights-on-start
-part-rights-on-start c = let g = c .before .before .before .before .before .before .pre in omega (arith, store-held _ _ (g .0) .size)
+part-asked-on-start : tie.Need-part-asked-on-start
+part-asked-on-start c = let g = c .before .before .before .before .before .before .pre in omega (arith, store-held _ _ (g .0) .size)
 
-part-rights-on-end : tie.Need-part-rights-on-end
-part-rights-on-end c = search needs
+part-asked-on-end : tie.Need-part-asked-on-end
+part-asked-on-end c = search needs
 
-rights-on-requires : tie.Need-rights-on-requires
-rights-on-requires c κs = let g = c .before .before .before .before .before .before .before .before .pre in rights-asks _ _ (g .0) (g .1) _ _ (c .before .before .wide .ensures) (g .2)
+asked-on-requires : tie.Need-asked-on-requires
+asked-on-requires c κs = let g = c .before .before .before .before .before .before .before .before .pre in rights-asks _ _ (g .0) (g .1) _ _ (c .before .before .wide .ensures) (g .3)
 
 show-requires : tie.Need-show-requires
 show-requires c κs = let g = c .before .before .before .before .before .before .before .before .before .before .before .before .before .pre in
     let a = c .before .before .before .before .before .before .before .before .before .before .before .before .before .args in
     let h = store-held _ _ (g .0) in
-    (h .table, rights-cover (a .state .now) (a .table .now) _ (drop (count (a .table .now)) (a .rights .now)) _ (c .before .before .before .before .before .before .before .wide .ensures) (c .before .before .before .before .rights-on .ensures), omega (arith, table-few _ (h .table), g .3))
+    (h .table, asked-cover (a .state .now) (a .table .now) _ (drop (count (a .table .now)) (a .rights .now)) _ (a .asked) (c .before .before .before .before .before .before .before .wide .ensures) (c .before .before .before .before .asked-on .ensures), omega (arith, table-few _ (h .table), g .4))
 
 same-length : tie.Need-same-length
 same-length c = search needs
@@ -50,9 +50,10 @@ same-length-2 c = search needs
 returns : tie.Need-returns
 returns c = let r = c .before .before .show .ensures in
     let a = c .before .before .before .before .before .before .before .before .before .before .before .before .before .before .before .before .args in
-    let e = rights-stored (a .state .now) (a .table .now) _ (drop (count (a .table .now)) (a .rights .now)) _ (c .before .before .before .before .before .before .before .before .before .before .wide .ensures) (c .before .before .before .before .before .before .before .rights-on .ensures) in
-    let q = rights-held (a .state .now) (a .table .now) _ (drop (count (a .table .now)) (a .rights .now)) _ (c .before .before .before .before .before .before .before .before .before .before .wide .ensures) (c .before .before .before .before .before .before .before .rights-on .ensures) in
-    (rw e at (r .0), rw e at (r .1), q)
+    let g = c .before .before .before .before .before .before .before .before .before .before .before .before .before .before .before .before .pre in
+    let more = drop (count (a .table .now)) (a .rights .now) in
+    let e = asked-shown (a .state .now) (a .table .now) _ more _ (a .asked) (c .before .before .before .before .before .before .before .before .before .before .wide .ensures) (c .before .before .before .before .before .before .before .asked-on .ensures) (g .2) in
+    (rw e at (r .0), rw e at (r .1), asked-held (a .state .now) (a .table .now) _ more _ (a .asked) (c .before .before .before .before .before .before .before .before .before .before .wide .ensures) (c .before .before .before .before .before .before .before .asked-on .ensures))
 
 pub show-user-spec : {M : Type 1} → statement M
 show-user-spec =
@@ -61,10 +62,10 @@ show-user-spec =
     shared-slice-read-wide
     wide-requires
     sub-user
-    sub-rights-on
-    part-rights-on-start
-    part-rights-on-end
-    rights-on-requires
+    sub-asked-on
+    part-asked-on-start
+    part-asked-on-end
+    asked-on-requires
     show-requires
     same-length
     same-length-2

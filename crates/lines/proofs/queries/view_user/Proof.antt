@@ -14,7 +14,7 @@ slice-aggregate-show-user-2 : tie.Need-slice-aggregate-show-user-2
 slice-aggregate-show-user-2 c = search needs
 
 show-user-requires : tie.Need-show-user-requires
-show-user-requires c κs = let g = c .before .before .before .before .before .pre in (g .0, g .1, refl {a = 16384}, refl {a = 16384})
+show-user-requires c κs = let g = c .before .before .before .before .before .pre in (g .0, g .1, record { reading = refl; seeing = refl }, refl {a = 16384}, refl {a = 16384})
 
 sub-answer-view : tie.Need-sub-answer-view
 sub-answer-view c = search needs
