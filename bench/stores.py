@@ -136,23 +136,26 @@ def fill(k, path):
 # 3 of 7 rules are of read
 RIGHTS_IN_TURN = ["read", "position", "update", "read", "insert", "read", "delete"]
 MIXED_PATHS = [
-    "//*", "/school//lesson", "//DAY//room", "/school/week/DAY/*", "//room/ROOM", "//lesson/*//*", "//class/CLASS", "/school/week/DAY/PERIOD/lesson/note",
+    "/school//note", "/school//lesson", "//DAY//room", "/school/week/DAY/*", "//room/ROOM", "//lesson/*//*", "//class/CLASS", "/school/week/DAY/PERIOD/lesson/note",
     "//teacher/TEACHER", "//PERIOD//class/CLASS", "/school//DAY//teacher/*", "//lesson/note/*", "//PERIOD/*", "//PERIOD//room", "//lesson", "//note/NOTE",
 ]
-LABEL_PATHS = [path for path in MIXED_PATHS if path not in ("//*", "//lesson", "//lesson/*//*")]
+LABEL_PATHS = [path for path in MIXED_PATHS if path not in ("//lesson", "//lesson/*//*")]
 OWN_PATHS = [
     "//$", "//$//*", "//class/$/*", "/school//$/note", "//teacher/$", "//room/ROOM", "//lesson/*/$", "/school/week/*/*/$", "//$/*/*", "//note/NOTE", "//lesson//$",
     "//DAY//$/note", "//class/CLASS",
 ]
 
 
-def in_turn(paths, deny, first, last):
-    """128 rules: the paths and rights in turn, each `deny`-th a denial, between the first and the last ones."""
-    rules = [("deny" if k % deny == 0 else "accept", RIGHTS_IN_TURN[k % 7], fill(k, paths[k % len(paths)])) for k in range(RULES_MAX)]
+def in_turn(paths, deny, first, last=(), denied=tuple(RIGHTS)):
+    """128 rules: the paths and rights in turn, each `deny`-th a denial if its right may be denied, between the first and the last ones."""
+    turns = [(RIGHTS_IN_TURN[k % 7], fill(k, paths[k % len(paths)])) for k in range(RULES_MAX)]
+    rules = [("deny" if k % deny == 0 and right in denied else "accept", right, path) for k, (right, path) in enumerate(turns)]
     return [*first, *rules[len(first) : RULES_MAX - len(last)], *last]
 
 
 READ_ALL, POSITION_ALL = ("accept", "read", "//*"), ("accept", "position", "//*")
+# what holds for all nodes comes first and the exceptions behind it, as in document 01's example
+GENERAL = [READ_ALL, POSITION_ALL]
 # the nodes that hold the others are read, notes are hidden but where a rule grants their place, rooms are RESTRICTED
 FRAME = [("accept", "read", path) for path in ("/school", "/school/*", "/school/*/*", "/school/*/*/*", "//lesson", "//lesson/*")]
 DENIALS = [*FRAME, ("deny", "read", "//note/*"), ("deny", "read", "//room/*"), ("accept", "position", "//room/*")]
@@ -162,9 +165,9 @@ POLICIES = [
     (name, (state(READERS, policy), table(school())))
     for name, policy in (
         ("(a) all `//*`", accepts(["//*"])),
-        (MIXED, in_turn(MIXED_PATHS, 5, [READ_ALL], [POSITION_ALL])),
+        (MIXED, in_turn(MIXED_PATHS, 5, GENERAL, denied=("read", "insert", "update", "delete"))),
         ("(c) accepts and denies in turn", in_turn(LABEL_PATHS, 2, [READ_ALL], DENIALS)),
-        ("(d) paths with `$`", in_turn(OWN_PATHS, 5, [READ_ALL], [POSITION_ALL])),
+        ("(d) paths with `$`", in_turn(OWN_PATHS, 5, GENERAL)),
     )
 ]
 

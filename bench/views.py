@@ -15,8 +15,8 @@ HEAD = f"""
 Document 02, card 12: 16,384 nodes, 64 subjects, 128 isa lines and 128 rules, all applying to the reader. Rust is here the version written for the purpose,
 docs/src/plain_view.rs: it makes 13's check on the lent bytes, then passes once over the records and tries the rules of read and position from the last to the
 first, each at most once on a node, until both are decided. Medians of {VIEWS} views (and quartiles), turn by turn in one process, and millions of instructions of
-one. The tree of (a) to (d) is a school's week on levels 0 to 7 with some 300 labels. (b) has some 330 steps and ends with `accept position //*`; (c) shows rooms as
-RESTRICTED and hides most notes; in (d) the reader's name is the label of a teacher, a class or a place in every period. (e) is the worst of the list below. At most
+one. The tree of (a) to (d) is a school's week on levels 0 to 7 with some 300 labels. (b) has some 330 steps: what holds for all nodes comes first and the exceptions
+behind it, as in document 01's example, and position is never denied; (c) shows rooms as RESTRICTED and hides most notes; in (d) the reader's name is the label of a teacher, a class or a place in every period. (e) is the worst of the list below. At most
 {RATIO_BOUND:.1f} times the instructions of Rust are allowed for (a) to (d).
 
 | policy | Rattle ms | Rust ms | ratio | Rattle instr. | Rust instr. | ratio |
