@@ -1,30 +1,32 @@
 -- Rules side by side: each moves as it does alone, so that its last bit says whether its path finds the node; and of the rules that do, the last one
 -- has the highest bit. Assumes nothing.
 use Prim.Native.Nat.{ℕ, suc, zero, _+_, _*_, _-_, _/_, _%_, _^_, _≤_, _<_}
-use mathlib.Core.Bool.{Bool, true, false, _&&_, _||_, not, cond, and-false, or-false}
+use mathlib.Core.Bool.{Bool, true, false, _&&_, _||_, not, cond, and-false, or-false, or-true}
 use mathlib.Core.Logic.{_⊎_, ⊎-elim}
 use mathlib.Core.Path.{_≡_, refl, sym, ap, ap₂, _∙_, subst}
 use mathlib.Core.List.{List, [], _∷_, _++_, append-assoc, append-nil}
-use native.Mathlib.Nat.{mod-eq-of-lt, mod-lt, add-zero, eq-or-lt-of-le, le-of-suc-le-suc, one-mul}
+use native.Mathlib.Nat.{mod-eq-of-lt, mod-lt, add-zero, eq-or-lt-of-le, le-of-suc-le-suc, lt-of-le-of-lt, one-mul}
+use native.Mathlib.Numerals.{add-one}
 use native.Mathlib.Omega.{arith}
-use borrow.Author.Tests.{lt-ltb, le-ltb, ltb-true, ltb-false}
-use lib.Bits.{bitAnd, bitOr, and-block, or-shifted-r, and-mask, and-zero-r, and-le-r, or-lt}
+use borrow.Author.Tests.{lt-ltb, le-ltb, ltb-true, ltb-false, ne-eqb}
+use lib.Bits.{bitAnd, bitOr, and-block, or-shifted-r, and-mask, and-zero-r, and-le-l, and-le-r, or-lt}
 use lib.Dec.{lit<, eqb, ltb, eqb·suc-suc, eqb·zero-suc, eqb·suc-zero}
 use lib.Pow.{pow-mono, pow-lt, split}
-use lib.ListN.{length, getD, replicate, length-append, length-replicate, getD-replicate, List·getD-eq-default, List·getD-append}
+use lib.ListN.{length, take, getD, replicate, length-append, length-replicate, getD-replicate, List·getD-eq-default, List·getD-append}
 use lib.Seq.{getD-append-add}
 use Rattle.rights.specs.Policy.{passesOwn, Right, position, read, insert, update, delete, bitOf}
-use Rattle.rights.specs.Rights.{Step, finds, withRule}
-use Rattle.rights.specs.Automaton.{value, meet, deeps, passedBy, moved, states, rulePath}
-use Rattle.rights.specs.Groups.{has, Lane, laneAt, never, cat, stepsOf, firstOf, laid, firsts, endAt, Agrees, ruled, settled, Packed, Grouped}
+use Rattle.rights.specs.Rights.{Step, stepFor, finds, withRule}
+use Rattle.rights.specs.Automaton.{value, meet, deeps, passedBy, moved, states, stepsFor, rulePath, chainTo, chainOf}
+use Rattle.rights.specs.Groups.{has, Lane, laneAt, never, cat, stepsOf, firstOf, laid, firsts, endAt, Agrees, ruled, settled, Packed, Grouped, General}
 use Rattle.rights.specs.PolicyCheck.{bitOk}
-use Rattle.rights.specs.PolicyBytes.{policyOf, accepts, stepCount, stepsAt}
+use Rattle.rights.specs.PolicyBytes.{policyOf, accepts, stepCount, stepsAt, stepOf}
 use Rattle.rights.proofs.RightsLaws.{right-of}
 use Rattle.rights.proofs.Lists.{byCase}
 use Rattle.rights.proofs.Lanes.{bit-test, length-steps, length-passedBy}
 use Rattle.rights.proofs.Chains.{found}
 use Rattle.rights.proofs.BitLaws.{get-meet, get-join, has-and, has-or, has-one, has-ext, has-value, has-clear}
-use Rattle.rights.proofs.PackedLaws.{or-none, deeps-more, passed-more, deeps-length, packed-none, packed-end}
+use Rattle.rights.specs.Table.{recAt, recordAt, level, label}
+use Rattle.rights.proofs.PackedLaws.{step-deep, step-every, or-none, deeps-more, passed-more, deeps-length, packed-none, packed-end}
 
 -- How a set of states moves, state by state
 
@@ -450,3 +452,68 @@ module _ (number : List ℕ → ℕ) (p : List ℕ) (u : ℕ) (roles : List ℕ)
 pub not-not : (b : Bool) → not (not b) ≡ b
 not-not true = refl
 not-not false = refl
+
+-- Rules for all nodes
+
+module _ (b : ℕ) (fair : bitOk b ≡ true) where
+  low : (d : Right) → bitOf d < 256
+  low position = lit< tt
+  low read = lit< tt
+  low insert = lit< tt
+  low update = lit< tt
+  low delete = lit< tt
+
+  rule-low : (x : ℕ) (a : Bool) → x < 256 → withRule x b a < 256
+  rule-low x true h = let d = right-of b fair in rw (d .1) (or-lt 8 x (bitOf (d .0)) h (low (d .0)))
+  rule-low x false h = lt-of-le-of-lt (and-le-l x _) h
+
+  rule-over : (x : ℕ) (a e : Bool) → x < 256 → withRule (withRule x b a) b e ≡ withRule x b e
+  rule-over x a e h = let d = right-of b fair in rw (d .1) (ruled-over x h (d .0) a e)
+
+  module _ (q : ℕ → Lane) (c : List (List ℕ)) (x : ℕ) (h : x < 256) (e : Bool) where
+    -- the set stays one, and what the rules of a right did before one of them does not matter
+    ruled-last : (i n : ℕ) → (ruled q b c i n x < 256) × (withRule (ruled q b c i n x) b e ≡ withRule x b e)
+    unfolding ruled
+    ruled-last i zero = (h, refl)
+    ruled-last i (suc n) = go (q (i + n) .on) (finds (q (i + n) .path) c) (ruled q b c i n x) (ruled-last i n)
+      where
+        go : (o f : Bool) (y : ℕ) → (y < 256) × (withRule y b e ≡ withRule x b e)
+            → (cond o (cond f (withRule y b (q (i + n) .accept)) y) y < 256) × (withRule (cond o (cond f (withRule y b (q (i + n) .accept)) y) y) b e ≡ withRule x b e)
+        go true true y w = (rule-low y (q (i + n) .accept) (w .0), rule-over y (q (i + n) .accept) e (w .0) ∙ w .1)
+        go true false y w = w
+        go false f y w = w
+
+  -- a rule for all nodes decides alone over those before it
+  pub general-decides : (q : ℕ → Lane) (c : List (List ℕ)) (w : List ℕ) (k x : ℕ) → x < 256 → General (q k) → withRule x b (q k .accept) ≡ ruled q b (c ++ (w ∷ [])) 0 (k + 1) x
+  unfolding ruled
+  general-decides q c w k x h g =
+      let z : 0 + k ≡ k = omega arith in
+      rw (add-one k, z, g .counts, g .all c w) (sym (ruled-last q (c ++ (w ∷ [])) x h (q k .accept) 0 k .1))
+
+  pub general-at : (q : ℕ → Lane) (t : List ℕ) (i k x : ℕ) → x < 256 → 0 < k → General (q (k - 1)) → withRule x b (q (k - 1) .accept) ≡ ruled q b (chainOf t i) 0 k x
+  unfolding chainTo
+  general-at q t i k x h pos g =
+      let z : k - 1 + 1 ≡ k = omega arith in
+      general-decides q (take (level (recordAt t i)) (chainTo t i)) (label (recordAt t i)) (k - 1) x h g ∙ ap (λ (m : ℕ). ruled q b (take (level (recordAt t i)) (chainTo t i) ++ (label (recordAt t i) ∷ [])) 0 m x) z
+
+-- `//*` finds every node
+pub all-found : (s : Step) → s .deep ≡ true → ((x : List ℕ) → s .passed x ≡ true) → (c : List (List ℕ)) (x : List ℕ) → finds (s ∷ []) (c ++ (x ∷ [])) ≡ true
+unfolding finds
+all-found s d p [] x = rw (p x)
+all-found s d p (y ∷ c) x = rw (d, all-found s d p c x) (or-true (s .passed y && finds [] (c ++ (x ∷ []))))
+
+-- a path of one step, and that of a rule whose only step is `//*`
+one-step : (mine : List ℕ → Bool) (p : List ℕ) (b n : ℕ) → n ≡ 1 → stepsFor mine p b n 0 ≡ stepFor mine (stepOf (recAt p b)) ∷ []
+unfolding stepsFor
+one-step mine p b n e = let z : b + 0 * 32 ≡ b = omega arith in rw (e, z)
+
+pub general-path : (p : List ℕ) (u k : ℕ) → stepCount p k ≡ 1 → (getD p (stepsAt k) 0 ≡ 0 → ⊥) → getD (label (recAt p (stepsAt k))) 0 0 ≡ 42
+    → (c : List (List ℕ)) (x : List ℕ) → finds (rulePath p u k) (c ++ (x ∷ [])) ≡ true
+general-path p u k one far-off any c x =
+    let s = stepFor (passesOwn (policyOf p) u) (stepOf (recAt p (stepsAt k))) in
+    rw (one-step (passesOwn (policyOf p) u) p (stepsAt k) (stepCount p k) one)
+    (all-found s (sym (step-deep p u (stepsAt k) true (rw (ne-eqb _ _ far-off)))) (step-every p u (stepsAt k) any) c x)
+
+pub above-zero : (k : ℕ) → (k ≡ 0 → ⊥) → 0 < k
+above-zero zero h = absurd (h refl)
+above-zero (suc k) h = omega arith

@@ -71,6 +71,11 @@ unfoldable pub ruled : (ℕ → Lane) → ℕ → List (List ℕ) → ℕ → �
 ruled q b c i zero x = x
 ruled q b c i (suc n) x = cond (q (i + n) .on) (tried (q (i + n) .path) c b (q (i + n) .accept) (ruled q b c i n x)) (ruled q b c i n x)
 
+-- a rule that counts and finds every node
+pub record General (l : Lane) : Type 0 where
+  pub counts : l .on ≡ true
+  pub all : (c : List (List ℕ)) (x : List ℕ) → finds (l .path) (c ++ (x ∷ [])) ≡ true
+
 -- all rules of one right, if it is asked, and of the five rights in turn
 abbrev pub byRight : List ℕ → ℕ → List ℕ → List (List ℕ) → ℕ → ℕ → ℕ
 byRight p u roles c b x = ruled (laneAt p u roles b) b c 0 (ruleCount p) x

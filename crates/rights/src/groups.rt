@@ -28,10 +28,10 @@ ghost use Rattle.rights.specs.Policy.{passesOwn};
 ghost use Rattle.rights.specs.Table.{recAt, label};
 ghost use Rattle.rights.specs.PolicyBytes.{policyOf, ruleCount, stepCount, stepOf, nameAt, accepts, axisOf, Text, Subject};
 ghost use Rattle.rights.specs.PolicyCheck.{bitOk};
-ghost use Rattle.rights.specs.Rights.{Step, stepFor};
+ghost use Rattle.rights.specs.Rights.{Step, stepFor, withRule};
 ghost use Rattle.rights.specs.Automaton.{value, moved, stepsFor, rulePath, chainOf, Each, Steps, Sound};
 ghost use Rattle.rights.specs.Vocabulary.{numberIn, Words};
-ghost use Rattle.rights.specs.Groups.{noted, laneAt, laid, ruled, byRight, byFive, settled, Packed, Grouped, Ready, Numbered, Noted};
+ghost use Rattle.rights.specs.Groups.{noted, laneAt, laid, ruled, byRight, byFive, settled, Packed, Grouped, Ready, Numbered, Noted, General};
 
 // The bit at a place.
 fn one_at(j: usize) -> u64
@@ -299,15 +299,25 @@ fn next_states(deep: u64, every: u64, row: u64, m: u64) -> u64
     (m & deep) | ((m & (every | row)) << 1)
 }
 
-// The set after a group: its right's bit is set or cleared by mask, as the last rule that finds the node says. Later rules have higher bits.
+// The set after a rule that applies: its right's bit is set or cleared by mask.
+fn with_right(set: u8, right: u8, accept: bool) -> u8
+    ensures { λ r. ⌜ (r ≡ withRule set right accept) × (set < 256) ⌝ }
+{
+    if accept {
+        return set | right;
+    }
+    set & (255 - right)
+}
+
+// The set after a group, by the last rule that finds the node: later rules have higher bits.
 fn settle(set: u8, right: u8, yes: u64, noes: u64) -> u8
     ensures { λ r. ⌜ (r ≡ settled right yes noes set) × (set < 256) ⌝ }
 {
     if noes < yes {
-        return set | right;
+        return with_right(set, right, true);
     }
     if yes < noes {
-        return set & (255 - right);
+        return with_right(set, right, false);
     }
     set
 }
@@ -352,6 +362,72 @@ fn try_group(
     }
 }
 
+// Whether rule k counts and is for all nodes: its path is `//*`.
+fn is_general(policy: &[u8], u: usize, roles: &[u8; 64], right: u8, k: usize) -> bool
+    requires { ⌜ Sound (now policy) × (k < ruleCount (now policy)) ⌝ }
+    ensures { λ r. ⌜ (r ≡ true → General (laneAt (now (policy .entry)) u (now (roles .entry)) right k)) ⌝ }
+{
+    let a = RULES_AT + k * RULE_BYTES;
+    if policy[a + 3] != 1 {
+        return false;
+    }
+    if policy[a + STEPS_AT] == 0 {
+        return false;
+    }
+    if policy[a + STEPS_AT + LABEL_AT] != b'*' {
+        return false;
+    }
+    counts(policy, u, roles, right, k)
+}
+
+// One past the last rule that is for all nodes, or 0: what the rules before it say of the right is overridden.
+fn general_end(policy: &[u8], u: usize, roles: &[u8; 64], right: u8, count: usize) -> usize
+    requires { ⌜ Sound (now policy) × (count ≡ ruleCount (now policy)) ⌝ }
+    ensures { λ r. ⌜ (r ≤ count) × (0 < r → General (laneAt (now (policy .entry)) u (now (roles .entry)) right (r - 1))) ⌝ }
+{
+    let mut k = count;
+    while 0 < k {
+        if is_general(policy, u, roles, right, k - 1) {
+            return k;
+        }
+        k -= 1;
+    }
+    0
+}
+
+// Sets or clears a right on the first n nodes.
+fn rule_all(right: u8, accept: bool, n: usize, out: &mut [u8])
+    requires { ⌜ n ≤ length (now out) ⌝ }
+    ensures { λ _. ⌜ Each n (now (out .entry)) (now (out .exit)) (λ (i x : ℕ). withRule x right accept) × ((i : ℕ) → i < n → getD (now (out .entry)) i 0 < 256) ⌝ }
+{
+    let mut i = 0;
+    while i < n {
+        out[i] = with_right(out[i], right, accept);
+        i += 1;
+    }
+}
+
+// Tries the rules before rule k, the last of which is for all nodes, on the first n nodes.
+fn try_general(
+    policy: &[u8],
+    u: usize,
+    roles: &[u8; 64],
+    right: u8,
+    k: usize,
+    t: &[u8],
+    n: usize,
+    out: &mut [u8],
+)
+    requires { ⌜ Sound (now policy) × (bitOk right ≡ true) × (k ≤ ruleCount (now policy)) × (0 < k → General (laneAt (now policy) u (now roles) right (k - 1))) × (n ≤ length (now out)) ⌝ }
+    ensures { λ _. ⌜ Each n (now (out .entry)) (now (out .exit)) (λ (i x : ℕ). ruled (laneAt (now (policy .entry)) u (now (roles .entry)) right) right (chainOf (now (t .entry)) i) 0 k x) ⌝ }
+{
+    if k == 0 {
+        return;
+    }
+    let a = RULES_AT + (k - 1) * RULE_BYTES;
+    rule_all(right, policy[a] != 0, n, out);
+}
+
 // Tries all rules of one right on the first n nodes.
 fn try_right(
     policy: &[u8],
@@ -370,7 +446,8 @@ fn try_right(
     ensures { λ _. ⌜ (length (now (rows .exit)) ≡ 2113) × Each n (now (out .entry)) (now (out .exit)) (λ (i x : ℕ). ruled (laneAt (now (policy .entry)) u (now (roles .entry)) right) right (chainOf (now (t .entry)) i) 0 (ruleCount (now (policy .entry))) x) ⌝ }
 {
     let rules = wide(policy[2]);
-    let mut k = 0;
+    let mut k = general_end(policy, u, roles, right, rules);
+    try_general(policy, u, roles, right, k, t, n, out);
     while k < rules {
         let to = group_end(policy, u, roles, right, k, rules);
         try_group(

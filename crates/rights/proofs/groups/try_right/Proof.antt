@@ -1,10 +1,10 @@
-use Rattle.rights.proofs.FiveRights.{ruled-add}
+use Rattle.rights.proofs.FiveRights.{ruled-on, ruled-whole, ruled-zero}
 use Rattle.rights.proofs.Eaches.{each-then, each-alike}
 use Rattle.rights.specs.Groups.{laneAt, ruled}
 use Rattle.rights.specs.Automaton.{chainOf, Each}
 use Rattle.rights.specs.PolicyBytes.{ruleCount}
 use lib.ListN.{length}
-use Prim.Native.Nat.{ℕ, _+_, _-_, _≤_}
+use Prim.Native.Nat.{ℕ, _-_, _≤_}
 use native.Mathlib.Omega.{arith}
 use mathlib.Core.Path.{_≡_, refl, sym, _∙_, ap}
 use Rattle.rights.proofs.groups.try_right.Statement.{statement}
@@ -12,7 +12,7 @@ use Rattle.rights.proofs.groups.try_right.Tie as tie
 
 abbrev Inv-loop : tie.InvT-loop
 Inv-loop policy u words count roles right t n numbers rows₀ out₀ rules k₀ rows out k =
-    (k ≤ rules) × (length rows ≡ 2113) × Each n out₀ out (λ (i x : ℕ). ruled (laneAt policy u roles right) right (chainOf t i) 0 k x)
+    (k₀ ≤ k) × (k ≤ rules) × (length rows ≡ 2113) × Each n out₀ out (λ (i x : ℕ). ruled (laneAt policy u roles right) right (chainOf t i) k₀ (k - k₀) x)
 
 abbrev μ-loop : tie.MeasureT-loop
 μ-loop policy u words count roles right t n numbers rows₀ out₀ rules k₀ rows out k = rules - k
@@ -23,51 +23,74 @@ shared-slice-read-wide c = omega (arith, c .before .before .before .before .befo
 wide-requires : tie.Need-wide-requires Inv-loop μ-loop
 wide-requires c κs = tt
 
+general-end-requires : tie.Need-general-end-requires Inv-loop μ-loop
+general-end-requires c κs = (c .before .before .before .before .before .before .before .before .pre .0 .sound, c .wide .ensures)
+
+try-general-requires : tie.Need-try-general-requires Inv-loop μ-loop
+try-general-requires c κs =
+    let g = c .before .before .before .before .before .before .before .before .before .before .pre in
+    let e = c .before .general-end .ensures in
+    (g .0 .sound, g .1, omega (arith, e .0, c .before .before .wide .ensures), e .1, g .4)
+
 loop-holds : tie.Need-loop-holds Inv-loop μ-loop
-loop-holds c = (omega arith, c .before .before .before .before .before .before .before .before .pre .2, unfold ruled in record { long = refl; at = λ i h. refl; rest = refl })
+loop-holds c =
+    let a = c .before .before .before .before .before .before .before .before .before .before .before .before .before .args in
+    let q = laneAt (a .policy .now) (a .u) (a .roles .now) (a .right) in
+    let k = c .before .before .before .before .general-end .result in
+    (omega arith, c .before .before .before .before .general-end .ensures .0, c .before .before .before .before .before .before .before .before .before .before .before .before .before .pre .2, record { long = refl; at = λ i h. ruled-zero q (a .right) (chainOf (a .t .now) i) k (k - k) _ (omega arith); rest = refl })
 
 group-end-requires : tie.Need-group-end-requires Inv-loop μ-loop
-group-end-requires c κs = (c .before .before .before .before .before .before .before .before .before .before .pre .0 .sound, c .before .before .wide .ensures, omega arith)
+group-end-requires c κs = (c .before .before .before .before .before .before .before .before .before .before .before .before .before .before .before .pre .0 .sound, c .before .before .before .before .before .before .before .wide .ensures, omega arith)
 
 try-group-requires : tie.Need-try-group-requires Inv-loop μ-loop
 try-group-requires c κs =
-    let g = c .before .before .before .before .before .before .before .before .before .before .before .before .before .pre in
+    let g = c .before .before .before .before .before .before .before .before .before .before .before .before .before .before .before .before .before .before .pre in
     let l = c .before .before .before .before .loop in
     let e = c .before .before .group-end .ensures in
-    (g .0, omega (arith, e .0), omega (arith, e .1, c .before .before .before .before .before .wide .ensures), g .1, e .2, l .inv .1, g .3, omega (arith, l .inv .2 .long, g .4))
+    (g .0, omega (arith, e .0), omega (arith, e .1, c .before .before .before .before .before .before .before .before .before .before .wide .ensures), g .1, e .2, l .inv .2, g .3, omega (arith, l .inv .3 .long, c .before .before .before .before .before .before .before .try-general .ensures .long, g .4))
 
 loop-less : tie.Need-loop-less Inv-loop μ-loop
 loop-less c = omega (arith, c .before .before .before .before .before .before .before .group-end .ensures .0, c .before .before .before .before .before .before .before .group-end .ensures .1)
 
 loop-again : tie.Need-loop-again Inv-loop μ-loop
 loop-again c =
-    let a = c .before .before .before .before .before .before .before .before .before .before .before .before .before .before .before .before .before .before .args in
+    let a = c .before .before .before .before .before .before .before .before .before .before .before .before .before .before .before .before .before .before .before .before .before .before .before .args in
     let l = c .before .before .before .before .before .before .before .before .before .loop in
+    let from = c .before .before .before .before .before .before .before .before .before .before .before .before .before .before .general-end .result in
     let to = c .before .before .before .before .before .before .before .group-end .result in
+    let e = c .before .before .before .before .before .before .before .group-end .ensures in
     let r = c .before .before .before .before .try-group .ensures in
-    let q = laneAt (a .policy .now) (a .u) (a .roles .now) (a .right) in
-    let z : l .k + (to - l .k) ≡ to = omega (arith, c .before .before .before .before .before .before .before .group-end .ensures .0) in (
-      omega (arith, c .before .before .before .before .before .before .before .group-end .ensures .1),
+    let q = laneAt (a .policy .now) (a .u) (a .roles .now) (a .right) in (
+      omega (arith, e .0),
+      omega (arith, e .1),
       r .0,
       each-alike (a .n) _ _
-          (λ (i x : ℕ). ruled q (a .right) (chainOf (a .t .now) i) (l .k) (to - l .k) (ruled q (a .right) (chainOf (a .t .now) i) 0 (l .k) x))
-          (λ (i x : ℕ). ruled q (a .right) (chainOf (a .t .now) i) 0 to x)
-          (λ i x. sym (ruled-add q (a .right) (chainOf (a .t .now) i) (l .k) (to - l .k) x) ∙ ap (λ (j : ℕ). ruled q (a .right) (chainOf (a .t .now) i) 0 j x) z)
-          (each-then (a .n) _ _ _ _ _ (l .inv .2) (r .1)),
+          (λ (i x : ℕ). ruled q (a .right) (chainOf (a .t .now) i) (l .k) (to - l .k) (ruled q (a .right) (chainOf (a .t .now) i) from (l .k - from) x))
+          (λ (i x : ℕ). ruled q (a .right) (chainOf (a .t .now) i) from (to - from) x)
+          (λ i x. ruled-on q (a .right) (chainOf (a .t .now) i) from (l .k) to x (l .inv .0) (omega (arith, e .0)))
+          (each-then (a .n) _ _ _ _ _ (l .inv .3) (r .1)),
     )
 
 same-length : tie.Need-same-length Inv-loop μ-loop
-same-length c = c .before .loop .inv .1 ∙ sym (c .before .before .before .before .before .before .before .before .before .before .pre .2)
+same-length c = c .before .loop .inv .2 ∙ sym (c .before .before .before .before .before .before .before .before .before .before .before .before .before .before .before .pre .2)
 
 same-length-2 : tie.Need-same-length-2 Inv-loop μ-loop
-same-length-2 c = c .before .loop .inv .2 .long
+same-length-2 c = c .before .loop .inv .3 .long ∙ c .before .before .before .before .try-general .ensures .long
 
 returns : tie.Need-returns Inv-loop μ-loop
 returns c =
-    let a = c .before .before .before .before .before .before .before .before .before .before .args in
+    let a = c .before .before .before .before .before .before .before .before .before .before .before .before .before .before .before .args in
     let l = c .before .loop in
-    let e : l .k ≡ ruleCount (a .policy .now) = omega (arith, c .before .before .wide .ensures) in
-    (l .inv .1, rw e at (l .inv .2))
+    let from = c .before .before .before .before .before .before .general-end .result in
+    let q = laneAt (a .policy .now) (a .u) (a .roles .now) (a .right) in
+    let e : l .k ≡ ruleCount (a .policy .now) = omega (arith, c .before .before .before .before .before .before .before .wide .ensures) in (
+      l .inv .2,
+      each-alike (a .n) _ _
+          (λ (i x : ℕ). ruled q (a .right) (chainOf (a .t .now) i) from (l .k - from) (ruled q (a .right) (chainOf (a .t .now) i) 0 from x))
+          (λ (i x : ℕ). ruled q (a .right) (chainOf (a .t .now) i) 0 (ruleCount (a .policy .now)) x)
+          (λ i x. ruled-whole q (a .right) (chainOf (a .t .now) i) from (l .k) x (l .inv .0) ∙ ap (λ (m : ℕ). ruled q (a .right) (chainOf (a .t .now) i) 0 m x) e)
+          (each-then (a .n) _ _ _ _ _ (c .before .before .before .before .try-general .ensures) (l .inv .3)),
+    )
 
 pub try-right-spec : {M : Type 1} → statement M
 try-right-spec =
@@ -77,6 +100,8 @@ try-right-spec =
     μ-loop
     shared-slice-read-wide
     wide-requires
+    general-end-requires
+    try-general-requires
     loop-holds
     group-end-requires
     try-group-requires

@@ -1,0 +1,50 @@
+use Prim.Native.Nat.{_≤_, _-_}
+use mathlib.Core.Path.{sym, _∙_}
+use native.Mathlib.Omega.{arith}
+use Rattle.rights.proofs.groups.general_end.Statement.{statement}
+use Rattle.rights.proofs.groups.general_end.Tie as tie
+
+abbrev Inv-loop : tie.InvT-loop
+Inv-loop policy u roles right count k₀ k = k ≤ count
+
+abbrev μ-loop : tie.MeasureT-loop
+μ-loop policy u roles right count k₀ k = k
+
+loop-holds : tie.Need-loop-holds Inv-loop μ-loop
+loop-holds c = omega arith
+
+sub-is-general : tie.Need-sub-is-general Inv-loop μ-loop
+sub-is-general c = omega arith
+
+is-general-requires : tie.Need-is-general-requires Inv-loop μ-loop
+is-general-requires c κs = (c .before .before .before .pre .0, omega (arith, c .before .before .before .pre .1))
+
+returns : tie.Need-returns Inv-loop μ-loop
+returns c = (c .before .before .before .loop .inv, λ h. c .before .is-general .ensures (c .if1 .taken))
+
+sub-k : tie.Need-sub-k Inv-loop μ-loop
+sub-k c = omega arith
+
+loop-less : tie.Need-loop-less Inv-loop μ-loop
+loop-less c = omega arith
+
+loop-again : tie.Need-loop-again Inv-loop μ-loop
+loop-again c = omega arith
+
+returns-2 : tie.Need-returns-2 Inv-loop μ-loop
+returns-2 c = (omega arith, λ h. absurd (omega arith))
+
+pub general-end-spec : {M : Type 1} → statement M
+general-end-spec =
+    tie.close
+    (tie.spec
+    Inv-loop
+    μ-loop
+    loop-holds
+    sub-is-general
+    is-general-requires
+    returns
+    sub-k
+    loop-less
+    loop-again
+    returns-2)

@@ -1,0 +1,81 @@
+use mathlib.Core.Bool.{false≢true}
+use mathlib.Core.Path.{_≡_, sym, _∙_, subst}
+use Prim.Native.Nat.{ℕ, _+_, _*_}
+use native.Mathlib.Omega.{arith}
+use Rattle.rights.specs.PolicyBytes.{stepsAt, stepCount, Text}
+use Rattle.rights.proofs.Texts.{text-first}
+use Rattle.rights.proofs.GroupLaws.{general-path}
+use borrow.Author.Needs.{needs}
+use Rattle.rights.proofs.groups.is_general.Statement.{statement}
+use Rattle.rights.proofs.groups.is_general.Tie as tie
+
+mul-a : tie.Need-mul-a
+mul-a c = search needs
+
+add-a : tie.Need-add-a
+add-a c = search needs
+
+add-if1 : tie.Need-add-if1
+add-if1 c = search needs
+
+shared-slice-read-if1 : tie.Need-shared-slice-read-if1
+shared-slice-read-if1 c = search needs
+
+returns : tie.Need-returns
+returns c = λ e. absurd (false≢true e)
+
+add-if2 : tie.Need-add-if2
+add-if2 c = search needs
+
+shared-slice-read-if2 : tie.Need-shared-slice-read-if2
+shared-slice-read-if2 c = search needs
+
+returns-2 : tie.Need-returns-2
+returns-2 c = λ e. absurd (false≢true e)
+
+add-if3 : tie.Need-add-if3
+add-if3 c = search needs
+
+add-if3-2 : tie.Need-add-if3-2
+add-if3-2 c = search needs
+
+shared-slice-read-if3 : tie.Need-shared-slice-read-if3
+shared-slice-read-if3 c = search needs
+
+returns-3 : tie.Need-returns-3
+returns-3 c = λ e. absurd (false≢true e)
+
+counts-requires : tie.Need-counts-requires
+counts-requires c κs = search needs
+
+returns-4 : tie.Need-returns-4
+returns-4 c =
+    let a = c .before .before .before .before .before .before .before .before .args in
+    let g = c .before .before .before .before .before .before .before .before .pre in
+    let p = a .policy .now in
+    let one : stepCount p (a .k) ≡ 1 = c .before .before .before .before .before .if1 .left in
+    let z : stepsAt (a .k) + 0 * 32 ≡ stepsAt (a .k) = omega arith in
+    let text = subst (Text p) z (g .0 .paths (a .k) (g .1) .texts 0 (omega (arith, one))) in
+    λ e. record {
+      counts = sym (c .counts .ensures) ∙ e;
+      all = general-path p (a .u) (a .k) one (c .before .before .before .if2 .left) (text-first p (stepsAt (a .k)) text ∙ c .before .if3 .left);
+    }
+
+pub is-general-spec : {M : Type 1} → statement M
+is-general-spec =
+    tie.close
+    (tie.spec
+    mul-a
+    add-a
+    add-if1
+    shared-slice-read-if1
+    returns
+    add-if2
+    shared-slice-read-if2
+    returns-2
+    add-if3
+    add-if3-2
+    shared-slice-read-if3
+    returns-3
+    counts-requires
+    returns-4)

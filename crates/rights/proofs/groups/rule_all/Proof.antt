@@ -1,0 +1,74 @@
+use Prim.Native.Nat.{ℕ, _-_, _≤_, _<_}
+use mathlib.Core.Path.{_≡_, refl, sym, subst}
+use native.Mathlib.Omega.{arith}
+use lib.ListN.{length, drop, getD, length-set}
+use Rattle.rights.specs.Rights.{withRule}
+use Rattle.rights.proofs.Eaches.{Done, untouched, done-more, drop-more, below-more}
+use Rattle.rights.proofs.groups.rule_all.Statement.{statement}
+use Rattle.rights.proofs.groups.rule_all.Tie as tie
+
+abbrev Inv-loop : tie.InvT-loop
+Inv-loop right accept n out₀ i₀ out i =
+    (i ≤ n)
+    × (length out ≡ length out₀)
+    × (drop i out ≡ drop i out₀)
+    × Done (λ (q x : ℕ). withRule x right accept) out₀ out i
+    × ((q : ℕ) → q < i → getD out₀ q 0 < 256)
+
+abbrev μ-loop : tie.MeasureT-loop
+μ-loop right accept n out₀ i₀ out i = n - i
+
+loop-holds : tie.Need-loop-holds Inv-loop μ-loop
+loop-holds c = (omega arith, refl, refl, (λ q h. absurd (omega arith)), λ q h. absurd (omega arith))
+
+slice-read-with-right : tie.Need-slice-read-with-right Inv-loop μ-loop
+slice-read-with-right c = omega arith
+
+with-right-requires : tie.Need-with-right-requires Inv-loop μ-loop
+with-right-requires c κs = tt
+
+slice-write-out : tie.Need-slice-write-out Inv-loop μ-loop
+slice-write-out c = omega arith
+
+add-i : tie.Need-add-i Inv-loop μ-loop
+add-i c = omega arith
+
+loop-less : tie.Need-loop-less Inv-loop μ-loop
+loop-less c = omega arith
+
+loop-again : tie.Need-loop-again Inv-loop μ-loop
+loop-again c =
+    let a = c .before .before .before .before .before .args in
+    let l = c .before .before .before .loop in
+    let r = c .with-right .ensures in (
+      omega arith,
+      simp length-set (l .inv .1),
+      drop-more (a .out .now) (l .out) (l .i) (l .inv .2) _,
+      done-more (a .out .now) (l .out) (l .i) (l .inv .2) (λ (q x : ℕ). withRule x (a .right) (a .accept)) _ (omega arith) (l .inv .3) (r .0),
+      below-more (a .out .now) (l .i) (l .inv .4) (subst (λ (k : ℕ). k < 256) (untouched (a .out .now) (l .out) (l .i) (l .inv .2)) (r .1)),
+    )
+
+same-length : tie.Need-same-length Inv-loop μ-loop
+same-length c = c .before .loop .inv .1
+
+returns : tie.Need-returns Inv-loop μ-loop
+returns c =
+    let l = c .before .loop in
+    let e : l .i ≡ c .before .before .before .args .n = omega arith in
+    (record { long = l .inv .1; at = rw e at (l .inv .3); rest = rw e at (l .inv .2) }, rw e at (l .inv .4))
+
+pub rule-all-spec : {M : Type 1} → statement M
+rule-all-spec =
+    tie.close
+    (tie.spec
+    Inv-loop
+    μ-loop
+    loop-holds
+    slice-read-with-right
+    with-right-requires
+    slice-write-out
+    add-i
+    loop-less
+    loop-again
+    same-length
+    returns)

@@ -1,0 +1,54 @@
+use Rattle.rights.specs.Automaton.{chainOf}
+use Rattle.rights.proofs.FiveRights.{ruled-zero}
+use lib.ListN.{getD}
+use mathlib.Core.Path.{refl, _∙_}
+use native.Mathlib.Omega.{arith}
+use Rattle.rights.specs.Groups.{laneAt}
+use Rattle.rights.proofs.GroupLaws.{general-at, above-zero}
+use borrow.Author.Needs.{needs}
+use Rattle.rights.proofs.groups.try_general.Statement.{statement}
+use Rattle.rights.proofs.groups.try_general.Tie as tie
+
+returns : tie.Need-returns
+returns c =
+    let a = c .before .before .before .before .args in
+    record { long = refl; at = λ i h. ruled-zero (laneAt (a .policy .now) (a .u) (a .roles .now) (a .right)) (a .right) (chainOf (a .t .now) i) 0 (a .k) _ (c .if1 .taken); rest = refl }
+
+sub-a : tie.Need-sub-a
+sub-a c = search needs
+
+mul-a : tie.Need-mul-a
+mul-a c = search needs
+
+add-a : tie.Need-add-a
+add-a c = search needs
+
+shared-slice-read-rule-all : tie.Need-shared-slice-read-rule-all
+shared-slice-read-rule-all c = search needs
+
+rule-all-requires : tie.Need-rule-all-requires
+rule-all-requires c κs = search needs
+
+same-length : tie.Need-same-length
+same-length c = search needs
+
+returns-2 : tie.Need-returns-2
+returns-2 c =
+    let a = c .before .before .before .before .before .before .before .before .before .args in
+    let g = c .before .before .before .before .before .before .before .before .before .pre in
+    let q = laneAt (a .policy .now) (a .u) (a .roles .now) (a .right) in
+    let r = c .before .before .rule-all .ensures in
+    record { long = r .0 .long; at = λ i h. r .0 .at i h ∙ general-at (a .right) (g .1) q (a .t .now) i (a .k) (getD (a .out .now) i 0) (r .1 i h) (above-zero (a .k) (c .before .before .before .before .before .if1 .left)) (g .3 (above-zero (a .k) (c .before .before .before .before .before .if1 .left))); rest = r .0 .rest }
+
+pub try-general-spec : {M : Type 1} → statement M
+try-general-spec =
+    tie.close
+    (tie.spec
+    returns
+    sub-a
+    mul-a
+    add-a
+    shared-slice-read-rule-all
+    rule-all-requires
+    same-length
+    returns-2)
