@@ -1,6 +1,6 @@
 -- Numbers by their bits: what `has` says of sums, differences and shifts, and that the bits make the number. Assumes nothing.
 use Prim.Native.Nat.{ℕ, suc, zero, _+_, _*_, _-_, _/_, _%_, _^_, _≤_, _<_}
-use mathlib.Core.Bool.{Bool, true, false, _&&_, _||_, not, cond, and-false, or-false}
+use mathlib.Core.Bool.{Bool, true, false, _&&_, _||_, not, and-false, or-false}
 use mathlib.Core.Path.{_≡_, refl, sym, ap, ap₂, _∙_}
 use mathlib.Core.List.{List, [], _∷_}
 use native.Mathlib.Nat.{one-mul, mod-eq-of-lt, pow-suc, mod-lt}

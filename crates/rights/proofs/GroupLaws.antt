@@ -20,12 +20,12 @@ use Rattle.rights.specs.Automaton.{value, meet, deeps, passedBy, moved, 
 use Rattle.rights.specs.Groups.{has, Lane, laneAt, never, cat, stepsOf, firstOf, laid, firsts, endAt, Agrees, ruled, settled, Packed, Grouped, General}
 use Rattle.rights.specs.PolicyCheck.{bitOk}
 use Rattle.rights.specs.PolicyBytes.{policyOf, accepts, stepCount, stepsAt, stepOf}
+use Rattle.rights.specs.Table.{recAt, recordAt, level, label}
 use Rattle.rights.proofs.RightsLaws.{right-of}
 use Rattle.rights.proofs.Lists.{byCase}
 use Rattle.rights.proofs.Lanes.{bit-test, length-steps, length-passedBy}
 use Rattle.rights.proofs.Chains.{found}
 use Rattle.rights.proofs.BitLaws.{get-meet, get-join, has-and, has-or, has-one, has-ext, has-value, has-clear}
-use Rattle.rights.specs.Table.{recAt, recordAt, level, label}
 use Rattle.rights.proofs.PackedLaws.{step-deep, step-every, or-none, deeps-more, passed-more, deeps-length, packed-none, packed-end}
 
 -- How a set of states moves, state by state

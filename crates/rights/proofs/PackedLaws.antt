@@ -1,5 +1,5 @@
 -- A group's steps in numbers: none, one step more, and the end of a path. Assumes nothing.
-use Prim.Native.Nat.{ℕ, suc, zero, _+_, _*_, _^_, _≤_, _<_}
+use Prim.Native.Nat.{ℕ, suc, zero, _+_, _*_, _^_, _<_}
 use mathlib.Core.Bool.{Bool, true, false, _&&_, _||_, cond, and-false, or-true}
 use mathlib.Core.Path.{_≡_, refl, sym, ap, ap₂, _∙_}
 use mathlib.Core.List.{List, [], _∷_, _++_, append-assoc}
@@ -12,11 +12,11 @@ use lib.Dec.{eqb, eqb·suc-suc, eqb·zero-suc, eqb·suc-zero}
 use lib.ListN.{length, getD, set, length-append, length-set}
 use lib.Seq.{getD-set-same, getD-set-other}
 use Rattle.rights.specs.Labels.{sameLabel}
-use Rattle.rights.specs.Path.{passes, far}
+use Rattle.rights.specs.Path.{far}
 use Rattle.rights.specs.Rights.{Step, stepFor}
 use Rattle.rights.specs.Table.{recAt, label}
 use Rattle.rights.specs.Policy.{Rule, passesOwn, some, uses}
-use Rattle.rights.specs.PolicyBytes.{policyOf, nameAt, stepOf, axisOf, testOf, ruleCount, stepCount, stepsAt, pathOf, Subject}
+use Rattle.rights.specs.PolicyBytes.{policyOf, nameAt, stepOf, axisOf, ruleCount, stepCount, stepsAt, pathOf, Subject}
 use Rattle.rights.specs.Automaton.{deeps, passedBy, stepsFor}
 use Rattle.rights.specs.Groups.{has, noted, never, Packed, Noted}
 use Rattle.rights.specs.Vocabulary.{wordAt, numberIn, Sorted}

@@ -1,7 +1,7 @@
 -- The masks of a level array that follows the records, from any first states; and one move in numbers. Assumes nothing.
 use Prim.Native.Nat.{ℕ, suc, zero, _+_, _*_, _%_, _^_, _≤_}
-use mathlib.Core.Bool.{Bool, true, false, _&&_, _||_}
-use mathlib.Core.Path.{_≡_, refl, sym, ap, ap₂, _∙_}
+use mathlib.Core.Bool.{Bool, _&&_, _||_}
+use mathlib.Core.Path.{_≡_, sym, ap, ap₂, _∙_}
 use mathlib.Core.Logic.{_⊎_, ⊎-elim}
 use mathlib.Core.List.{List, [], _∷_, _++_}
 use native.Mathlib.Nat.{not-suc-le-zero, eq-or-lt-of-le}

@@ -1,9 +1,9 @@
 use mathlib.Core.Path.{refl}
 use native.Mathlib.Omega.{arith}
+use borrow.Author.Needs.{needs}
 use lib.ListN.{length}
 use Rattle.answers.specs.AnswerArea.{Answered}
 use Rattle.lines.proofs.StepLaws.{made-at, made-finish, shown-fits, shown-long, shown-view, marks-part, marks-long-enough, marks-cover, query-seen}
-use borrow.Author.Needs.{needs}
 use Rattle.lines.proofs.queries.query_user.Statement.{statement}
 use Rattle.lines.proofs.queries.query_user.Tie as tie
 

@@ -1,10 +1,10 @@
 use mathlib.Core.Path.{_≡_, sym, ap, _∙_}
 use native.Mathlib.Omega.{arith}
+use borrow.Author.Needs.{needs}
 use lib.ListN.{length, drop}
 use Rattle.lines.specs.Step.{Chosen}
 use Rattle.lines.proofs.StateLaws.{store-held}
 use Rattle.lines.proofs.StepLaws.{user-some, shown-long, shown-fits, shown-view, subject-asks, picked-are}
-use borrow.Author.Needs.{needs}
 use Rattle.lines.proofs.queries.select_user.Statement.{statement}
 use Rattle.lines.proofs.queries.select_user.Tie as tie
 

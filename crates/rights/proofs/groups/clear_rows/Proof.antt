@@ -1,6 +1,6 @@
+use Prim.Native.Nat.{ℕ, _≤_, _-_}
 use mathlib.Core.Path.{_≡_, refl}
 use native.Mathlib.Omega.{arith}
-use Prim.Native.Nat.{ℕ, _≤_, _-_}
 use lib.ListN.{length, drop, length-set}
 use Rattle.rights.proofs.Eaches.{Done, done-more, drop-more}
 use Rattle.rights.proofs.groups.clear_rows.Statement.{statement}

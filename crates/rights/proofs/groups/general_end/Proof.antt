@@ -1,5 +1,4 @@
 use Prim.Native.Nat.{_≤_, _-_}
-use mathlib.Core.Path.{sym, _∙_}
 use native.Mathlib.Omega.{arith}
 use Rattle.rights.proofs.groups.general_end.Statement.{statement}
 use Rattle.rights.proofs.groups.general_end.Tie as tie

@@ -1,11 +1,11 @@
+use Prim.Native.Nat.{_+_, _*_}
 use mathlib.Core.Bool.{false≢true}
 use mathlib.Core.Path.{_≡_, sym, _∙_, subst}
-use Prim.Native.Nat.{ℕ, _+_, _*_}
 use native.Mathlib.Omega.{arith}
+use borrow.Author.Needs.{needs}
 use Rattle.rights.specs.PolicyBytes.{stepsAt, stepCount, Text}
 use Rattle.rights.proofs.Texts.{text-first}
 use Rattle.rights.proofs.GroupLaws.{general-path}
-use borrow.Author.Needs.{needs}
 use Rattle.rights.proofs.groups.is_general.Statement.{statement}
 use Rattle.rights.proofs.groups.is_general.Tie as tie
 

@@ -1,14 +1,13 @@
-use Rattle.rights.proofs.Lanes.{length-steps}
-use Rattle.rights.proofs.VocabularyLaws.{number-low}
-use Rattle.rights.proofs.GroupLaws.{group-none, size-more, size-within}
+use Prim.Native.Nat.{suc, _+_, _-_, _≤_}
+use mathlib.Core.Path.{_≡_, sym, _∙_}
+use native.Mathlib.Omega.{arith}
 use Rattle.rights.specs.PolicyBytes.{policyOf, stepCount, stepsAt}
 use Rattle.rights.specs.Policy.{passesOwn}
 use Rattle.rights.specs.Vocabulary.{wordAt, numberIn}
 use Rattle.rights.specs.Groups.{laneAt, Grouped}
-use Prim.Native.Nat.{suc, _+_, _-_, _≤_}
-use native.Mathlib.Omega.{arith}
-use mathlib.Core.Path.{_≡_, sym, _∙_}
-use lib.ListN.{length}
+use Rattle.rights.proofs.Lanes.{length-steps}
+use Rattle.rights.proofs.VocabularyLaws.{number-low}
+use Rattle.rights.proofs.GroupLaws.{group-none, size-more, size-within}
 use Rattle.rights.proofs.groups.make_group.Statement.{statement}
 use Rattle.rights.proofs.groups.make_group.Tie as tie
 

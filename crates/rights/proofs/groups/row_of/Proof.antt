@@ -1,12 +1,10 @@
+use mathlib.Core.Path.{sym, _∙_, ap}
+use borrow.Author.Needs.{needs}
 use Rattle.rights.specs.PolicyBytes.{nameAt}
 use Rattle.rights.specs.Table.{recAt, label}
-use mathlib.Core.Path.{sym, _∙_, ap}
-use borrow.Author.Tests.{eq-eqb, ne-eqb}
 use Rattle.rights.specs.Vocabulary.{numberIn}
-use Rattle.rights.specs.Groups.{noted}
 use Rattle.rights.proofs.Texts.{text-first}
 use Rattle.rights.proofs.PackedLaws.{noted-name, noted-text}
-use borrow.Author.Needs.{needs}
 use Rattle.rights.proofs.groups.row_of.Statement.{statement}
 use Rattle.rights.proofs.groups.row_of.Tie as tie
 

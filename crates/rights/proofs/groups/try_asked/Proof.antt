@@ -1,5 +1,4 @@
-use mathlib.Core.Path.{refl, sym, _∙_, ap}
-use mathlib.Core.Bool.{cond}
+use mathlib.Core.Path.{refl, sym, _∙_}
 use Rattle.rights.proofs.FiveRights.{bit-above}
 use Rattle.rights.proofs.groups.try_asked.Statement.{statement}
 use Rattle.rights.proofs.groups.try_asked.Tie as tie

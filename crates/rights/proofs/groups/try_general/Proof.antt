@@ -1,11 +1,10 @@
-use Rattle.rights.specs.Automaton.{chainOf}
-use Rattle.rights.proofs.FiveRights.{ruled-zero}
-use lib.ListN.{getD}
 use mathlib.Core.Path.{refl, _∙_}
-use native.Mathlib.Omega.{arith}
-use Rattle.rights.specs.Groups.{laneAt}
-use Rattle.rights.proofs.GroupLaws.{general-at, above-zero}
 use borrow.Author.Needs.{needs}
+use lib.ListN.{getD}
+use Rattle.rights.specs.Automaton.{chainOf}
+use Rattle.rights.specs.Groups.{laneAt}
+use Rattle.rights.proofs.FiveRights.{ruled-zero}
+use Rattle.rights.proofs.GroupLaws.{general-at, above-zero}
 use Rattle.rights.proofs.groups.try_general.Statement.{statement}
 use Rattle.rights.proofs.groups.try_general.Tie as tie
 

@@ -1,19 +1,19 @@
+-- The first i nodes have their sets, and the states of each level are those along the chain of the node before.
+use Prim.Native.Nat.{ℕ, _-_, _≤_}
+use mathlib.Core.Path.{_≡_, refl, sym, _∙_}
+use native.Mathlib.Numerals.{add-one}
+use native.Mathlib.Omega.{arith}
+use lib.ListN.{length, drop, getD, length-set}
+use Rattle.rights.specs.Vocabulary.{wordAt, numberIn}
+use Rattle.rights.specs.Groups.{laneAt, laid, firsts, ruled}
+use Rattle.rights.specs.Automaton.{chainOf, chainTo}
+use Rattle.rights.specs.Table.{recordAt, label}
 use Rattle.rights.proofs.PackedLaws.{row-at}
 use Rattle.rights.proofs.VocabularyLaws.{number-low}
 use Rattle.rights.proofs.StateLaws.{Levels, chain-step, levels-start}
 use Rattle.rights.proofs.Chains.{fit, low-level, low-byte}
 use Rattle.rights.proofs.Eaches.{Done, done-more, drop-more}
 use Rattle.rights.proofs.GroupLaws.{agree, ruled-none}
-use Rattle.rights.specs.Vocabulary.{wordAt, numberIn}
-use Rattle.rights.specs.Groups.{laneAt, laid, firsts, ruled}
-use Rattle.rights.specs.Automaton.{chainOf, chainTo}
-use Rattle.rights.specs.Table.{recordAt, label}
-use lib.ListN.{length, drop, getD, length-set}
-use Prim.Native.Nat.{ℕ, _-_, _≤_}
-use native.Mathlib.Numerals.{add-one}
-use native.Mathlib.Omega.{arith}
-use mathlib.Core.Path.{_≡_, refl, sym, _∙_, ap}
--- The first i nodes have their sets, and the states of each level are those along the chain of the node before.
 use Rattle.rights.proofs.groups.try_group.Statement.{statement}
 use Rattle.rights.proofs.groups.try_group.Tie as tie
 

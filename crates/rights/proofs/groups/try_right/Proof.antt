@@ -1,12 +1,12 @@
-use Rattle.rights.proofs.FiveRights.{ruled-on, ruled-whole, ruled-zero}
-use Rattle.rights.proofs.Eaches.{each-then, each-alike}
+use Prim.Native.Nat.{ℕ, _-_, _≤_}
+use mathlib.Core.Path.{_≡_, refl, sym, _∙_, ap}
+use native.Mathlib.Omega.{arith}
+use lib.ListN.{length}
 use Rattle.rights.specs.Groups.{laneAt, ruled}
 use Rattle.rights.specs.Automaton.{chainOf, Each}
 use Rattle.rights.specs.PolicyBytes.{ruleCount}
-use lib.ListN.{length}
-use Prim.Native.Nat.{ℕ, _-_, _≤_}
-use native.Mathlib.Omega.{arith}
-use mathlib.Core.Path.{_≡_, refl, sym, _∙_, ap}
+use Rattle.rights.proofs.FiveRights.{ruled-on, ruled-whole, ruled-zero}
+use Rattle.rights.proofs.Eaches.{each-then, each-alike}
 use Rattle.rights.proofs.groups.try_right.Statement.{statement}
 use Rattle.rights.proofs.groups.try_right.Tie as tie
 

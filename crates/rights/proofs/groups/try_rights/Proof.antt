@@ -1,7 +1,7 @@
+use mathlib.Core.Path.{refl, sym, _∙_}
+use native.Mathlib.Omega.{arith}
 use Rattle.rights.specs.PolicyCheck.{bitOk}
 use Rattle.rights.proofs.Eaches.{each-then}
-use native.Mathlib.Omega.{arith}
-use mathlib.Core.Path.{refl, sym, _∙_}
 use Rattle.rights.proofs.groups.try_rights.Statement.{statement}
 use Rattle.rights.proofs.groups.try_rights.Tie as tie
 

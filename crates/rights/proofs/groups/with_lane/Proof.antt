@@ -1,10 +1,10 @@
-use Rattle.rights.proofs.GroupLaws.{lane-added, group-skip}
+use Prim.Native.Nat.{ℕ}
+use mathlib.Core.Path.{sym, _∙_, ap}
+use native.Mathlib.Omega.{arith}
+use borrow.Author.Needs.{needs}
 use Rattle.rights.specs.Vocabulary.{numberIn}
 use Rattle.rights.specs.Groups.{laneAt}
-use Prim.Native.Nat.{ℕ}
-use native.Mathlib.Omega.{arith}
-use mathlib.Core.Path.{sym, _∙_, ap}
-use borrow.Author.Needs.{needs}
+use Rattle.rights.proofs.GroupLaws.{lane-added, group-skip}
 use Rattle.rights.proofs.groups.with_lane.Statement.{statement}
 use Rattle.rights.proofs.groups.with_lane.Tie as tie
 

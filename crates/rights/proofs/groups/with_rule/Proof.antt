@@ -1,14 +1,14 @@
-use Rattle.rights.proofs.PackedLaws.{sorted-step}
-use Rattle.rights.specs.PolicyBytes.{accepts, ruleAt}
+use Prim.Native.Nat.{ℕ, _+_, _^_}
+use mathlib.Core.Bool.{Bool, cond}
+use mathlib.Core.Path.{sym, _∙_, ap, ap₂}
+use native.Mathlib.Omega.{arith}
+use borrow.Author.Needs.{needs}
 use lib.ListN.{getD}
 use lib.Dec.{eqb}
-use Rattle.rights.proofs.GroupLaws.{not-not}
 use lib.Bits.{bitOr}
-use mathlib.Core.Bool.{Bool, cond}
-use Prim.Native.Nat.{ℕ, _+_, _^_}
-use native.Mathlib.Omega.{arith}
-use mathlib.Core.Path.{sym, _∙_, ap, ap₂}
-use borrow.Author.Needs.{needs}
+use Rattle.rights.specs.PolicyBytes.{accepts, ruleAt}
+use Rattle.rights.proofs.PackedLaws.{sorted-step}
+use Rattle.rights.proofs.GroupLaws.{not-not}
 use Rattle.rights.proofs.groups.with_rule.Statement.{statement}
 use Rattle.rights.proofs.groups.with_rule.Tie as tie
 

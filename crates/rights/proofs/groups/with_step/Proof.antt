@@ -1,9 +1,7 @@
+use mathlib.Core.Path.{sym, _∙_}
 use native.Mathlib.Omega.{arith}
-use mathlib.Core.Bool.{Bool, cond}
-use mathlib.Core.Path.{refl, sym, _∙_, ap, ap₂}
-use Prim.Native.Nat.{ℕ, _^_}
-use lib.Bits.{bitOr}
-use lib.ListN.{getD, set, length-set}
+use borrow.Author.Needs.{needs}
+use lib.ListN.{length-set}
 use Rattle.rights.specs.PolicyBytes.{policyOf, stepOf}
 use Rattle.rights.specs.Policy.{passesOwn}
 use Rattle.rights.specs.Rights.{stepFor}
@@ -11,7 +9,6 @@ use Rattle.rights.specs.Table.{recAt}
 use Rattle.rights.specs.Vocabulary.{numberIn}
 use Rattle.rights.proofs.Texts.{text-first}
 use Rattle.rights.proofs.PackedLaws.{packed-every, packed-row, step-deep, step-every, step-row}
-use borrow.Author.Needs.{needs}
 use Rattle.rights.proofs.groups.with_step.Statement.{statement}
 use Rattle.rights.proofs.groups.with_step.Tie as tie
 

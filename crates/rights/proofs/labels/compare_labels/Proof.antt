@@ -1,14 +1,10 @@
 -- The lengths are equal and so are the k bytes compared so far, so what is left decides.
-use Prim.Native.Nat.{_+_, _-_, _≤_}
-use mathlib.Core.Bool.{cond}
-use mathlib.Core.Path.{_≡_, refl, sym, _∙_}
+use Prim.Native.Nat.{_-_, _≤_}
+use mathlib.Core.Path.{_≡_, sym, _∙_}
 use native.Mathlib.Omega.{arith}
-use lib.Dec.{ltb}
-use lib.ListN.{take, drop, getD}
 use borrow.Author.Needs.{needs}
-use borrow.Author.Tests.{le-ltb}
+use lib.ListN.{take, drop}
 use Rattle.rights.specs.Vocabulary.{labelOrder}
-use Rattle.rights.proofs.Lists.{byCase}
 use Rattle.rights.proofs.LabelLaws.{rest, rest-none, rest-stop, rest-next, longer, shorter, level-with}
 use Rattle.rights.proofs.labels.compare_labels.Statement.{statement}
 use Rattle.rights.proofs.labels.compare_labels.Tie as tie

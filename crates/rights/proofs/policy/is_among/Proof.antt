@@ -1,8 +1,6 @@
-use native.Mathlib.Omega.{arith}
-use mathlib.Core.Path.{refl, sym, _∙_, ap}
 use Prim.Native.Nat.{ℕ}
+use mathlib.Core.Path.{_∙_, ap}
 use lib.Dec.{ltb}
-use borrow.Author.Needs.{needs}
 use Rattle.rights.proofs.policy.is_among.Statement.{statement}
 use Rattle.rights.proofs.policy.is_among.Tie as tie
 

@@ -1,7 +1,7 @@
-use native.Mathlib.Omega.{arith}
 use mathlib.Core.Bool.{Bool, _||_}
 use mathlib.Core.List.{[]}
-use mathlib.Core.Path.{refl, sym, _∙_, ap}
+use mathlib.Core.Path.{sym, _∙_, ap}
+use native.Mathlib.Omega.{arith}
 use Rattle.rights.specs.Labels.{sameLabel}
 use Rattle.rights.specs.Policy.{some}
 use Rattle.rights.specs.PolicyBytes.{subjectCount, namesFrom}
@@ -9,7 +9,6 @@ use Rattle.rights.specs.Vocabulary.{named}
 use Rattle.rights.proofs.Sounds.{policy-sound}
 use Rattle.rights.proofs.PolicyWords.{words-with-names, words-alone}
 use Rattle.rights.proofs.VocabularyLaws.{words-none, none-word}
-use borrow.Author.Needs.{needs}
 use Rattle.rights.proofs.policy.sort_policy_words.Statement.{statement}
 use Rattle.rights.proofs.policy.sort_policy_words.Tie as tie
 

@@ -1,7 +1,7 @@
+use borrow.Author.Needs.{needs}
 use Rattle.rights.proofs.Facts.{table-long, table-room, table-few, table-records}
 use Rattle.rights.proofs.RightsLaws.{rule-bit}
 use Rattle.rights.proofs.Sounds.{policy-sound}
-use borrow.Author.Needs.{needs}
 use Rattle.rights.proofs.rights.asked_on.Statement.{statement}
 use Rattle.rights.proofs.rights.asked_on.Tie as tie
 

@@ -1,13 +1,13 @@
+use Prim.Native.Nat.{ℕ}
+use mathlib.Core.Path.{refl}
+use native.Mathlib.Omega.{arith}
+use borrow.Author.Needs.{needs}
 use lib.Bits.{bitAnd}
+use Rattle.rights.specs.Groups.{byFive}
+use Rattle.rights.specs.Automaton.{chainOf, rightsAt}
 use Rattle.rights.proofs.FiveRights.{five}
 use Rattle.rights.proofs.Model.{all-rights}
 use Rattle.rights.proofs.Eaches.{each-then, each-alike}
-use Rattle.rights.specs.Groups.{byFive}
-use Rattle.rights.specs.Automaton.{chainOf, rightsAt}
-use Prim.Native.Nat.{ℕ}
-use native.Mathlib.Omega.{arith}
-use mathlib.Core.Path.{refl}
-use borrow.Author.Needs.{needs}
 use Rattle.rights.proofs.rights.rights_of.Statement.{statement}
 use Rattle.rights.proofs.rights.rights_of.Tie as tie
 

@@ -1,11 +1,10 @@
-use Prim.Native.Nat.{ℕ, _+_, _*_, _-_, _≤_}
+use Prim.Native.Nat.{ℕ, _+_, _-_, _≤_}
 use mathlib.Core.Bool.{false}
 use mathlib.Core.Path.{_≡_, refl, sym, _∙_}
 use mathlib.Core.List.{List}
 use native.Mathlib.Omega.{arith}
-use Rattle.rights.specs.Table.{recAt}
 use Rattle.rights.specs.Policy.{some, uses}
-use Rattle.rights.specs.PolicyBytes.{stepOf, stepsFrom}
+use Rattle.rights.specs.PolicyBytes.{stepsFrom}
 use Rattle.rights.specs.Vocabulary.{Added}
 use Rattle.rights.proofs.PolicyWords.{steps-last}
 use Rattle.rights.proofs.VocabularyLaws.{added-none, added-then}

@@ -1,9 +1,7 @@
-use native.Mathlib.Omega.{arith}
 use mathlib.Core.Bool.{false}
 use mathlib.Core.Path.{refl, sym, _∙_}
-use Rattle.rights.specs.Table.{recAt, label}
-use Rattle.rights.specs.Policy.{uses}
-use Rattle.rights.specs.PolicyBytes.{stepOf}
+use native.Mathlib.Omega.{arith}
+use Rattle.rights.specs.Table.{recAt}
 use Rattle.rights.proofs.Texts.{text-first}
 use Rattle.rights.proofs.PolicyWords.{uses-any, uses-own, uses-label}
 use Rattle.rights.proofs.VocabularyLaws.{added-none, added-alike}

@@ -1,11 +1,10 @@
+use mathlib.Core.Path.{subst}
 use native.Mathlib.Omega.{arith}
-use Prim.Native.Nat.{_+_}
-use mathlib.Core.Path.{sym, _∙_, subst}
+use borrow.Author.Needs.{needs}
 use Rattle.rights.specs.Table.{recAt, label}
 use Rattle.rights.specs.Vocabulary.{wordAt, Stands}
 use Rattle.rights.proofs.LabelLaws.{order-same}
 use Rattle.rights.proofs.VocabularyLaws.{added-old, added-new}
-use borrow.Author.Needs.{needs}
 use Rattle.rights.proofs.vocabulary.add_word.Statement.{statement}
 use Rattle.rights.proofs.vocabulary.add_word.Tie as tie
 

@@ -1,14 +1,12 @@
+use Prim.Native.Nat.{ℕ, _+_}
+use mathlib.Core.Path.{_≡_, sym, ap, subst, _∙_, ap₂}
+use native.Mathlib.Omega.{arith}
+use borrow.Author.Needs.{needs}
+use lib.ListN.{getD}
 use Rattle.rights.specs.PolicyBytes.{Text}
 use Rattle.rights.specs.Table.{recAt, label}
-use mathlib.Core.Path.{_≡_, sym, ap, subst}
-use lib.ListN.{getD}
 use Rattle.rights.specs.Vocabulary.{labelOrder}
 use Rattle.rights.proofs.Texts.{text-eq}
-use lib.ListN.{take, drop}
-use Prim.Native.Nat.{ℕ, _+_}
-use native.Mathlib.Omega.{arith}
-use mathlib.Core.Path.{refl, _∙_, ap₂}
-use borrow.Author.Needs.{needs}
 use Rattle.rights.proofs.vocabulary.compare_word.Statement.{statement}
 use Rattle.rights.proofs.vocabulary.compare_word.Tie as tie
 

@@ -1,13 +1,10 @@
-use Prim.Native.Nat.{_+_}
-use mathlib.Core.Path.{_∙_, subst}
+use mathlib.Core.Path.{_∙_, subst, sym}
 use native.Mathlib.Numerals.{add-one}
-use Rattle.rights.specs.Vocabulary.{Stands}
 use native.Mathlib.Omega.{arith}
-use mathlib.Core.Path.{sym}
-use Rattle.rights.specs.Table.{recAt, label}
-use Rattle.rights.specs.Vocabulary.{wordAt}
-use Rattle.rights.proofs.VocabularyLaws.{number-found, number-missing}
 use borrow.Author.Needs.{needs}
+use Rattle.rights.specs.Vocabulary.{Stands, wordAt}
+use Rattle.rights.specs.Table.{recAt, label}
+use Rattle.rights.proofs.VocabularyLaws.{number-found, number-missing}
 use Rattle.rights.proofs.vocabulary.number_of.Statement.{statement}
 use Rattle.rights.proofs.vocabulary.number_of.Tie as tie
 

@@ -1,13 +1,10 @@
+-- The words before `low` stand before the label, and those from `high` on behind it.
 use Prim.Native.Nat.{ℕ, _+_, _-_, _/_, _≤_, _<_}
 use mathlib.Core.Path.{_≡_, sym, _∙_}
 use native.Mathlib.Omega.{arith}
-use borrow.Author.Tests.{eqb-true, eqb-false}
-use lib.Dec.{eqb}
 use Rattle.rights.specs.Table.{recAt, label}
 use Rattle.rights.specs.Vocabulary.{labelOrder, wordAt}
-use Rattle.rights.proofs.Lists.{byCase}
 use Rattle.rights.proofs.VocabularyLaws.{low-raised, high-lowered, order-most, halved}
--- The words before `low` stand before the label, and those from `high` on behind it.
 use Rattle.rights.proofs.vocabulary.search.Statement.{statement}
 use Rattle.rights.proofs.vocabulary.search.Tie as tie
 

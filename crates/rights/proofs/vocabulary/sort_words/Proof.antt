@@ -1,11 +1,10 @@
-use native.Mathlib.Omega.{arith}
 use mathlib.Core.Bool.{Bool, _||_}
-use mathlib.Core.Path.{refl, sym, _∙_, ap}
+use mathlib.Core.Path.{sym, _∙_, ap}
+use native.Mathlib.Omega.{arith}
 use Rattle.rights.specs.Labels.{sameLabel}
 use Rattle.rights.specs.PolicyBytes.{nameAt}
 use Rattle.rights.specs.Vocabulary.{named}
 use Rattle.rights.proofs.VocabularyLaws.{words-none, none-word}
-use borrow.Author.Needs.{needs}
 use Rattle.rights.proofs.vocabulary.sort_words.Statement.{statement}
 use Rattle.rights.proofs.vocabulary.sort_words.Tie as tie
 
