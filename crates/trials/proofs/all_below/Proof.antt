@@ -17,27 +17,9 @@ Inv-loop shown n i₀ i = (i ≤ length shown) × (all (below n) shown ≡ all (
 abbrev μ-loop : tie.MeasureT-loop
 μ-loop shown n i₀ i = length shown - i
 
-loop-holds : tie.Need-loop-holds Inv-loop μ-loop
-loop-holds c = (omega arith, refl)
-
-mul-is-below : tie.Need-mul-is-below Inv-loop μ-loop
-mul-is-below c = search needs
-
-shared-slice-read-is-below : tie.Need-shared-slice-read-is-below Inv-loop μ-loop
-shared-slice-read-is-below c = omega arith
-
-is-below-requires : tie.Need-is-below-requires Inv-loop μ-loop
-is-below-requires c κs = tt
-
 returns : tie.Need-returns Inv-loop μ-loop
 returns c =
     sym (c .before .before .before .before .loop .inv .1 ∙ all-stop _ _ _ (c .before .before .before .loop-test .taken) (sym (c .before .is-below .ensures) ∙ not-true _ (c .if1 .taken)))
-
-add-i : tie.Need-add-i Inv-loop μ-loop
-add-i c = omega arith
-
-loop-less : tie.Need-loop-less Inv-loop μ-loop
-loop-less c = omega arith
 
 loop-again : tie.Need-loop-again Inv-loop μ-loop
 loop-again c = (
@@ -51,15 +33,5 @@ returns-2 c = sym (c .before .loop .inv .1 ∙ all-end _ _ _ (c .loop-test .left
 pub all-below-spec : {M : Type 1} → statement M
 all-below-spec =
     tie.close
-    (tie.spec
-    Inv-loop
-    μ-loop
-    loop-holds
-    mul-is-below
-    shared-slice-read-is-below
-    is-below-requires
-    returns
-    add-i
-    loop-less
-    loop-again
-    returns-2)
+    (tie.spec Inv-loop μ-loop (λ c. (omega arith, refl)) (λ c. search needs) (λ c. omega arith) (λ c κs. tt) returns
+    (λ c. omega arith) (λ c. omega arith) loop-again returns-2)

@@ -7,9 +7,6 @@ use borrow.Author.Needs.{needs}
 use Rattle.trials.proofs.trial_rights.Statement.{statement}
 use Rattle.trials.proofs.trial_rights.Tie as tie
 
-may-ask-rights-requires : tie.Need-may-ask-rights-requires
-may-ask-rights-requires c κs = search needs
-
 rights-on-requires : tie.Need-rights-on-requires
 rights-on-requires c κs =
     let g = rights-gives _ _ _ _ (sym (c .before .before .may-ask-rights .ensures) ∙ c .before .if1 .taken) in
@@ -27,9 +24,6 @@ cast-result c =
     let h : c .count-of .result ≤ 16384 = rw (c .count-of .ensures) (table-few _ (asks-gives _ _ _ (g .0) .2)) in
     search needs
 
-same-length : tie.Need-same-length
-same-length c = search needs
-
 returns : tie.Need-returns
 returns c =
     rights-done _ _ _ _ (sym (c .before .before .before .before .before .before .may-ask-rights .ensures) ∙ c .before .before .before .before .before .if1 .taken) _ (c .count-of .ensures) _ (c .before .before .before .rights-on .ensures)
@@ -40,11 +34,5 @@ returns-2 c = rights-refused _ _ _ _ (sym (c .before .may-ask-rights .ensures) �
 pub trial-rights-spec : {M : Type 1} → statement M
 trial-rights-spec =
     tie.close
-    (tie.spec
-    may-ask-rights-requires
-    rights-on-requires
-    count-of-requires
-    cast-result
-    same-length
-    returns
+    (tie.spec (λ c κs. search needs) rights-on-requires count-of-requires cast-result (λ c. search needs) returns
     returns-2)

@@ -5,33 +5,15 @@ use borrow.Author.Needs.{needs}
 use Rattle.trials.proofs.trial_select.Statement.{statement}
 use Rattle.trials.proofs.trial_select.Tie as tie
 
-may-select-requires : tie.Need-may-select-requires
-may-select-requires c κs = search needs
-
 select-requires : tie.Need-select-requires
 select-requires c κs =
     let e = sym (c .before .before .may-select .ensures) ∙ c .before .if1 .taken in
     let g = nodes-gives _ _ _ _ _ e in
     (asks-subject _ _ _ (g .0), nodes-fit _ _ _ _ _ e, g .2)
 
-enum-told : tie.Need-enum-told
-enum-told c = search needs
-
-enum-told-2 : tie.Need-enum-told-2
-enum-told-2 c = search needs
-
-same-length : tie.Need-same-length
-same-length c = search needs
-
 returns : tie.Need-returns
 returns c =
     nodes-bad _ _ _ _ _ _ (sym (c .before .before .before .before .before .before .before .may-select .ensures) ∙ c .before .before .before .before .before .before .if1 .taken) _ _ (c .before .before .before .before .select .ensures) (c .enum-told2 .given .1)
-
-cast-result : tie.Need-cast-result
-cast-result c = search needs
-
-same-length-2 : tie.Need-same-length-2
-same-length-2 c = search needs
 
 returns-2 : tie.Need-returns-2
 returns-2 c =
@@ -43,14 +25,5 @@ returns-3 c = nodes-refused _ _ _ _ _ _ (sym (c .before .may-select .ensures) �
 pub trial-select-spec : {M : Type 1} → statement M
 trial-select-spec =
     tie.close
-    (tie.spec
-    may-select-requires
-    select-requires
-    enum-told
-    enum-told-2
-    same-length
-    returns
-    cast-result
-    same-length-2
-    returns-2
-    returns-3)
+    (tie.spec (λ c κs. search needs) select-requires (λ c. search needs) (λ c. search needs) (λ c. search needs) returns
+    (λ c. search needs) (λ c. search needs) returns-2 returns-3)

@@ -6,20 +6,8 @@ use borrow.Author.Needs.{needs}
 use Rattle.answers.proofs.answer.answer_done.Statement.{statement}
 use Rattle.answers.proofs.answer.answer_done.Tie as tie
 
-slice-aggregate-put-done : tie.Need-slice-aggregate-put-done
-slice-aggregate-put-done c = search needs
-
-put-done-requires : tie.Need-put-done-requires
-put-done-requires c κs = search needs
-
 returns : tie.Need-returns
 returns c = answered-not (doneText (c .before .before .before .before .before .args .s) (c .before .before .before .before .before .args .d)) (c .before .before .before .before .before .args .area .now) _ (omega (arith, c .before .before .put-done .ensures .next)) (c .if1 .taken)
-
-put-done-requires-2 : tie.Need-put-done-requires-2
-put-done-requires-2 c κs = search needs
-
-same-length : tie.Need-same-length
-same-length c = search needs
 
 returns-2 : tie.Need-returns-2
 returns-2 c =
@@ -30,10 +18,4 @@ returns-2 c =
 pub answer-done-spec : {M : Type 1} → statement M
 answer-done-spec =
     tie.close
-    (tie.spec
-    slice-aggregate-put-done
-    put-done-requires
-    returns
-    put-done-requires-2
-    same-length
-    returns-2)
+    (tie.spec (λ c. search needs) (λ c κs. search needs) returns (λ c κs. search needs) (λ c. search needs) returns-2)

@@ -7,22 +7,10 @@ use borrow.Author.Needs.{needs}
 use Rattle.answers.proofs.answer.answer_find.Statement.{statement}
 use Rattle.answers.proofs.answer.answer_find.Tie as tie
 
-slice-aggregate-put-found : tie.Need-slice-aggregate-put-found
-slice-aggregate-put-found c = search needs
-
-put-found-requires : tie.Need-put-found-requires
-put-found-requires c κs = search needs
-
 returns : tie.Need-returns
 returns c =
     let a = c .before .before .before .before .before .before .before .before .args in
     answered-not (findText (chosen (a .marks .now) (viewOf (a .table .now) (a .shown .now)))) (a .area .now) _ (omega (arith, c .before .before .put-found .ensures .next)) (c .if1 .taken)
-
-put-found-requires-2 : tie.Need-put-found-requires-2
-put-found-requires-2 c κs = search needs
-
-same-length : tie.Need-same-length
-same-length c = search needs
 
 returns-2 : tie.Need-returns-2
 returns-2 c =
@@ -34,10 +22,4 @@ returns-2 c =
 pub answer-find-spec : {M : Type 1} → statement M
 answer-find-spec =
     tie.close
-    (tie.spec
-    slice-aggregate-put-found
-    put-found-requires
-    returns
-    put-found-requires-2
-    same-length
-    returns-2)
+    (tie.spec (λ c. search needs) (λ c κs. search needs) returns (λ c κs. search needs) (λ c. search needs) returns-2)

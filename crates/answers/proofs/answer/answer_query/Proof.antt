@@ -8,37 +8,16 @@ use borrow.Author.Needs.{needs}
 use Rattle.answers.proofs.answer.answer_query.Statement.{statement}
 use Rattle.answers.proofs.answer.answer_query.Tie as tie
 
-surely-fits-requires : tie.Need-surely-fits-requires
-surely-fits-requires c κs = search needs
-
-put-query-requires : tie.Need-put-query-requires
-put-query-requires c κs = search needs
-
-same-length : tie.Need-same-length
-same-length c = search needs
-
 returns : tie.Need-returns
 returns c =
     let a = c .before .before .before .before .before .before .before .before .before .before .args in
     answered-surely (queryText (hitsOf (a .marks .now) (viewOf (a .table .now) (a .shown .now)))) (a .area .now) (c .before .before .put-query .last .0) (length (a .shown .now)) _ (c .before .before .put-query .ensures)
     (sym (c .before .before .before .before .before .surely-fits .ensures) ∙ c .before .before .before .before .if1 .taken)
 
-slice-aggregate-put-query : tie.Need-slice-aggregate-put-query
-slice-aggregate-put-query c = search needs
-
-put-query-requires-2 : tie.Need-put-query-requires-2
-put-query-requires-2 c κs = search needs
-
 returns-2 : tie.Need-returns-2
 returns-2 c =
     let a = c .before .before .before .before .before .before .before .before .before .before .args in
     answered-not (queryText (hitsOf (a .marks .now) (viewOf (a .table .now) (a .shown .now)))) (a .area .now) _ (omega (arith, c .before .before .put-query2 .ensures .0 .next)) (c .if2 .taken)
-
-put-query-requires-3 : tie.Need-put-query-requires-3
-put-query-requires-3 c κs = search needs
-
-same-length-2 : tie.Need-same-length-2
-same-length-2 c = search needs
 
 returns-3 : tie.Need-returns-3
 returns-3 c =
@@ -50,14 +29,5 @@ returns-3 c =
 pub answer-query-spec : {M : Type 1} → statement M
 answer-query-spec =
     tie.close
-    (tie.spec
-    surely-fits-requires
-    put-query-requires
-    same-length
-    returns
-    slice-aggregate-put-query
-    put-query-requires-2
-    returns-2
-    put-query-requires-3
-    same-length-2
-    returns-3)
+    (tie.spec (λ c κs. search needs) (λ c κs. search needs) (λ c. search needs) returns (λ c. search needs)
+    (λ c κs. search needs) returns-2 (λ c κs. search needs) (λ c. search needs) returns-3)

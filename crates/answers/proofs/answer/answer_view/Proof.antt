@@ -8,37 +8,16 @@ use borrow.Author.Needs.{needs}
 use Rattle.answers.proofs.answer.answer_view.Statement.{statement}
 use Rattle.answers.proofs.answer.answer_view.Tie as tie
 
-surely-fits-requires : tie.Need-surely-fits-requires
-surely-fits-requires c κs = search needs
-
-put-view-requires : tie.Need-put-view-requires
-put-view-requires c κs = search needs
-
-same-length : tie.Need-same-length
-same-length c = search needs
-
 returns : tie.Need-returns
 returns c =
     let a = c .before .before .before .before .before .before .before .before .before .args in
     answered-surely (viewText (viewOf (a .table .now) (a .shown .now))) (a .area .now) (c .before .before .put-view .last .0) (length (a .shown .now)) _ (c .before .before .put-view .ensures)
     (sym (c .before .before .before .before .before .surely-fits .ensures) ∙ c .before .before .before .before .if1 .taken)
 
-slice-aggregate-put-view : tie.Need-slice-aggregate-put-view
-slice-aggregate-put-view c = search needs
-
-put-view-requires-2 : tie.Need-put-view-requires-2
-put-view-requires-2 c κs = search needs
-
 returns-2 : tie.Need-returns-2
 returns-2 c =
     let a = c .before .before .before .before .before .before .before .before .before .args in
     answered-not (viewText (viewOf (a .table .now) (a .shown .now))) (a .area .now) _ (omega (arith, c .before .before .put-view2 .ensures .0 .next)) (c .if2 .taken)
-
-put-view-requires-3 : tie.Need-put-view-requires-3
-put-view-requires-3 c κs = search needs
-
-same-length-2 : tie.Need-same-length-2
-same-length-2 c = search needs
 
 returns-3 : tie.Need-returns-3
 returns-3 c =
@@ -50,14 +29,5 @@ returns-3 c =
 pub answer-view-spec : {M : Type 1} → statement M
 answer-view-spec =
     tie.close
-    (tie.spec
-    surely-fits-requires
-    put-view-requires
-    same-length
-    returns
-    slice-aggregate-put-view
-    put-view-requires-2
-    returns-2
-    put-view-requires-3
-    same-length-2
-    returns-3)
+    (tie.spec (λ c κs. search needs) (λ c κs. search needs) (λ c. search needs) returns (λ c. search needs)
+    (λ c κs. search needs) returns-2 (λ c κs. search needs) (λ c. search needs) returns-3)

@@ -17,21 +17,6 @@ abbrev μ-loop : tie.MeasureT-loop
 loop-holds : tie.Need-loop-holds Inv-loop μ-loop
 loop-holds c = (search needs, refl, paste-zero (c .args .area .now) (c .args .at) (c .args .s .now))
 
-add-area : tie.Need-add-area Inv-loop μ-loop
-add-area c = search needs
-
-shared-slice-read-area : tie.Need-shared-slice-read-area Inv-loop μ-loop
-shared-slice-read-area c = search needs
-
-slice-write-area : tie.Need-slice-write-area Inv-loop μ-loop
-slice-write-area c = search needs
-
-add-i : tie.Need-add-i Inv-loop μ-loop
-add-i c = search needs
-
-loop-less : tie.Need-loop-less Inv-loop μ-loop
-loop-less c = search needs
-
 loop-again : tie.Need-loop-again Inv-loop μ-loop
 loop-again c =
     let l = c .before .before .loop in
@@ -41,9 +26,6 @@ loop-again c =
       copy-more (l .area) (a .area .now) (a .s .now) (a .at) (l .i) (omega arith) (omega arith) (l .inv .2),
     )
 
-same-length : tie.Need-same-length Inv-loop μ-loop
-same-length c = search needs
-
 returns : tie.Need-returns Inv-loop μ-loop
 returns c =
     let e : c .before .loop .i ≡ length (c .before .before .args .s .now) = omega arith in
@@ -52,15 +34,5 @@ returns c =
 pub copy-spec : {M : Type 1} → statement M
 copy-spec =
     tie.close
-    (tie.spec
-    Inv-loop
-    μ-loop
-    loop-holds
-    shared-slice-read-area
-    add-area
-    slice-write-area
-    add-i
-    loop-less
-    loop-again
-    same-length
-    returns)
+    (tie.spec Inv-loop μ-loop loop-holds (λ c. search needs) (λ c. search needs) (λ c. search needs) (λ c. search needs)
+    (λ c. search needs) loop-again (λ c. search needs) returns)

@@ -22,24 +22,12 @@ loop-holds c =
     let a = c .before .before .before .args in
     (search needs, search needs, search needs, refl, toward-start (childLines (drop 1 (viewOf (a .table .now) (a .shown .now)))) (a .at) (a .area .now))
 
-put-node-requires : tie.Need-put-node-requires Inv-loop μ-loop
-put-node-requires c κs = search needs
-
-add-i : tie.Need-add-i Inv-loop μ-loop
-add-i c = search needs
-
-loop-less : tie.Need-loop-less Inv-loop μ-loop
-loop-less c = search needs
-
 loop-again : tie.Need-loop-again Inv-loop μ-loop
 loop-again c =
     let a = c .before .before .before .before .before .before .before .before .before .args in
     let l = c .before .before .before .before .before .loop in
     let n = view-length (a .table .now) (a .shown .now) in
     (search needs, search needs, search needs, search needs, toward-more (l .inv .4) (c .before .before .put-node .ensures .0) (children-step (viewOf (a .table .now) (a .shown .now)) (l .i) (omega arith)))
-
-same-length : tie.Need-same-length Inv-loop μ-loop
-same-length c = search needs
 
 returns : tie.Need-returns Inv-loop μ-loop
 returns c =
@@ -51,13 +39,5 @@ returns c =
 pub put-children-spec : {M : Type 1} → statement M
 put-children-spec =
     tie.close
-    (tie.spec
-    Inv-loop
-    μ-loop
-    loop-holds
-    put-node-requires
-    add-i
-    loop-less
-    loop-again
-    same-length
-    returns)
+    (tie.spec Inv-loop μ-loop loop-holds (λ c κs. search needs) (λ c. search needs) (λ c. search needs) loop-again
+    (λ c. search needs) returns)

@@ -19,15 +19,6 @@ abbrev μ-loop : tie.MeasureT-loop
 loop-holds : tie.Need-loop-holds Inv-loop μ-loop
 loop-holds c = (search needs, refl, refl)
 
-shared-slice-read-if1 : tie.Need-shared-slice-read-if1 Inv-loop μ-loop
-shared-slice-read-if1 c = search needs
-
-put-hit-requires : tie.Need-put-hit-requires Inv-loop μ-loop
-put-hit-requires c κs = search needs
-
-same-length : tie.Need-same-length Inv-loop μ-loop
-same-length c = search needs
-
 returns : tie.Need-returns Inv-loop μ-loop
 returns c =
     let a = c .before .before .before .before .before .before .before .before .before .before .before .before .args in
@@ -35,27 +26,12 @@ returns c =
     let n = view-length (a .table .now) (a .shown .now) in
     rw (found-hit (a .marks .now) (viewOf (a .table .now) (a .shown .now)) (l .i) (l .inv .2) (omega arith) (omega arith) (c .before .before .before .before .if1 .taken), ← (l .inv .1)) (c .before .before .put-hit .ensures .0)
 
-add-i : tie.Need-add-i Inv-loop μ-loop
-add-i c = search needs
-
-loop-less : tie.Need-loop-less Inv-loop μ-loop
-loop-less c = search needs
-
 loop-again : tie.Need-loop-again Inv-loop μ-loop
 loop-again c =
     let a = c .before .before .before .before .before .before .before .before .args in
     let l = c .before .before .before .loop in
     let n = view-length (a .table .now) (a .shown .now) in
     (search needs, l .inv .1, sym (hits-pass (a .marks .now) (viewOf (a .table .now) (a .shown .now)) (l .i) (omega arith) (omega arith) (c .if1 .left)) ∙ l .inv .2)
-
-slice-aggregate-put-bytes : tie.Need-slice-aggregate-put-bytes Inv-loop μ-loop
-slice-aggregate-put-bytes c = search needs
-
-put-bytes-requires : tie.Need-put-bytes-requires Inv-loop μ-loop
-put-bytes-requires c κs = search needs
-
-same-length-2 : tie.Need-same-length-2 Inv-loop μ-loop
-same-length-2 c = search needs
 
 returns-2 : tie.Need-returns-2 Inv-loop μ-loop
 returns-2 c =
@@ -67,18 +43,6 @@ returns-2 c =
 pub put-found-spec : {M : Type 1} → statement M
 put-found-spec =
     tie.close
-    (tie.spec
-    Inv-loop
-    μ-loop
-    loop-holds
-    shared-slice-read-if1
-    put-hit-requires
-    same-length
-    returns
-    add-i
-    loop-less
-    loop-again
-    slice-aggregate-put-bytes
-    put-bytes-requires
-    same-length-2
+    (tie.spec Inv-loop μ-loop loop-holds (λ c. search needs) (λ c κs. search needs) (λ c. search needs) returns
+    (λ c. search needs) (λ c. search needs) loop-again (λ c. search needs) (λ c κs. search needs) (λ c. search needs)
     returns-2)

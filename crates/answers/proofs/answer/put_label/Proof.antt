@@ -10,31 +10,10 @@ use borrow.Author.Needs.{needs}
 use Rattle.answers.proofs.answer.put_label.Statement.{statement}
 use Rattle.answers.proofs.answer.put_label.Tie as tie
 
-mul-x : tie.Need-mul-x
-mul-x c = search needs
-
-shared-slice-read-x : tie.Need-shared-slice-read-x
-shared-slice-read-x c = search needs
-
-wide-number-requires : tie.Need-wide-number-requires
-wide-number-requires c κs = search needs
-
-slice-aggregate-put-bytes : tie.Need-slice-aggregate-put-bytes
-slice-aggregate-put-bytes c = search needs
-
-put-bytes-requires : tie.Need-put-bytes-requires
-put-bytes-requires c κs = search needs
-
-same-length : tie.Need-same-length
-same-length c = search needs
-
 returns : tie.Need-returns
 returns c =
     let a = c .before .before .before .before .before .before .before .before .before .before .before .args in
     (rw (label-hidden (a .table .now) (a .shown .now) (a .i) (omega arith) (omega arith)) (c .before .before .put-bytes .ensures), omega (arith, c .before .before .put-bytes .ensures .next))
-
-record-place-requires : tie.Need-record-place-requires
-record-place-requires c κs = search needs
 
 add-from : tie.Need-add-from
 add-from c =
@@ -51,20 +30,11 @@ shared-slice-read-wide c =
     let w = c .before .before .before .before .before .before .before .before .pre .0 .stands (c .before .before .before .before .before .before .before .before .args .i) (omega arith) in
     omega (arith, w .room, c .before .record-place .ensures)
 
-wide-requires : tie.Need-wide-requires
-wide-requires c κs = search needs
-
 add-end : tie.Need-add-end
 add-end c =
     let w = c .before .before .before .before .before .before .before .before .before .pre .0 .stands (c .before .before .before .before .before .before .before .before .before .args .i) (omega arith) in
     let s = label-short (c .before .before .before .before .before .before .before .before .before .args .table .now) (recordPlace (getD (c .before .before .before .before .before .before .before .before .before .args .shown .now) (c .before .before .before .before .before .before .before .before .before .args .i) 0)) (w .short) (c .before .before .record-place .ensures) (c .wide .ensures) in
     omega (arith, w .room, c .before .before .record-place .ensures)
-
-sub-put-bytes : tie.Need-sub-put-bytes
-sub-put-bytes c = search needs
-
-part-put-bytes-start : tie.Need-part-put-bytes-start
-part-put-bytes-start c = search needs
 
 part-put-bytes-end : tie.Need-part-put-bytes-end
 part-put-bytes-end c =
@@ -80,9 +50,6 @@ put-bytes-requires-2 c κs =
     let n = c .before .before .wide .result in
     omega (arith, take-short (f + n - f) (drop f (c .before .before .before .before .before .before .before .before .before .before .before .args .table .now)))
 
-same-length-2 : tie.Need-same-length-2
-same-length-2 c = search needs
-
 returns-2 : tie.Need-returns-2
 returns-2 c =
     let a = c .before .before .before .before .before .before .before .before .before .before .before .before .before .before .args in
@@ -96,23 +63,7 @@ returns-2 c =
 pub put-label-spec : {M : Type 1} → statement M
 put-label-spec =
     tie.close
-    (tie.spec
-    mul-x
-    shared-slice-read-x
-    wide-number-requires
-    slice-aggregate-put-bytes
-    put-bytes-requires
-    same-length
-    returns
-    record-place-requires
-    add-from
-    add-wide
-    shared-slice-read-wide
-    wide-requires
-    add-end
-    sub-put-bytes
-    part-put-bytes-start
-    part-put-bytes-end
-    put-bytes-requires-2
-    same-length-2
+    (tie.spec (λ c. search needs) (λ c. search needs) (λ c κs. search needs) (λ c. search needs) (λ c κs. search needs)
+    (λ c. search needs) returns (λ c κs. search needs) add-from add-wide shared-slice-read-wide (λ c κs. search needs)
+    add-end (λ c. search needs) (λ c. search needs) part-put-bytes-end put-bytes-requires-2 (λ c. search needs)
     returns-2)

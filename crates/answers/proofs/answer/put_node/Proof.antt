@@ -6,27 +6,6 @@ use borrow.Author.Needs.{needs}
 use Rattle.answers.proofs.answer.put_node.Statement.{statement}
 use Rattle.answers.proofs.answer.put_node.Tie as tie
 
-level-at-requires : tie.Need-level-at-requires
-level-at-requires c κs = search needs
-
-next-level-requires : tie.Need-next-level-requires
-next-level-requires c κs = search needs
-
-put-opening-requires : tie.Need-put-opening-requires
-put-opening-requires c κs = search needs
-
-put-label-requires : tie.Need-put-label-requires
-put-label-requires c κs = search needs
-
-add-put-closing : tie.Need-add-put-closing
-add-put-closing c = search needs
-
-put-closing-requires : tie.Need-put-closing-requires
-put-closing-requires c κs = search needs
-
-same-length : tie.Need-same-length
-same-length c = search needs
-
 returns : tie.Need-returns
 unfolding levelAt labelAt nodeText
 returns c =
@@ -38,12 +17,5 @@ returns c =
 pub put-node-spec : {M : Type 1} → statement M
 put-node-spec =
     tie.close
-    (tie.spec
-    level-at-requires
-    next-level-requires
-    put-opening-requires
-    put-label-requires
-    add-put-closing
-    put-closing-requires
-    same-length
-    returns)
+    (tie.spec (λ c κs. search needs) (λ c κs. search needs) (λ c κs. search needs) (λ c κs. search needs)
+    (λ c. search needs) (λ c κs. search needs) (λ c. search needs) returns)

@@ -4,26 +4,8 @@ use borrow.Author.Needs.{needs}
 use Rattle.answers.proofs.answer.put_opening.Statement.{statement}
 use Rattle.answers.proofs.answer.put_opening.Tie as tie
 
-slice-aggregate-put-bytes : tie.Need-slice-aggregate-put-bytes
-slice-aggregate-put-bytes c = search needs
-
-put-bytes-requires : tie.Need-put-bytes-requires
-put-bytes-requires c κs = search needs
-
-same-length : tie.Need-same-length
-same-length c = search needs
-
 returns : tie.Need-returns
 returns c = (rw (eq-eqb (c .before .before .before .before .before .before .before .args .level) 1 (c .before .before .before .before .before .if1 .taken)) (c .before .before .put-bytes .ensures), omega (arith, c .before .before .put-bytes .ensures .next))
-
-slice-aggregate-put-bytes-2 : tie.Need-slice-aggregate-put-bytes-2
-slice-aggregate-put-bytes-2 c = search needs
-
-put-bytes-requires-2 : tie.Need-put-bytes-requires-2
-put-bytes-requires-2 c κs = search needs
-
-same-length-2 : tie.Need-same-length-2
-same-length-2 c = search needs
 
 returns-2 : tie.Need-returns-2
 returns-2 c = (rw (ne-eqb (c .before .before .before .before .before .before .before .args .level) 1 (c .before .before .before .before .before .if1 .left)) (c .before .before .put-bytes2 .ensures), omega (arith, c .before .before .put-bytes2 .ensures .next))
@@ -31,12 +13,5 @@ returns-2 c = (rw (ne-eqb (c .before .before .before .before .before .before .be
 pub put-opening-spec : {M : Type 1} → statement M
 put-opening-spec =
     tie.close
-    (tie.spec
-    slice-aggregate-put-bytes
-    put-bytes-requires
-    same-length
-    returns
-    slice-aggregate-put-bytes-2
-    put-bytes-requires-2
-    same-length-2
-    returns-2)
+    (tie.spec (λ c. search needs) (λ c κs. search needs) (λ c. search needs) returns (λ c. search needs)
+    (λ c κs. search needs) (λ c. search needs) returns-2)

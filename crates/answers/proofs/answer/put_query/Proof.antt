@@ -10,27 +10,6 @@ use borrow.Author.Needs.{needs}
 use Rattle.answers.proofs.answer.put_query.Statement.{statement}
 use Rattle.answers.proofs.answer.put_query.Tie as tie
 
-sub-count-marked : tie.Need-sub-count-marked
-sub-count-marked c = search needs
-
-part-count-marked-start : tie.Need-part-count-marked-start
-part-count-marked-start c = search needs
-
-part-count-marked-end : tie.Need-part-count-marked-end
-part-count-marked-end c = search needs
-
-count-marked-requires : tie.Need-count-marked-requires
-count-marked-requires c κs = search needs
-
-put-hits-requires : tie.Need-put-hits-requires
-put-hits-requires c κs = search needs
-
-put-end-requires : tie.Need-put-end-requires
-put-end-requires c κs = search needs
-
-same-length : tie.Need-same-length
-same-length c = search needs
-
 returns : tie.Need-returns
 returns c =
     let a = c .before .before .before .before .before .before .before .before .before .before .before .before .before .before .args in
@@ -43,12 +22,5 @@ returns c =
 pub put-query-spec : {M : Type 1} → statement M
 put-query-spec =
     tie.close
-    (tie.spec
-    sub-count-marked
-    part-count-marked-start
-    part-count-marked-end
-    count-marked-requires
-    put-hits-requires
-    put-end-requires
-    same-length
-    returns)
+    (tie.spec (λ c. search needs) (λ c. search needs) (λ c. search needs) (λ c κs. search needs) (λ c κs. search needs)
+    (λ c κs. search needs) (λ c. search needs) returns)

@@ -9,29 +9,11 @@ use borrow.Author.Needs.{needs}
 use Rattle.answers.proofs.answer.put_view.Statement.{statement}
 use Rattle.answers.proofs.answer.put_view.Tie as tie
 
-put-end-requires : tie.Need-put-end-requires
-put-end-requires c κs = search needs
-
-same-length : tie.Need-same-length
-same-length c = search needs
-
 returns : tie.Need-returns
 returns c =
     let a = c .before .before .before .before .before .before .before .before .args in
     let n = view-length (a .table .now) (a .shown .now) in
     (rw (view-none (viewOf (a .table .now) (a .shown .now)) (omega arith)) (c .before .before .put-end .ensures .0), omega (arith, c .before .before .put-end .ensures .1))
-
-put-root-requires : tie.Need-put-root-requires
-put-root-requires c κs = search needs
-
-put-children-requires : tie.Need-put-children-requires
-put-children-requires c κs = search needs
-
-put-end-requires-2 : tie.Need-put-end-requires-2
-put-end-requires-2 c κs = search needs
-
-same-length-2 : tie.Need-same-length-2
-same-length-2 c = search needs
 
 returns-2 : tie.Need-returns-2
 returns-2 c =
@@ -45,12 +27,5 @@ returns-2 c =
 pub put-view-spec : {M : Type 1} → statement M
 put-view-spec =
     tie.close
-    (tie.spec
-    put-end-requires
-    same-length
-    returns
-    put-root-requires
-    put-children-requires
-    put-end-requires-2
-    same-length-2
-    returns-2)
+    (tie.spec (λ c κs. search needs) (λ c. search needs) returns (λ c κs. search needs) (λ c κs. search needs)
+    (λ c κs. search needs) (λ c. search needs) returns-2)

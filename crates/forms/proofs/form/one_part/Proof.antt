@@ -9,9 +9,6 @@ use borrow.Author.Needs.{needs}
 use Rattle.forms.proofs.form.one_part.Statement.{statement}
 use Rattle.forms.proofs.form.one_part.Tie as tie
 
-is-nothing-requires : tie.Need-is-nothing-requires
-is-nothing-requires c κs = search needs
-
 returns : tie.Need-returns
 returns c =
     let s : List ℕ = c .before .before .before .args .s .now in
@@ -26,21 +23,12 @@ returns-2 c =
     let k = c .before .before .before .before .args .k in
     bad-onward _ _ (part-unparted s at k (sym (c .before .before .is-nothing .ensures) ∙ c .before .if1 .left) (past s at 32 (c .if2 .taken) (omega arith)))
 
-shared-slice-read-if3 : tie.Need-shared-slice-read-if3
-shared-slice-read-if3 c = search needs
-
 returns-3 : tie.Need-returns-3
 returns-3 c =
     let s : List ℕ = c .before .before .before .before .before .before .args .s .now in
     let at : ℕ = c .before .before .before .before .before .before .args .at in
     let k = c .before .before .before .before .before .before .args .k in
     bad-onward _ _ (part-unparted s at k (sym (c .before .before .before .before .is-nothing .ensures) ∙ c .before .before .before .if1 .left) (c .if3 .taken))
-
-add-part-end : tie.Need-add-part-end
-add-part-end c = search needs
-
-part-end-requires : tie.Need-part-end-requires
-part-end-requires c κs = search needs
 
 returns-4 : tie.Need-returns-4
 returns-4 c =
@@ -52,12 +40,5 @@ returns-4 c =
 pub one-part-spec : {M : Type 1} → statement M
 one-part-spec =
     tie.close
-    (tie.spec
-    is-nothing-requires
-    returns
-    returns-2
-    shared-slice-read-if3
-    returns-3
-    add-part-end
-    part-end-requires
-    returns-4)
+    (tie.spec (λ c κs. search needs) returns returns-2 (λ c. search needs) returns-3 (λ c. search needs)
+    (λ c κs. search needs) returns-4)

@@ -5,39 +5,6 @@ use borrow.Author.Needs.{needs}
 use Rattle.forms.proofs.form.part_end.Statement.{statement}
 use Rattle.forms.proofs.form.part_end.Tie as tie
 
-enum-told : tie.Need-enum-told
-enum-told c = search needs
-
-next-label-requires : tie.Need-next-label-requires
-next-label-requires c κs = search needs
-
-enum-told-2 : tie.Need-enum-told-2
-enum-told-2 c = search needs
-
-next-path-requires : tie.Need-next-path-requires
-next-path-requires c κs = search needs
-
-enum-told-3 : tie.Need-enum-told-3
-enum-told-3 c = search needs
-
-next-tree-requires : tie.Need-next-tree-requires
-next-tree-requires c κs = search needs
-
-enum-told-4 : tie.Need-enum-told-4
-enum-told-4 c = search needs
-
-sign-end-requires : tie.Need-sign-end-requires
-sign-end-requires c κs = search needs
-
-enum-told-5 : tie.Need-enum-told-5
-enum-told-5 c = search needs
-
-right-end-requires : tie.Need-right-end-requires
-right-end-requires c κs = search needs
-
-enum-told-6 : tie.Need-enum-told-6
-enum-told-6 c = search needs
-
 returns : tie.Need-returns
 returns c = earlier _ _ _ (rw (c .before .enum-told .given .1)) (omega arith) (c .next-label .ensures)
 
@@ -59,21 +26,6 @@ returns-6 c = bad-onward _ _ (rw (c .enum-told6 .given .1))
 pub part-end-spec : {M : Type 1} → statement M
 part-end-spec =
     tie.close
-    (tie.spec
-    enum-told
-    next-label-requires
-    enum-told-2
-    next-path-requires
-    enum-told-3
-    next-tree-requires
-    enum-told-4
-    sign-end-requires
-    enum-told-5
-    right-end-requires
-    enum-told-6
-    returns
-    returns-2
-    returns-3
-    returns-4
-    returns-5
-    returns-6)
+    (tie.spec (λ c. search needs) (λ c κs. search needs) (λ c. search needs) (λ c κs. search needs) (λ c. search needs)
+    (λ c κs. search needs) (λ c. search needs) (λ c κs. search needs) (λ c. search needs) (λ c κs. search needs)
+    (λ c. search needs) returns returns-2 returns-3 returns-4 returns-5 returns-6)

@@ -9,15 +9,6 @@ use borrow.Author.Needs.{needs}
 use Rattle.forms.proofs.form.parts.Statement.{statement}
 use Rattle.forms.proofs.form.parts.Tie as tie
 
-one-part-requires : tie.Need-one-part-requires
-one-part-requires c κs = search needs
-
-enum-known-e1 : tie.Need-enum-known-e1
-enum-known-e1 c = search needs
-
-enum-told : tie.Need-enum-told
-enum-told c = search needs
-
 returns : tie.Need-returns
 returns c =
     let s : List ℕ = c .before .before .before .before .args .s .now in
@@ -27,12 +18,6 @@ returns c =
 
 one-part-requires-2 : tie.Need-one-part-requires-2
 one-part-requires-2 c κs = omega (arith, c .before .before .before .one-part .ensures .on _ (c .before .e1 .given .1) .1)
-
-enum-known-e2 : tie.Need-enum-known-e2
-enum-known-e2 c = search needs
-
-enum-told-2 : tie.Need-enum-told-2
-enum-told-2 c = search needs
 
 returns-2 : tie.Need-returns-2
 returns-2 c =
@@ -45,12 +30,6 @@ returns-2 c =
 
 one-part-requires-3 : tie.Need-one-part-requires-3
 one-part-requires-3 c κs = omega (arith, c .before .before .before .one-part2 .ensures .on _ (c .before .e2 .given .1) .1)
-
-enum-known-e3 : tie.Need-enum-known-e3
-enum-known-e3 c = search needs
-
-enum-told-3 : tie.Need-enum-told-3
-enum-told-3 c = search needs
 
 returns-3 : tie.Need-returns-3
 returns-3 c =
@@ -65,12 +44,6 @@ returns-3 c =
 
 one-part-requires-4 : tie.Need-one-part-requires-4
 one-part-requires-4 c κs = omega (arith, c .before .before .before .one-part3 .ensures .on _ (c .before .e3 .given .1) .1)
-
-enum-known-e4 : tie.Need-enum-known-e4
-enum-known-e4 c = search needs
-
-enum-told-4 : tie.Need-enum-told-4
-enum-told-4 c = search needs
 
 returns-4 : tie.Need-returns-4
 returns-4 c =
@@ -100,9 +73,6 @@ returns-5 c =
     let e4 : ℕ = c .before .before .e4 .given .0 .0 in
     bad-parts (unclosed k s at e1 r1 e2 r2 e3 r3 e4 r4 (past s e4 41 (c .if1 .taken) (omega arith)))
 
-shared-slice-read-if2 : tie.Need-shared-slice-read-if2
-shared-slice-read-if2 c = search needs
-
 returns-6 : tie.Need-returns-6
 returns-6 c =
     let s : List ℕ = c .before .before .before .before .before .before .before .before .before .before .before .before .before .before .before .before .before .before .before .before .args .s .now in
@@ -117,9 +87,6 @@ returns-6 c =
     let r4 = sym (c .before .before .before .before .before .before .one-part4 .ensures .is) ∙ c .before .before .before .before .e4 .given .1 in
     let e4 : ℕ = c .before .before .before .before .e4 .given .0 .0 in
     bad-parts (unclosed k s at e1 r1 e2 r2 e3 r3 e4 r4 (c .if2 .taken))
-
-add-if3 : tie.Need-add-if3
-add-if3 c = search needs
 
 returns-7 : tie.Need-returns-7
 returns-7 c =
@@ -154,26 +121,7 @@ returns-8 c =
 pub parts-spec : {M : Type 1} → statement M
 parts-spec =
     tie.close
-    (tie.spec
-    one-part-requires
-    enum-known-e1
-    enum-told
-    returns
-    one-part-requires-2
-    enum-known-e2
-    enum-told-2
-    returns-2
-    one-part-requires-3
-    enum-known-e3
-    enum-told-3
-    returns-3
-    one-part-requires-4
-    enum-known-e4
-    enum-told-4
-    returns-4
-    returns-5
-    shared-slice-read-if2
-    returns-6
-    add-if3
-    returns-7
-    returns-8)
+    (tie.spec (λ c κs. search needs) (λ c. search needs) (λ c. search needs) returns one-part-requires-2
+    (λ c. search needs) (λ c. search needs) returns-2 one-part-requires-3 (λ c. search needs) (λ c. search needs)
+    returns-3 one-part-requires-4 (λ c. search needs) (λ c. search needs) returns-4 returns-5 (λ c. search needs)
+    returns-6 (λ c. search needs) returns-7 returns-8)

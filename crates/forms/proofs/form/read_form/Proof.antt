@@ -15,32 +15,11 @@ returns c =
     let tree : List ℕ = c .before .before .before .args .tree .now in
     refused-first s tree (past s 0 40 (omega arith) (omega arith))
 
-shared-slice-read-if2 : tie.Need-shared-slice-read-if2
-shared-slice-read-if2 c = search needs
-
 returns-2 : tie.Need-returns-2
 returns-2 c =
     let s : List ℕ = c .before .before .before .before .before .args .s .now in
     let tree : List ℕ = c .before .before .before .before .before .args .tree .now in
     refused-first s tree (c .if2 .taken)
-
-next-word-requires : tie.Need-next-word-requires
-next-word-requires c κs = search needs
-
-word-at-requires : tie.Need-word-at-requires
-word-at-requires c κs = search needs
-
-shape-of-requires : tie.Need-shape-of-requires
-shape-of-requires c κs = search needs
-
-parts-requires : tie.Need-parts-requires
-parts-requires c κs = search needs
-
-enum-known-e1 : tie.Need-enum-known-e1
-enum-known-e1 c = search needs
-
-enum-told : tie.Need-enum-told
-enum-told c = search needs
 
 returns-3 : tie.Need-returns-3
 returns-3 c =
@@ -53,16 +32,10 @@ tree-place-requires c κs =
     let o = c .before .before .before .parts .ensures .on _ _ _ _ (c .before .e1 .given .1) in
     omega arith
 
-put-tree-at-requires : tie.Need-put-tree-at-requires
-put-tree-at-requires c κs = search needs
-
 build-requires : tie.Need-build-requires
 build-requires c κs =
     let o = c .before .before .before .before .before .before .before .before .parts .ensures .on _ _ _ _ (c .before .before .before .before .before .before .e1 .given .1) in
     omega arith
-
-same-length : tie.Need-same-length
-same-length c = search needs
 
 returns-4 : tie.Need-returns-4
 returns-4 c =
@@ -73,19 +46,6 @@ returns-4 c =
 pub read-form-spec : {M : Type 1} → statement M
 read-form-spec =
     tie.close
-    (tie.spec
-    returns
-    shared-slice-read-if2
-    returns-2
-    next-word-requires
-    word-at-requires
-    shape-of-requires
-    parts-requires
-    enum-known-e1
-    enum-told
-    returns-3
-    tree-place-requires
-    put-tree-at-requires
-    build-requires
-    same-length
-    returns-4)
+    (tie.spec returns (λ c. search needs) returns-2 (λ c κs. search needs) (λ c κs. search needs) (λ c κs. search needs)
+    (λ c κs. search needs) (λ c. search needs) (λ c. search needs) returns-3 tree-place-requires (λ c κs. search needs)
+    build-requires (λ c. search needs) returns-4)

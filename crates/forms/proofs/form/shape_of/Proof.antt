@@ -3,102 +3,6 @@ use borrow.Author.Needs.{needs}
 use Rattle.forms.proofs.form.shape_of.Statement.{statement}
 use Rattle.forms.proofs.form.shape_of.Tie as tie
 
-enum-told : tie.Need-enum-told
-enum-told c = search needs
-
-shaped-requires : tie.Need-shaped-requires
-shaped-requires c κs = search needs
-
-enum-told-2 : tie.Need-enum-told-2
-enum-told-2 c = search needs
-
-shaped-requires-2 : tie.Need-shaped-requires-2
-shaped-requires-2 c κs = search needs
-
-enum-told-3 : tie.Need-enum-told-3
-enum-told-3 c = search needs
-
-shaped-requires-3 : tie.Need-shaped-requires-3
-shaped-requires-3 c κs = search needs
-
-enum-told-4 : tie.Need-enum-told-4
-enum-told-4 c = search needs
-
-shaped-requires-4 : tie.Need-shaped-requires-4
-shaped-requires-4 c κs = search needs
-
-enum-told-5 : tie.Need-enum-told-5
-enum-told-5 c = search needs
-
-shaped-requires-5 : tie.Need-shaped-requires-5
-shaped-requires-5 c κs = search needs
-
-enum-told-6 : tie.Need-enum-told-6
-enum-told-6 c = search needs
-
-shaped-requires-6 : tie.Need-shaped-requires-6
-shaped-requires-6 c κs = search needs
-
-enum-told-7 : tie.Need-enum-told-7
-enum-told-7 c = search needs
-
-shaped-requires-7 : tie.Need-shaped-requires-7
-shaped-requires-7 c κs = search needs
-
-enum-told-8 : tie.Need-enum-told-8
-enum-told-8 c = search needs
-
-shaped-requires-8 : tie.Need-shaped-requires-8
-shaped-requires-8 c κs = search needs
-
-enum-told-9 : tie.Need-enum-told-9
-enum-told-9 c = search needs
-
-shaped-requires-9 : tie.Need-shaped-requires-9
-shaped-requires-9 c κs = search needs
-
-enum-told-10 : tie.Need-enum-told-10
-enum-told-10 c = search needs
-
-shaped-requires-10 : tie.Need-shaped-requires-10
-shaped-requires-10 c κs = search needs
-
-enum-told-11 : tie.Need-enum-told-11
-enum-told-11 c = search needs
-
-shaped-requires-11 : tie.Need-shaped-requires-11
-shaped-requires-11 c κs = search needs
-
-enum-told-12 : tie.Need-enum-told-12
-enum-told-12 c = search needs
-
-shaped-requires-12 : tie.Need-shaped-requires-12
-shaped-requires-12 c κs = search needs
-
-enum-told-13 : tie.Need-enum-told-13
-enum-told-13 c = search needs
-
-shaped-requires-13 : tie.Need-shaped-requires-13
-shaped-requires-13 c κs = search needs
-
-enum-told-14 : tie.Need-enum-told-14
-enum-told-14 c = search needs
-
-shaped-requires-14 : tie.Need-shaped-requires-14
-shaped-requires-14 c κs = search needs
-
-enum-told-15 : tie.Need-enum-told-15
-enum-told-15 c = search needs
-
-shaped-requires-15 : tie.Need-shaped-requires-15
-shaped-requires-15 c κs = search needs
-
-enum-told-16 : tie.Need-enum-told-16
-enum-told-16 c = search needs
-
-shaped-requires-16 : tie.Need-shaped-requires-16
-shaped-requires-16 c κs = search needs
-
 returns : tie.Need-returns
 returns c = rw (c .before .enum-told .given .1) (c .shaped .ensures)
 
@@ -150,52 +54,11 @@ returns-16 c = rw (c .before .enum-told16 .given .1) (c .shaped16 .ensures)
 pub shape-of-spec : {M : Type 1} → statement M
 shape-of-spec =
     tie.close
-    (tie.spec
-    enum-told
-    shaped-requires
-    enum-told-2
-    shaped-requires-2
-    enum-told-3
-    shaped-requires-3
-    enum-told-4
-    shaped-requires-4
-    enum-told-5
-    shaped-requires-5
-    enum-told-6
-    shaped-requires-6
-    enum-told-7
-    shaped-requires-7
-    enum-told-8
-    shaped-requires-8
-    enum-told-9
-    shaped-requires-9
-    enum-told-10
-    shaped-requires-10
-    enum-told-11
-    shaped-requires-11
-    enum-told-12
-    shaped-requires-12
-    enum-told-13
-    shaped-requires-13
-    enum-told-14
-    shaped-requires-14
-    enum-told-15
-    shaped-requires-15
-    enum-told-16
-    shaped-requires-16
-    returns
-    returns-2
-    returns-3
-    returns-4
-    returns-5
-    returns-6
-    returns-7
-    returns-8
-    returns-9
-    returns-10
-    returns-11
-    returns-12
-    returns-13
-    returns-14
-    returns-15
-    returns-16)
+    (tie.spec (λ c. search needs) (λ c κs. search needs) (λ c. search needs) (λ c κs. search needs) (λ c. search needs)
+    (λ c κs. search needs) (λ c. search needs) (λ c κs. search needs) (λ c. search needs) (λ c κs. search needs)
+    (λ c. search needs) (λ c κs. search needs) (λ c. search needs) (λ c κs. search needs) (λ c. search needs)
+    (λ c κs. search needs) (λ c. search needs) (λ c κs. search needs) (λ c. search needs) (λ c κs. search needs)
+    (λ c. search needs) (λ c κs. search needs) (λ c. search needs) (λ c κs. search needs) (λ c. search needs)
+    (λ c κs. search needs) (λ c. search needs) (λ c κs. search needs) (λ c. search needs) (λ c κs. search needs)
+    (λ c. search needs) (λ c κs. search needs) returns returns-2 returns-3 returns-4 returns-5 returns-6 returns-7
+    returns-8 returns-9 returns-10 returns-11 returns-12 returns-13 returns-14 returns-15 returns-16)

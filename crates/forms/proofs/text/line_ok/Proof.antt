@@ -23,23 +23,11 @@ returns c = rw (lt-leb (length (c .before .before .args .s .now)) 1024 (c .if1 .
 loop-holds : tie.Need-loop-holds Inv-loop μ-loop
 loop-holds c = (omega arith, omega arith, refl)
 
-shared-slice-read-line-byte : tie.Need-shared-slice-read-line-byte Inv-loop μ-loop
-shared-slice-read-line-byte c = omega arith
-
-line-byte-requires : tie.Need-line-byte-requires Inv-loop μ-loop
-line-byte-requires c κs = tt
-
 returns-2 : tie.Need-returns-2 Inv-loop μ-loop
 unfolding lineOk
 returns-2 c =
     let inv = c .before .before .before .before .loop .inv in
     rw (le-leb _ 1024 (inv .0)) (sym (inv .2 ∙ all-stop lineByte _ _ (c .before .before .before .loop-test .taken) (sym (c .before .line-byte .ensures) ∙ not-true _ (c .if2 .taken))))
-
-add-i : tie.Need-add-i Inv-loop μ-loop
-add-i c = omega arith
-
-loop-less : tie.Need-loop-less Inv-loop μ-loop
-loop-less c = omega arith
 
 loop-again : tie.Need-loop-again Inv-loop μ-loop
 loop-again c = (
@@ -57,15 +45,5 @@ returns-3 c =
 pub line-ok-spec : {M : Type 1} → statement M
 line-ok-spec =
     tie.close
-    (tie.spec
-    Inv-loop
-    μ-loop
-    returns
-    loop-holds
-    shared-slice-read-line-byte
-    line-byte-requires
-    returns-2
-    add-i
-    loop-less
-    loop-again
-    returns-3)
+    (tie.spec Inv-loop μ-loop returns loop-holds (λ c. omega arith) (λ c κs. tt) returns-2 (λ c. omega arith)
+    (λ c. omega arith) loop-again returns-3)

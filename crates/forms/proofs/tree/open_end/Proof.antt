@@ -16,20 +16,11 @@ returns c =
     let at : ℕ = c .before .before .args .at in
     bad-onward _ _ (open-not s at (past s at 40 (c .if1 .taken) (omega arith)))
 
-shared-slice-read-if2 : tie.Need-shared-slice-read-if2
-shared-slice-read-if2 c = search needs
-
 returns-2 : tie.Need-returns-2
 returns-2 c =
     let s : List ℕ = c .before .before .before .before .args .s .now in
     let at : ℕ = c .before .before .before .before .args .at in
     bad-onward _ _ (open-not s at (c .if2 .taken))
-
-add-label-part-end : tie.Need-add-label-part-end
-add-label-part-end c = search needs
-
-label-part-end-requires : tie.Need-label-part-end-requires
-label-part-end-requires c κs = search needs
 
 returns-3 : tie.Need-returns-3
 returns-3 c =
@@ -40,10 +31,4 @@ returns-3 c =
 pub open-end-spec : {M : Type 1} → statement M
 open-end-spec =
     tie.close
-    (tie.spec
-    returns
-    shared-slice-read-if2
-    returns-2
-    add-label-part-end
-    label-part-end-requires
-    returns-3)
+    (tie.spec returns (λ c. search needs) returns-2 (λ c. search needs) (λ c κs. search needs) returns-3)

@@ -9,15 +9,6 @@ use borrow.Author.Needs.{needs}
 use Rattle.forms.proofs.tree.put_tree.Statement.{statement}
 use Rattle.forms.proofs.tree.put_tree.Tie as tie
 
-open-end-requires : tie.Need-open-end-requires
-open-end-requires c κs = search needs
-
-enum-known-e : tie.Need-enum-known-e
-enum-known-e c = search needs
-
-enum-told : tie.Need-enum-told
-enum-told c = search needs
-
 returns : tie.Need-returns
 returns c =
     let s : List ℕ = c .before .before .before .before .before .args .s .now in
@@ -59,9 +50,6 @@ part-put-tail-start c =
     let hi = c .before .before .before .before .before .before .before .open-end .ensures .on e (c .before .before .before .before .before .e .given .1) in
     omega arith
 
-part-put-tail-end : tie.Need-part-put-tail-end
-part-put-tail-end c = search needs
-
 put-tail-requires : tie.Need-put-tail-requires
 put-tail-requires c κs =
     let s : List ℕ = c .before .before .before .before .before .before .before .before .before .before .before .before .args .s .now in
@@ -73,9 +61,6 @@ put-tail-requires c κs =
     let len = rest-length s e in
     let kept = c .before .before .before .before .put-record .kept .0 in
     omega arith
-
-same-length : tie.Need-same-length
-same-length c = search needs
 
 returns-2 : tie.Need-returns-2
 returns-2 c =
@@ -90,17 +75,6 @@ returns-2 c =
 pub put-tree-spec : {M : Type 1} → statement M
 put-tree-spec =
     tie.close
-    (tie.spec
-    open-end-requires
-    enum-known-e
-    enum-told
-    returns
-    add-a
-    sub-put-record
-    put-record-requires
-    sub-put-tail
-    part-put-tail-start
-    part-put-tail-end
-    put-tail-requires
-    same-length
+    (tie.spec (λ c κs. search needs) (λ c. search needs) (λ c. search needs) returns add-a sub-put-record
+    put-record-requires sub-put-tail part-put-tail-start (λ c. search needs) put-tail-requires (λ c. search needs)
     returns-2)

@@ -10,15 +10,6 @@ use borrow.Author.Needs.{needs}
 use Rattle.forms.proofs.tree.tree_end.Statement.{statement}
 use Rattle.forms.proofs.tree.tree_end.Tie as tie
 
-open-end-requires : tie.Need-open-end-requires
-open-end-requires c κs = search needs
-
-enum-known-e : tie.Need-enum-known-e
-enum-known-e c = search needs
-
-enum-told : tie.Need-enum-told
-enum-told c = search needs
-
 returns : tie.Need-returns
 returns c =
     let s : List ℕ = c .before .before .before .before .args .s .now in
@@ -36,9 +27,6 @@ part-tail-end-start c =
     let e : ℕ = c .before .e .given .0 .0 in
     let hi = c .before .before .before .open-end .ensures .on e (c .before .e .given .1) in
     omega arith
-
-part-tail-end-end : tie.Need-part-tail-end-end
-part-tail-end-end c = search needs
 
 tail-end-requires : tie.Need-tail-end-requires
 tail-end-requires c κs =
@@ -59,13 +47,5 @@ returns-2 c =
 pub tree-end-spec : {M : Type 1} → statement M
 tree-end-spec =
     tie.close
-    (tie.spec
-    open-end-requires
-    enum-known-e
-    enum-told
-    returns
-    sub-tail-end
-    part-tail-end-start
-    part-tail-end-end
-    tail-end-requires
-    returns-2)
+    (tie.spec (λ c κs. search needs) (λ c. search needs) (λ c. search needs) returns sub-tail-end part-tail-end-start
+    (λ c. search needs) tail-end-requires returns-2)

@@ -21,9 +21,6 @@ loop-holds c =
     let z : c .args .e - c .args .e ≡ 0 = omega arith in
     (omega arith, omega arith, rw z, rw z (omega arith))
 
-sub-i : tie.Need-sub-i Inv-loop μ-loop
-sub-i c = omega arith
-
 mul-n : tie.Need-mul-n Inv-loop μ-loop
 mul-n c =
     let s : List ℕ = c .before .before .args .s .now in
@@ -33,9 +30,6 @@ mul-n c =
     let inv = c .before .loop .inv in
     let small = few-fit n (e - i) (omega arith) (inv .3) in
     omega arith
-
-shared-slice-read-n : tie.Need-shared-slice-read-n Inv-loop μ-loop
-shared-slice-read-n c = omega arith
 
 cast-n : tie.Need-cast-n Inv-loop μ-loop
 cast-n c = omega (arith, c .shared-slice-known .given (c .before .before .loop .i - 1))
@@ -49,9 +43,6 @@ add-n c =
     let inv = c .before .before .loop .inv in
     let small = few-fit n (e - i) (omega arith) (inv .3) in
     omega (arith, c .shared-slice-known .given (i - 1))
-
-loop-less : tie.Need-loop-less Inv-loop μ-loop
-loop-less c = omega arith
 
 loop-again : tie.Need-loop-again Inv-loop μ-loop
 loop-again c =
@@ -75,15 +66,5 @@ returns c =
 pub word-number-spec : {M : Type 1} → statement M
 word-number-spec =
     tie.close
-    (tie.spec
-    Inv-loop
-    μ-loop
-    loop-holds
-    sub-i
-    mul-n
-    shared-slice-read-n
-    cast-n
-    add-n
-    loop-less
-    loop-again
-    returns)
+    (tie.spec Inv-loop μ-loop loop-holds (λ c. omega arith) mul-n (λ c. omega arith) cast-n add-n (λ c. omega arith)
+    loop-again returns)

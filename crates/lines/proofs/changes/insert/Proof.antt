@@ -10,15 +10,6 @@ use borrow.Author.Needs.{needs}
 use Rattle.lines.proofs.changes.insert.Statement.{statement}
 use Rattle.lines.proofs.changes.insert.Tie as tie
 
-check-path-requires : tie.Need-check-path-requires
-check-path-requires c κs = search needs
-
-enum-told : tie.Need-enum-told
-enum-told c = search needs
-
-enum-told-2 : tie.Need-enum-told-2
-enum-told-2 c = search needs
-
 returns : tie.Need-returns
 returns c = let g = c .before .before .before .before .before .before .before .before .pre in
     let a = c .before .before .before .before .before .before .before .before .args in
@@ -32,27 +23,15 @@ returns-2 c = let g = c .before .before .before .before .before .before .before 
     let a = c .before .before .before .before .before .before .before .before .before .before .args in
     made-at (insert-no-user (a .place) _ _ _ _ _ _ (is-path (pathOf (a .path .now)) _ (sym (c .before .before .before .before .check-path .ensures) ∙ c .before .before .enum-told .given .1)) (eq-eqb _ _ (c .if1 .taken))) refused
 
-tree-restricted-requires : tie.Need-tree-restricted-requires
-tree-restricted-requires c κs = search needs
-
 returns-3 : tie.Need-returns-3
 returns-3 c = let g = c .before .before .before .before .before .before .before .before .before .before .before .before .pre in
     let a = c .before .before .before .before .before .before .before .before .before .before .before .before .args in
     made-at (insert-restricted (a .place) _ _ _ _ _ _ (is-path (pathOf (a .path .now)) _ (sym (c .before .before .before .before .before .before .check-path .ensures) ∙ c .before .before .before .before .enum-told .given .1)) (ne-eqb _ _ (c .before .before .if1 .left)) (sym (c .before .tree-restricted .ensures) ∙ c .if2 .taken)) refused
 
-slice-aggregate-insert-with : tie.Need-slice-aggregate-insert-with
-slice-aggregate-insert-with c = search needs
-
 insert-with-requires : tie.Need-insert-with-requires
 insert-with-requires c κs = let g = c .before .before .before .before .before .before .before .before .before .before .before .before .before .before .before .pre in
     let a = c .before .before .before .before .before .before .before .before .before .before .before .before .before .before .before .args in
     (g .0, ne-eqb _ _ (c .before .before .before .before .before .if1 .left), is-path (pathOf (a .path .now)) _ (sym (c .before .before .before .before .before .before .before .before .before .check-path .ensures) ∙ c .before .before .before .before .before .before .before .enum-told .given .1), refl {a = 16384}, g .1, g .2)
-
-same-length : tie.Need-same-length
-same-length c = search needs
-
-same-length-2 : tie.Need-same-length-2
-same-length-2 c = search needs
 
 returns-4 : tie.Need-returns-4
 returns-4 c = let g = c .before .before .before .before .before .before .before .before .before .before .before .before .before .before .before .before .before .before .before .before .before .pre in
@@ -62,17 +41,6 @@ returns-4 c = let g = c .before .before .before .before .before .before .before 
 pub insert-spec : {M : Type 1} → statement M
 insert-spec =
     tie.close
-    (tie.spec
-    check-path-requires
-    enum-told
-    enum-told-2
-    returns
-    shared-slice-read-if1
-    returns-2
-    tree-restricted-requires
-    returns-3
-    slice-aggregate-insert-with
-    insert-with-requires
-    same-length
-    same-length-2
+    (tie.spec (λ c κs. search needs) (λ c. search needs) (λ c. search needs) returns shared-slice-read-if1 returns-2
+    (λ c κs. search needs) returns-3 (λ c. search needs) insert-with-requires (λ c. search needs) (λ c. search needs)
     returns-4)

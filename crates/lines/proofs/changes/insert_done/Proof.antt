@@ -10,12 +10,6 @@ use borrow.Author.Needs.{needs}
 use Rattle.lines.proofs.changes.insert_done.Statement.{statement}
 use Rattle.lines.proofs.changes.insert_done.Tie as tie
 
-turned-down-requires : tie.Need-turned-down-requires
-turned-down-requires c κs = search needs
-
-same-length : tie.Need-same-length
-same-length c = search needs
-
 returns : tie.Need-returns
 returns c = let g = c .before .before .before .before .before .before .before .before .pre in
     let a = c .before .before .before .before .before .before .before .before .args in
@@ -24,15 +18,6 @@ returns c = let g = c .before .before .before .before .before .before .before .b
     let k = a .done .now in
     let text = doneText (a .selected) (marked (count t) k) in
     made-at (insert-refused (a .place) k (a .m) (a .tree .now) t _ (c .before .turned-down .ensures) text s s (length (a .area .now)) (c .if1 .taken)) refused
-
-answer-change-requires : tie.Need-answer-change-requires
-answer-change-requires c κs = search needs
-
-same-length-2 : tie.Need-same-length-2
-same-length-2 c = search needs
-
-same-length-3 : tie.Need-same-length-3
-same-length-3 c = search needs
 
 returns-2 : tie.Need-returns-2
 returns-2 c = let g = c .before .before .before .before .before .before .before .before .before .before .before .before .before .before .pre in
@@ -51,12 +36,6 @@ insert-marked-requires c κs = let g = c .before .before .before .before .before
     let k = a .done .now in
     ((g .0, g .1, g .2), (insert-shallow (a .place) k (a .m) (a .tree .now) t _ (c .before .before .before .before .before .before .before .before .turned-down .ensures) (c .before .before .before .before .before .before .before .if1 .left), insert-fits (a .place) k (a .m) (a .tree .now) t _ (c .before .before .before .before .before .before .before .before .turned-down .ensures) (c .before .before .before .before .before .before .before .if1 .left)))
 
-same-length-4 : tie.Need-same-length-4
-same-length-4 c = search needs
-
-same-length-5 : tie.Need-same-length-5
-same-length-5 c = search needs
-
 returns-3 : tie.Need-returns-3
 returns-3 c = let g = c .before .before .before .before .before .before .before .before .before .before .before .before .before .before .before .before .before .before .pre in
     let a = c .before .before .before .before .before .before .before .before .before .before .before .before .before .before .before .before .before .before .args in
@@ -70,15 +49,5 @@ returns-3 c = let g = c .before .before .before .before .before .before .before 
 pub insert-done-spec : {M : Type 1} → statement M
 insert-done-spec =
     tie.close
-    (tie.spec
-    turned-down-requires
-    same-length
-    returns
-    answer-change-requires
-    same-length-2
-    same-length-3
-    returns-2
-    insert-marked-requires
-    same-length-4
-    same-length-5
-    returns-3)
+    (tie.spec (λ c κs. search needs) (λ c. search needs) returns (λ c κs. search needs) (λ c. search needs)
+    (λ c. search needs) returns-2 insert-marked-requires (λ c. search needs) (λ c. search needs) returns-3)

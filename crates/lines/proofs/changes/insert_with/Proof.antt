@@ -7,20 +7,11 @@ use borrow.Author.Needs.{needs}
 use Rattle.lines.proofs.changes.insert_with.Statement.{statement}
 use Rattle.lines.proofs.changes.insert_with.Tie as tie
 
-change-at-requires : tie.Need-change-at-requires
-change-at-requires c κs = search needs
-
 mark-change-requires : tie.Need-mark-change-requires
 mark-change-requires c κs = let g = c .before .before .before .before .before .before .before .before .before .pre in (g .0, g .1, g .2, g .3)
 
 count-of-requires : tie.Need-count-of-requires
 count-of-requires c κs = table-long _ (store-held _ _ (c .before .before .before .before .before .before .before .before .before .before .before .before .before .pre .0) .table)
-
-sub-insert-done : tie.Need-sub-insert-done
-sub-insert-done c = search needs
-
-part-insert-done-start : tie.Need-part-insert-done-start
-part-insert-done-start c = search needs
 
 part-insert-done-end : tie.Need-part-insert-done-end
 part-insert-done-end c = let g = c .before .before .before .before .before .before .before .before .before .before .before .before .before .before .before .before .pre in
@@ -40,15 +31,6 @@ insert-done-requires c κs = let g = c .before .before .before .before .before .
     let r = c .before .before .before .before .before .before .before .before .mark-change .ensures in
     (store-held _ _ (g .0) .table, done-cover _ s t p (a .done .now) _ _ _ r (c .before .before .before .before .count-of .ensures), g .4, g .5)
 
-same-length : tie.Need-same-length
-same-length c = search needs
-
-same-length-2 : tie.Need-same-length-2
-same-length-2 c = search needs
-
-same-length-3 : tie.Need-same-length-3
-same-length-3 c = search needs
-
 returns : tie.Need-returns
 returns c = let g = c .before .before .before .before .before .before .before .before .before .before .before .before .before .before .before .before .before .before .before .before .before .before .before .pre in
     let a = c .before .before .before .before .before .before .before .before .before .before .before .before .before .before .before .before .before .before .before .before .before .before .before .args in
@@ -61,15 +43,5 @@ returns c = let g = c .before .before .before .before .before .before .before .b
 pub insert-with-spec : {M : Type 1} → statement M
 insert-with-spec =
     tie.close
-    (tie.spec
-    change-at-requires
-    mark-change-requires
-    count-of-requires
-    sub-insert-done
-    part-insert-done-start
-    part-insert-done-end
-    insert-done-requires
-    same-length
-    same-length-2
-    same-length-3
-    returns)
+    (tie.spec (λ c κs. search needs) mark-change-requires count-of-requires (λ c. search needs) (λ c. search needs)
+    part-insert-done-end insert-done-requires (λ c. search needs) (λ c. search needs) (λ c. search needs) returns)

@@ -6,9 +6,6 @@ use borrow.Author.Needs.{needs}
 use Rattle.lines.proofs.changes.is_barred.Statement.{statement}
 use Rattle.lines.proofs.changes.is_barred.Tie as tie
 
-is-restricted-requires : tie.Need-is-restricted-requires
-is-restricted-requires c κs = search needs
-
 returns : tie.Need-returns
 returns c = let g = c .before .before .before .before .before .pre in
     let a = c .before .before .before .before .before .args in
@@ -19,9 +16,6 @@ sub-is-policy-word c = omega (arith, store-held _ _ (c .before .before .before .
 
 part-is-policy-word-start : tie.Need-part-is-policy-word-start
 part-is-policy-word-start c = omega (arith, store-held _ _ (c .before .before .before .before .before .pre) .size)
-
-part-is-policy-word-end : tie.Need-part-is-policy-word-end
-part-is-policy-word-end c = search needs
 
 is-policy-word-requires : tie.Need-is-policy-word-requires
 is-policy-word-requires c κs = let g = c .before .before .before .before .before .before .pre in
@@ -36,11 +30,5 @@ returns-2 c = let g = c .before .before .before .before .before .before .before 
 pub is-barred-spec : {M : Type 1} → statement M
 is-barred-spec =
     tie.close
-    (tie.spec
-    is-restricted-requires
-    returns
-    sub-is-policy-word
-    part-is-policy-word-start
-    part-is-policy-word-end
-    is-policy-word-requires
-    returns-2)
+    (tie.spec (λ c κs. search needs) returns sub-is-policy-word part-is-policy-word-start (λ c. search needs)
+    is-policy-word-requires returns-2)

@@ -8,12 +8,6 @@ use borrow.Author.Needs.{needs}
 use Rattle.lines.proofs.changes.mark_change.Statement.{statement}
 use Rattle.lines.proofs.changes.mark_change.Tie as tie
 
-slice-aggregate-mark-selected : tie.Need-slice-aggregate-mark-selected
-slice-aggregate-mark-selected c = search needs
-
-slice-aggregate-mark-selected-2 : tie.Need-slice-aggregate-mark-selected-2
-slice-aggregate-mark-selected-2 c = search needs
-
 mark-selected-requires : tie.Need-mark-selected-requires
 mark-selected-requires c κs = let g = c .before .before .before .before .before .before .pre in (g .0, g .1, g .2, refl {a = 16384}, refl {a = 16384})
 
@@ -26,26 +20,11 @@ sub-mark-done c = omega (arith, store-held _ _ (c .before .before .before .befor
 part-mark-done-start : tie.Need-part-mark-done-start
 part-mark-done-start c = omega (arith, store-held _ _ (c .before .before .before .before .before .before .before .before .before .before .pre .0) .size)
 
-part-mark-done-end : tie.Need-part-mark-done-end
-part-mark-done-end c = search needs
-
-sub-mark-done-2 : tie.Need-sub-mark-done-2
-sub-mark-done-2 c = search needs
-
-part-mark-done-start-2 : tie.Need-part-mark-done-start-2
-part-mark-done-start-2 c = search needs
-
 part-mark-done-end-2 : tie.Need-part-mark-done-end-2
 part-mark-done-end-2 c = let g = c .before .before .before .before .before .before .before .before .before .before .before .before .pre in
     let a = c .before .before .before .before .before .before .before .before .before .before .before .before .args in
     let r = c .before .before .before .before .before .mark-selected .ensures in
     rights-reach (a .state .now) (a .table .now) (a .path .now) (g .0) (replicate 16384 0) _ (replicate 16384 0) _ _ _ r (c .before .before .count-of .ensures)
-
-sub-mark-done-3 : tie.Need-sub-mark-done-3
-sub-mark-done-3 c = search needs
-
-part-mark-done-start-3 : tie.Need-part-mark-done-start-3
-part-mark-done-start-3 c = search needs
 
 part-mark-done-end-3 : tie.Need-part-mark-done-end-3
 part-mark-done-end-3 c = let g = c .before .before .before .before .before .before .before .before .before .before .before .before .before .before .pre in
@@ -59,9 +38,6 @@ mark-done-requires c κs = let g = c .before .before .before .before .before .be
     let r = c .before .before .before .before .before .before .before .before .before .mark-selected .ensures in
     done-asks (a .state .now) (a .table .now) (a .path .now) (g .0) (replicate 16384 0) _ (replicate 16384 0) _ _ _ r (c .before .before .before .before .before .before .count-of .ensures) (a .done .now) (g .3)
 
-same-length : tie.Need-same-length
-same-length c = search needs
-
 returns : tie.Need-returns
 returns c = let g = c .before .before .before .before .before .before .before .before .before .before .before .before .before .before .before .before .before .before .before .pre in
     let a = c .before .before .before .before .before .before .before .before .before .before .before .before .before .before .before .before .before .before .before .args in
@@ -71,20 +47,6 @@ returns c = let g = c .before .before .before .before .before .before .before .b
 pub mark-change-spec : {M : Type 1} → statement M
 mark-change-spec =
     tie.close
-    (tie.spec
-    slice-aggregate-mark-selected
-    slice-aggregate-mark-selected-2
-    mark-selected-requires
-    count-of-requires
-    sub-mark-done
-    part-mark-done-start
-    part-mark-done-end
-    sub-mark-done-2
-    part-mark-done-start-2
-    part-mark-done-end-2
-    sub-mark-done-3
-    part-mark-done-start-3
-    part-mark-done-end-3
-    mark-done-requires
-    same-length
-    returns)
+    (tie.spec (λ c. search needs) (λ c. search needs) mark-selected-requires count-of-requires sub-mark-done
+    part-mark-done-start (λ c. search needs) (λ c. search needs) (λ c. search needs) part-mark-done-end-2
+    (λ c. search needs) (λ c. search needs) part-mark-done-end-3 mark-done-requires (λ c. search needs) returns)

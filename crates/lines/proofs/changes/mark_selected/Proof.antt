@@ -9,26 +9,11 @@ use borrow.Author.Needs.{needs}
 use Rattle.lines.proofs.changes.mark_selected.Statement.{statement}
 use Rattle.lines.proofs.changes.mark_selected.Tie as tie
 
-slice-aggregate-select-user : tie.Need-slice-aggregate-select-user
-slice-aggregate-select-user c = search needs
-
-slice-aggregate-select-user-2 : tie.Need-slice-aggregate-select-user-2
-slice-aggregate-select-user-2 c = search needs
-
 select-user-requires : tie.Need-select-user-requires
 select-user-requires c κs = let g = c .before .before .before .before .before .before .before .before .pre in (g .0, g .1, g .2, record { reading = refl; seeing = refl }, g .3, refl {a = 16384}, refl {a = 16384})
 
 count-of-requires : tie.Need-count-of-requires
 count-of-requires c κs = table-long _ (store-held _ _ (c .before .before .before .before .before .before .before .before .before .before .before .before .before .pre .0) .table)
-
-slice-aggregate-mark-records : tie.Need-slice-aggregate-mark-records
-slice-aggregate-mark-records c = search needs
-
-sub-mark-records : tie.Need-sub-mark-records
-sub-mark-records c = search needs
-
-part-mark-records-start : tie.Need-part-mark-records-start
-part-mark-records-start c = search needs
 
 part-mark-records-end : tie.Need-part-mark-records-end
 part-mark-records-end c = let g = c .before .before .before .before .before .before .before .before .before .before .before .before .before .before .before .before .pre in
@@ -42,20 +27,11 @@ mark-records-requires c κs = let g = c .before .before .before .before .before 
     let r = c .before .before .before .before .before .before .before .before .before .select-user .ensures .0 in
     (shown-long (a .state .now) (a .table .now) (g .0) _ _ _ (r .size) (r .numbers), omega (arith, c .before .before .before .before .count-of .ensures, table-few (a .table .now) (store-held _ _ (g .0) .table), g .4))
 
-slice-aggregate-count-marks : tie.Need-slice-aggregate-count-marks
-slice-aggregate-count-marks c = search needs
-
 count-marks-requires : tie.Need-count-marks-requires
 count-marks-requires c κs = let g = c .before .before .before .before .before .before .before .before .before .before .before .before .before .before .before .before .before .before .before .before .before .before .pre in
     let a = c .before .before .before .before .before .before .before .before .before .before .before .before .before .before .before .before .before .before .before .before .before .before .args in
     let r = c .before .before .before .before .before .before .before .before .before .before .before .before .before .select-user .ensures .0 in
     marks-long-enough (a .state .now) (a .table .now) (a .path .now) _ _ _ (g .0) (r .size) (r .picked)
-
-same-length : tie.Need-same-length
-same-length c = search needs
-
-same-length-2 : tie.Need-same-length-2
-same-length-2 c = search needs
 
 returns : tie.Need-returns
 returns c = let g = c .before .before .before .before .before .before .before .before .before .before .before .before .before .before .before .before .before .before .before .before .before .before .before .pre in
@@ -72,18 +48,6 @@ returns c = let g = c .before .before .before .before .before .before .before .b
 pub mark-selected-spec : {M : Type 1} → statement M
 mark-selected-spec =
     tie.close
-    (tie.spec
-    slice-aggregate-select-user
-    slice-aggregate-select-user-2
-    select-user-requires
-    count-of-requires
-    slice-aggregate-mark-records
-    sub-mark-records
-    part-mark-records-start
-    part-mark-records-end
-    mark-records-requires
-    slice-aggregate-count-marks
-    count-marks-requires
-    same-length
-    same-length-2
-    returns)
+    (tie.spec (λ c. search needs) (λ c. search needs) select-user-requires count-of-requires (λ c. search needs)
+    (λ c. search needs) (λ c. search needs) part-mark-records-end mark-records-requires (λ c. search needs)
+    count-marks-requires (λ c. search needs) (λ c. search needs) returns)

@@ -10,15 +10,6 @@ use borrow.Author.Needs.{needs}
 use Rattle.lines.proofs.changes.remove.Statement.{statement}
 use Rattle.lines.proofs.changes.remove.Tie as tie
 
-check-path-requires : tie.Need-check-path-requires
-check-path-requires c κs = search needs
-
-enum-told : tie.Need-enum-told
-enum-told c = search needs
-
-enum-told-2 : tie.Need-enum-told-2
-enum-told-2 c = search needs
-
 returns : tie.Need-returns
 returns c = let g = c .before .before .before .before .before .before .before .pre in
     let a = c .before .before .before .before .before .before .before .args in
@@ -32,19 +23,10 @@ returns-2 c = let g = c .before .before .before .before .before .before .before 
     let a = c .before .before .before .before .before .before .before .before .before .args in
     made-at (remove-no-user _ _ _ _ (is-path (pathOf (a .path .now)) _ (sym (c .before .before .before .before .check-path .ensures) ∙ c .before .before .enum-told .given .1)) (eq-eqb _ _ (c .if1 .taken))) refused
 
-slice-aggregate-remove-with : tie.Need-slice-aggregate-remove-with
-slice-aggregate-remove-with c = search needs
-
 remove-with-requires : tie.Need-remove-with-requires
 remove-with-requires c κs = let g = c .before .before .before .before .before .before .before .before .before .before .before .before .pre in
     let a = c .before .before .before .before .before .before .before .before .before .before .before .before .args in
     (g, ne-eqb _ _ (c .before .before .before .if1 .left), is-path (pathOf (a .path .now)) _ (sym (c .before .before .before .before .before .before .before .check-path .ensures) ∙ c .before .before .before .before .before .enum-told .given .1), refl {a = 16384})
-
-same-length : tie.Need-same-length
-same-length c = search needs
-
-same-length-2 : tie.Need-same-length-2
-same-length-2 c = search needs
 
 returns-3 : tie.Need-returns-3
 returns-3 c = let g = c .before .before .before .before .before .before .before .before .before .before .before .before .before .before .before .before .before .before .pre in
@@ -54,15 +36,5 @@ returns-3 c = let g = c .before .before .before .before .before .before .before 
 pub remove-spec : {M : Type 1} → statement M
 remove-spec =
     tie.close
-    (tie.spec
-    check-path-requires
-    enum-told
-    enum-told-2
-    returns
-    shared-slice-read-if1
-    returns-2
-    slice-aggregate-remove-with
-    remove-with-requires
-    same-length
-    same-length-2
-    returns-3)
+    (tie.spec (λ c κs. search needs) (λ c. search needs) (λ c. search needs) returns shared-slice-read-if1 returns-2
+    (λ c. search needs) remove-with-requires (λ c. search needs) (λ c. search needs) returns-3)

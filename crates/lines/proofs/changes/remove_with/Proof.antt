@@ -16,12 +16,6 @@ mark-change-requires c κs = let g = c .before .before .before .before .before .
 count-of-requires : tie.Need-count-of-requires
 count-of-requires c κs = table-long _ (store-held _ _ (c .before .before .before .before .before .before .before .before .before .before .before .pre .0) .table)
 
-sub-answer-change : tie.Need-sub-answer-change
-sub-answer-change c = search needs
-
-part-answer-change-start : tie.Need-part-answer-change-start
-part-answer-change-start c = search needs
-
 part-answer-change-end : tie.Need-part-answer-change-end
 part-answer-change-end c = let g = c .before .before .before .before .before .before .before .before .before .before .before .before .before .before .pre in
     let a = c .before .before .before .before .before .before .before .before .before .before .before .before .before .before .args in
@@ -40,15 +34,6 @@ answer-change-requires c κs = let g = c .before .before .before .before .before
     let r = c .before .before .before .before .before .before .before .before .mark-change .ensures in
     (store-held _ _ (g .0) .table, done-cover Remove s t p (a .done .now) _ _ _ r (c .before .before .before .before .count-of .ensures))
 
-same-length : tie.Need-same-length
-same-length c = search needs
-
-same-length-2 : tie.Need-same-length-2
-same-length-2 c = search needs
-
-same-length-3 : tie.Need-same-length-3
-same-length-3 c = search needs
-
 returns : tie.Need-returns
 returns c = let g = c .before .before .before .before .before .before .before .before .before .before .before .before .before .before .before .before .before .before .before .before .pre in
     let a = c .before .before .before .before .before .before .before .before .before .before .before .before .before .before .before .before .before .before .before .before .args in
@@ -57,12 +42,6 @@ returns c = let g = c .before .before .before .before .before .before .before .b
     let p = a .path .now in
     let r = c .before .before .before .before .before .before .before .before .before .before .before .before .mark-change .ensures in
     made-kept (countText Remove s t p) (a .area .now) _ s t s (changed t (removed (doneIn Remove s t p) (records t))) _ (done-answered Remove s t p (a .done .now) _ _ _ r (c .before .before .before .before .before .before .before .before .count-of .ensures) (a .area .now) _ _ (c .before .before .before .answer-change .ensures)) (c .if1 .taken)
-
-sub-remove-marked : tie.Need-sub-remove-marked
-sub-remove-marked c = search needs
-
-part-remove-marked-start : tie.Need-part-remove-marked-start
-part-remove-marked-start c = search needs
 
 part-remove-marked-end : tie.Need-part-remove-marked-end
 part-remove-marked-end c = let g = c .before .before .before .before .before .before .before .before .before .before .before .before .before .before .before .before .before .before .before .before .before .before .pre in
@@ -83,15 +62,6 @@ remove-marked-requires c κs = let g = c .before .before .before .before .before
     let h = store-held _ _ (g .0) .table in
     (h, done-cover Remove s t p (a .done .now) _ _ _ r (c .before .before .before .before .before .before .before .before .before .before .before .count-of .ensures))
 
-same-length-4 : tie.Need-same-length-4
-same-length-4 c = search needs
-
-same-length-5 : tie.Need-same-length-5
-same-length-5 c = search needs
-
-same-length-6 : tie.Need-same-length-6
-same-length-6 c = search needs
-
 returns-2 : tie.Need-returns-2
 returns-2 c = let g = c .before .before .before .before .before .before .before .before .before .before .before .before .before .before .before .before .before .before .before .before .before .before .before .before .before .before .pre in
     let a = c .before .before .before .before .before .before .before .before .before .before .before .before .before .before .before .before .before .before .before .before .before .before .before .before .before .before .args in
@@ -104,22 +74,7 @@ returns-2 c = let g = c .before .before .before .before .before .before .before 
 pub remove-with-spec : {M : Type 1} → statement M
 remove-with-spec =
     tie.close
-    (tie.spec
-    mark-change-requires
-    count-of-requires
-    sub-answer-change
-    part-answer-change-start
-    part-answer-change-end
-    answer-change-requires
-    same-length
-    same-length-2
-    same-length-3
-    returns
-    sub-remove-marked
-    part-remove-marked-start
-    part-remove-marked-end
-    remove-marked-requires
-    same-length-4
-    same-length-5
-    same-length-6
-    returns-2)
+    (tie.spec mark-change-requires count-of-requires (λ c. search needs) (λ c. search needs) part-answer-change-end
+    answer-change-requires (λ c. search needs) (λ c. search needs) (λ c. search needs) returns (λ c. search needs)
+    (λ c. search needs) part-remove-marked-end remove-marked-requires (λ c. search needs) (λ c. search needs)
+    (λ c. search needs) returns-2)

@@ -10,15 +10,6 @@ use borrow.Author.Needs.{needs}
 use Rattle.lines.proofs.changes.rename.Statement.{statement}
 use Rattle.lines.proofs.changes.rename.Tie as tie
 
-check-path-requires : tie.Need-check-path-requires
-check-path-requires c κs = search needs
-
-enum-told : tie.Need-enum-told
-enum-told c = search needs
-
-enum-told-2 : tie.Need-enum-told-2
-enum-told-2 c = search needs
-
 returns : tie.Need-returns
 returns c = let g = c .before .before .before .before .before .before .before .before .pre in
     let a = c .before .before .before .before .before .before .before .before .args in
@@ -32,30 +23,15 @@ returns-2 c = let g = c .before .before .before .before .before .before .before 
     let a = c .before .before .before .before .before .before .before .before .before .before .args in
     made-at (rename-no-user (a .change) _ _ _ _ _ (is-path (pathOf (a .path .now)) _ (sym (c .before .before .before .before .check-path .ensures) ∙ c .before .before .enum-told .given .1)) (eq-eqb _ _ (c .if1 .taken))) refused
 
-is-barred-requires : tie.Need-is-barred-requires
-is-barred-requires c κs = search needs
-
-same-length : tie.Need-same-length
-same-length c = search needs
-
 returns-3 : tie.Need-returns-3
 returns-3 c = let g = c .before .before .before .before .before .before .before .before .before .before .before .before .before .pre in
     let a = c .before .before .before .before .before .before .before .before .before .before .before .before .before .args in
     made-at (rename-barred (a .change) _ _ _ _ _ (is-path (pathOf (a .path .now)) _ (sym (c .before .before .before .before .before .before .before .check-path .ensures) ∙ c .before .before .before .before .before .enum-told .given .1)) (ne-eqb _ _ (c .before .before .before .if1 .left)) (sym (c .before .is-barred .ensures) ∙ c .if2 .taken)) refused
 
-slice-aggregate-rename-with : tie.Need-slice-aggregate-rename-with
-slice-aggregate-rename-with c = search needs
-
 rename-with-requires : tie.Need-rename-with-requires
 rename-with-requires c κs = let g = c .before .before .before .before .before .before .before .before .before .before .before .before .before .before .before .before .pre in
     let a = c .before .before .before .before .before .before .before .before .before .before .before .before .before .before .before .before .args in
     (g .0, ne-eqb _ _ (c .before .before .before .before .before .before .if1 .left), is-path (pathOf (a .path .now)) _ (sym (c .before .before .before .before .before .before .before .before .before .before .check-path .ensures) ∙ c .before .before .before .before .before .before .before .before .enum-told .given .1), refl {a = 16384}, g .1)
-
-same-length-2 : tie.Need-same-length-2
-same-length-2 c = search needs
-
-same-length-3 : tie.Need-same-length-3
-same-length-3 c = search needs
 
 returns-4 : tie.Need-returns-4
 returns-4 c = let g = c .before .before .before .before .before .before .before .before .before .before .before .before .before .before .before .before .before .before .before .before .before .before .pre in
@@ -65,18 +41,6 @@ returns-4 c = let g = c .before .before .before .before .before .before .before 
 pub rename-spec : {M : Type 1} → statement M
 rename-spec =
     tie.close
-    (tie.spec
-    check-path-requires
-    enum-told
-    enum-told-2
-    returns
-    shared-slice-read-if1
-    returns-2
-    is-barred-requires
-    same-length
-    returns-3
-    slice-aggregate-rename-with
-    rename-with-requires
-    same-length-2
-    same-length-3
-    returns-4)
+    (tie.spec (λ c κs. search needs) (λ c. search needs) (λ c. search needs) returns shared-slice-read-if1 returns-2
+    (λ c κs. search needs) (λ c. search needs) returns-3 (λ c. search needs) rename-with-requires (λ c. search needs)
+    (λ c. search needs) returns-4)

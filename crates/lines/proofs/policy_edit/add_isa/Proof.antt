@@ -10,15 +10,6 @@ use Rattle.lines.proofs.policy_edit.add_isa.Tie as tie
 slice-read-count : tie.Need-slice-read-count
 slice-read-count c = omega (arith, policy-sound (c .before .before .args .policy .now) (c .before .before .pre .0) .size)
 
-wide-requires : tie.Need-wide-requires
-wide-requires c κs = search needs
-
-mul-a : tie.Need-mul-a
-mul-a c = search needs
-
-add-a : tie.Need-add-a
-add-a c = search needs
-
 cast-policy : tie.Need-cast-policy
 cast-policy c =
     let g = policy-sound (c .before .before .before .args .policy .now) (c .before .before .before .pre .0) in
@@ -34,24 +25,15 @@ cast-policy-2 c =
     let g = policy-sound (c .before .before .before .args .policy .now) (c .before .before .before .pre .0) in
     omega (arith, g .subjects)
 
-add-policy : tie.Need-add-policy
-add-policy c = search needs
-
 slice-write-policy-2 : tie.Need-slice-write-policy-2
 slice-write-policy-2 c =
     let g = policy-sound (c .before .before .before .args .policy .now) (c .before .before .before .pre .0) in
     simp length-set (omega (arith, g .size, c .wide .ensures))
 
-add-policy-2 : tie.Need-add-policy-2
-add-policy-2 c = search needs
-
 slice-write-policy-3 : tie.Need-slice-write-policy-3
 slice-write-policy-3 c =
     let g = policy-sound (c .before .before .before .args .policy .now) (c .before .before .before .pre .0) in
     simp length-set (omega (arith, g .size))
-
-same-length : tie.Need-same-length
-same-length c = search needs
 
 returns : tie.Need-returns
 returns c =
@@ -62,17 +44,6 @@ returns c =
 pub add-isa-spec : {M : Type 1} → statement M
 add-isa-spec =
     tie.close
-    (tie.spec
-    slice-read-count
-    wide-requires
-    mul-a
-    add-a
-    cast-policy
-    slice-write-policy
-    cast-policy-2
-    add-policy
-    slice-write-policy-2
-    add-policy-2
-    slice-write-policy-3
-    same-length
-    returns)
+    (tie.spec slice-read-count (λ c κs. search needs) (λ c. search needs) (λ c. search needs) cast-policy
+    slice-write-policy cast-policy-2 (λ c. search needs) slice-write-policy-2 (λ c. search needs) slice-write-policy-3
+    (λ c. search needs) returns)

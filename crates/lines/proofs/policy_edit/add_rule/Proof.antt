@@ -12,18 +12,6 @@ use Rattle.lines.proofs.policy_edit.add_rule.Tie as tie
 slice-read-count : tie.Need-slice-read-count
 slice-read-count c = omega (arith, policy-sound (c .before .before .before .args .policy .now) (c .before .before .before .pre .0) .size)
 
-wide-requires : tie.Need-wide-requires
-wide-requires c κs = search needs
-
-mul-a : tie.Need-mul-a
-mul-a c = search needs
-
-add-a : tie.Need-add-a
-add-a c = search needs
-
-add-put-steps : tie.Need-add-put-steps
-add-put-steps c = search needs
-
 put-steps-requires : tie.Need-put-steps-requires
 put-steps-requires c κs =
     let g = policy-sound (c .before .before .before .before .before .args .policy .now) (c .before .before .before .before .before .pre .0) in
@@ -40,14 +28,8 @@ put-head-requires c κs =
     let g = policy-sound (c .before .before .before .before .before .before .before .before .before .args .policy .now) (c .before .before .before .before .before .before .before .before .before .pre .0) in
     omega (arith, g .size, c .before .before .before .before .before .wide .ensures, c .before .before .before .before .before .before .before .before .before .pre .1)
 
-add-policy : tie.Need-add-policy
-add-policy c = search needs
-
 slice-write-policy : tie.Need-slice-write-policy
 slice-write-policy c = omega (arith, policy-sound (c .before .before .before .before .before .before .before .before .before .before .before .before .args .policy .now) (c .before .before .before .before .before .before .before .before .before .before .before .before .pre .0) .size)
-
-same-length : tie.Need-same-length
-same-length c = simp length-set (omega arith)
 
 returns : tie.Need-returns
 returns c =
@@ -61,17 +43,6 @@ returns c =
 pub add-rule-spec : {M : Type 1} → statement M
 add-rule-spec =
     tie.close
-    (tie.spec
-    slice-read-count
-    wide-requires
-    mul-a
-    add-a
-    add-put-steps
-    put-steps-requires
-    cast-put-head
-    cast-put-head-2
-    put-head-requires
-    add-policy
-    slice-write-policy
-    same-length
-    returns)
+    (tie.spec slice-read-count (λ c κs. search needs) (λ c. search needs) (λ c. search needs) (λ c. search needs)
+    put-steps-requires cast-put-head cast-put-head-2 put-head-requires (λ c. search needs) slice-write-policy
+    (λ c. simp length-set (omega arith)) returns)

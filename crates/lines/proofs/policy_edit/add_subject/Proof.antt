@@ -10,28 +10,13 @@ use Rattle.lines.proofs.policy_edit.add_subject.Tie as tie
 slice-read-count : tie.Need-slice-read-count
 slice-read-count c = omega (arith, policy-sound (c .before .before .before .args .policy .now) (c .before .before .before .pre .0) .size)
 
-wide-requires : tie.Need-wide-requires
-wide-requires c κs = search needs
-
-mul-a : tie.Need-mul-a
-mul-a c = search needs
-
-add-a : tie.Need-add-a
-add-a c = search needs
-
 put-record-requires : tie.Need-put-record-requires
 put-record-requires c κs =
     let g = policy-sound (c .before .before .before .before .before .args .policy .now) (c .before .before .before .before .before .pre .0) in
     (omega (arith, g .size, c .before .wide .ensures), c .before .before .before .before .before .pre .2, c .before .before .before .before .before .pre .3)
 
-add-policy : tie.Need-add-policy
-add-policy c = search needs
-
 slice-write-policy : tie.Need-slice-write-policy
 slice-write-policy c = omega (arith, policy-sound (c .before .before .before .before .before .before .before .before .args .policy .now) (c .before .before .before .before .before .before .before .before .pre .0) .size)
-
-same-length : tie.Need-same-length
-same-length c = search needs
 
 returns : tie.Need-returns
 returns c =
@@ -42,13 +27,5 @@ returns c =
 pub add-subject-spec : {M : Type 1} → statement M
 add-subject-spec =
     tie.close
-    (tie.spec
-    slice-read-count
-    wide-requires
-    mul-a
-    add-a
-    put-record-requires
-    add-policy
-    slice-write-policy
-    same-length
-    returns)
+    (tie.spec slice-read-count (λ c κs. search needs) (λ c. search needs) (λ c. search needs) put-record-requires
+    (λ c. search needs) slice-write-policy (λ c. search needs) returns)

@@ -19,9 +19,6 @@ abbrev μ-loop : tie.MeasureT-loop
 shared-slice-read-wide : tie.Need-shared-slice-read-wide Inv-loop μ-loop
 shared-slice-read-wide c = omega (arith, policy-sound (c .before .before .before .args .policy .now) (c .before .before .before .pre .0) .size)
 
-wide-requires : tie.Need-wide-requires Inv-loop μ-loop
-wide-requires c κs = tt
-
 loop-holds : tie.Need-loop-holds Inv-loop μ-loop
 loop-holds c =
     let a = c .before .before .before .before .args in
@@ -40,9 +37,6 @@ returns c =
     let l = c .before .before .before .loop in
     sym (l .inv .1 ∙ find-here (a .policy .now) (take (a .n) (drop (a .at) (a .s .now))) (subjectCount (a .policy .now)) (l .u) (omega (arith, c .before .before .before .before .wide .ensures)) (sym (c .before .is-name .ensures) ∙ c .if1 .taken))
 
-add-u : tie.Need-add-u Inv-loop μ-loop
-add-u c = omega arith
-
 loop-less : tie.Need-loop-less Inv-loop μ-loop
 loop-less c = omega (arith, c .before .before .before .before .wide .ensures)
 
@@ -60,15 +54,5 @@ returns-2 c =
 pub find-name-spec : {M : Type 1} → statement M
 find-name-spec =
     tie.close
-    (tie.spec
-    Inv-loop
-    μ-loop
-    shared-slice-read-wide
-    wide-requires
-    loop-holds
-    is-name-requires
-    returns
-    add-u
-    loop-less
-    loop-again
-    returns-2)
+    (tie.spec Inv-loop μ-loop shared-slice-read-wide (λ c κs. tt) loop-holds is-name-requires returns (λ c. omega arith)
+    loop-less loop-again returns-2)

@@ -19,9 +19,6 @@ abbrev μ-loop : tie.MeasureT-loop
 shared-slice-read-wide : tie.Need-shared-slice-read-wide Inv-loop μ-loop
 shared-slice-read-wide c = omega (arith, policy-sound (c .before .before .args .policy .now) (c .before .before .pre) .size)
 
-wide-requires : tie.Need-wide-requires Inv-loop μ-loop
-wide-requires c κs = tt
-
 loop-holds : tie.Need-loop-holds Inv-loop μ-loop
 loop-holds c =
     let a = c .before .before .before .args in
@@ -38,9 +35,6 @@ returns c =
     let a = c .before .before .before .before .before .before .before .args in
     let l = c .before .before .before .loop in
     sym (l .inv .1 ∙ line-here (a .policy .now) (a .n) (a .r) (isaCount (a .policy .now)) (l .k) (omega (arith, c .before .before .before .before .wide .ensures)) (sym (c .before .is-line .ensures) ∙ c .if1 .taken))
-
-add-k : tie.Need-add-k Inv-loop μ-loop
-add-k c = omega arith
 
 loop-less : tie.Need-loop-less Inv-loop μ-loop
 loop-less c = omega (arith, c .before .before .before .before .wide .ensures)
@@ -59,15 +53,5 @@ returns-2 c =
 pub isa-held-spec : {M : Type 1} → statement M
 isa-held-spec =
     tie.close
-    (tie.spec
-    Inv-loop
-    μ-loop
-    shared-slice-read-wide
-    wide-requires
-    loop-holds
-    is-line-requires
-    returns
-    add-k
-    loop-less
-    loop-again
-    returns-2)
+    (tie.spec Inv-loop μ-loop shared-slice-read-wide (λ c κs. tt) loop-holds is-line-requires returns (λ c. omega arith)
+    loop-less loop-again returns-2)

@@ -16,9 +16,6 @@ abbrev μ-loop : tie.MeasureT-loop
 loop-holds : tie.Need-loop-holds Inv-loop μ-loop
 loop-holds c = (omega arith, seek-first (c .before .args .s .now) (c .before .pre))
 
-after-slash-requires : tie.Need-after-slash-requires Inv-loop μ-loop
-after-slash-requires c κs = omega arith
-
 test-end-requires : tie.Need-test-end-requires Inv-loop μ-loop
 test-end-requires c κs = c .after-slash .ensures .2
 
@@ -49,15 +46,5 @@ returns-2 c = sym (seek-end (c .before .before .before .args .s .now) (c .before
 pub path-restricted-spec : {M : Type 1} → statement M
 path-restricted-spec =
     tie.close
-    (tie.spec
-    Inv-loop
-    μ-loop
-    loop-holds
-    after-slash-requires
-    test-end-requires
-    sub-is-restricted
-    is-restricted-requires
-    returns
-    loop-less
-    loop-again
-    returns-2)
+    (tie.spec Inv-loop μ-loop loop-holds (λ c κs. omega arith) test-end-requires sub-is-restricted
+    is-restricted-requires returns loop-less loop-again returns-2)

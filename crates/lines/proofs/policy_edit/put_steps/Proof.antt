@@ -18,12 +18,6 @@ loop-holds c =
     let a = c .before .before .args in
     (omega arith, refl, put-first (a .policy .now) (a .at) (a .path .now) (c .before .before .pre .0))
 
-axis-byte-requires : tie.Need-axis-byte-requires Inv-loop μ-loop
-axis-byte-requires c κs = omega arith
-
-after-slash-requires : tie.Need-after-slash-requires Inv-loop μ-loop
-after-slash-requires c κs = omega arith
-
 test-end-requires : tie.Need-test-end-requires Inv-loop μ-loop
 test-end-requires c κs = c .after-slash .ensures .2
 
@@ -68,19 +62,5 @@ returns c =
 pub put-steps-spec : {M : Type 1} → statement M
 put-steps-spec =
     tie.close
-    (tie.spec
-    Inv-loop
-    μ-loop
-    loop-holds
-    axis-byte-requires
-    after-slash-requires
-    test-end-requires
-    mul-put-record
-    add-put-record
-    sub-put-record
-    put-record-requires
-    add-n
-    loop-less
-    loop-again
-    same-length
-    returns)
+    (tie.spec Inv-loop μ-loop loop-holds (λ c κs. omega arith) (λ c κs. omega arith) test-end-requires mul-put-record
+    add-put-record sub-put-record put-record-requires add-n loop-less loop-again same-length returns)

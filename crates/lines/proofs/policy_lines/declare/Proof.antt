@@ -22,21 +22,9 @@ sub-find-name c = omega (arith, store-held _ _ (c .before .before .before .befor
 part-find-name-start : tie.Need-part-find-name-start
 part-find-name-start c = omega (arith, store-held _ _ (c .before .before .before .before .before .pre .0) .size)
 
-part-find-name-end : tie.Need-part-find-name-end
-part-find-name-end c = search needs
-
 find-name-requires : tie.Need-find-name-requires
 find-name-requires c κs = let g = c .before .before .before .before .before .before .pre in
     (rw (rest-of (c .before .before .before .before .before .before .args .state .now) 8) (store-held _ _ (g .0) .policy), omega arith)
-
-enum-told : tie.Need-enum-told
-enum-told c = search needs
-
-enum-told-2 : tie.Need-enum-told-2
-enum-told-2 c = search needs
-
-same-length : tie.Need-same-length
-same-length c = search needs
 
 returns : tie.Need-returns
 returns c = let a = c .before .before .before .before .before .before .before .before .before .args in
@@ -44,12 +32,6 @@ returns c = let a = c .before .before .before .before .before .before .before .b
 
 slice-read-wide : tie.Need-slice-read-wide
 slice-read-wide c = omega (arith, store-held _ _ (c .before .before .before .before .before .before .before .before .before .before .pre .0) .size)
-
-wide-requires : tie.Need-wide-requires
-wide-requires c κs = search needs
-
-same-length-2 : tie.Need-same-length-2
-same-length-2 c = search needs
 
 returns-2 : tie.Need-returns-2
 returns-2 c = let a = c .before .before .before .before .before .before .before .before .before .before .before .before .args in
@@ -60,12 +42,6 @@ returns-2 c = let a = c .before .before .before .before .before .before .before 
     let k : subjectNamed (policyIn s) n ≡ Unknown = found-named s n (c .before .before .before .before .before .find-name .ensures) (c .before .before .before .enum-told .given .1) in
     made-at (subject-full s t _ n k (omega (arith, c .before .wide .ensures))) refused
 
-is-restricted-requires : tie.Need-is-restricted-requires
-is-restricted-requires c κs = search needs
-
-same-length-3 : tie.Need-same-length-3
-same-length-3 c = search needs
-
 returns-3 : tie.Need-returns-3
 returns-3 c = let a = c .before .before .before .before .before .before .before .before .before .before .before .before .before .before .args in
     let g = c .before .before .before .before .before .before .before .before .before .before .before .before .before .before .pre in
@@ -74,15 +50,6 @@ returns-3 c = let a = c .before .before .before .before .before .before .before 
     let n = a .name .now in
     let k : subjectNamed (policyIn s) n ≡ Unknown = found-named s n (c .before .before .before .before .before .before .before .find-name .ensures) (c .before .before .before .before .before .enum-told .given .1) in
     made-at (subject-restricted s t _ n k (omega (arith, c .before .before .before .wide .ensures)) (ap (λ x. sameLabel x restricted) (sym (take-length n)) ∙ sym (c .before .is-restricted .ensures) ∙ c .if2 .taken)) refused
-
-answer-ok-requires : tie.Need-answer-ok-requires
-answer-ok-requires c κs = search needs
-
-same-length-4 : tie.Need-same-length-4
-same-length-4 c = search needs
-
-same-length-5 : tie.Need-same-length-5
-same-length-5 c = search needs
 
 returns-4 : tie.Need-returns-4
 returns-4 c = let a = c .before .before .before .before .before .before .before .before .before .before .before .before .before .before .before .before .before .before .before .args in
@@ -100,20 +67,11 @@ sub-add-subject c = omega (arith, store-held _ _ (c .before .before .before .bef
 part-add-subject-start : tie.Need-part-add-subject-start
 part-add-subject-start c = omega (arith, store-held _ _ (c .before .before .before .before .before .before .before .before .before .before .before .before .before .before .before .before .before .before .before .pre .0) .size)
 
-part-add-subject-end : tie.Need-part-add-subject-end
-part-add-subject-end c = search needs
-
 add-subject-requires : tie.Need-add-subject-requires
 add-subject-requires c κs = let g = c .before .before .before .before .before .before .before .before .before .before .before .before .before .before .before .before .before .before .before .before .pre in
     let s = c .before .before .before .before .before .before .before .before .before .before .before .before .before .before .before .before .before .before .before .before .args .state .now in
     let h = store-held _ _ (g .0) in
     rw (rest-of s 8) (h .policy, omega (arith, c .before .before .before .before .before .before .before .before .before .wide .ensures, subjects-at s s), g .1, omega arith)
-
-same-length-6 : tie.Need-same-length-6
-same-length-6 c = search needs
-
-same-length-7 : tie.Need-same-length-7
-same-length-7 c = search needs
 
 returns-5 : tie.Need-returns-5
 returns-5 c = let a = c .before .before .before .before .before .before .before .before .before .before .before .before .before .before .before .before .before .before .before .before .before .before .before .args in
@@ -128,30 +86,8 @@ returns-5 c = let a = c .before .before .before .before .before .before .before 
 pub declare-spec : {M : Type 1} → statement M
 declare-spec =
     tie.close
-    (tie.spec
-    sub-find-name
-    part-find-name-start
-    part-find-name-end
-    find-name-requires
-    enum-told
-    enum-told-2
-    same-length
-    returns
-    slice-read-wide
-    wide-requires
-    same-length-2
-    returns-2
-    is-restricted-requires
-    same-length-3
-    returns-3
-    answer-ok-requires
-    same-length-4
-    same-length-5
-    returns-4
-    sub-add-subject
-    part-add-subject-start
-    part-add-subject-end
-    add-subject-requires
-    same-length-6
-    same-length-7
-    returns-5)
+    (tie.spec sub-find-name part-find-name-start (λ c. search needs) find-name-requires (λ c. search needs)
+    (λ c. search needs) (λ c. search needs) returns slice-read-wide (λ c κs. search needs) (λ c. search needs) returns-2
+    (λ c κs. search needs) (λ c. search needs) returns-3 (λ c κs. search needs) (λ c. search needs) (λ c. search needs)
+    returns-4 sub-add-subject part-add-subject-start (λ c. search needs) add-subject-requires (λ c. search needs)
+    (λ c. search needs) returns-5)

@@ -16,15 +16,6 @@ use borrow.Author.Needs.{needs}
 use Rattle.lines.proofs.policy_lines.rule.Statement.{statement}
 use Rattle.lines.proofs.policy_lines.rule.Tie as tie
 
-check-path-requires : tie.Need-check-path-requires
-check-path-requires c κs = search needs
-
-enum-told : tie.Need-enum-told
-enum-told c = search needs
-
-enum-told-2 : tie.Need-enum-told-2
-enum-told-2 c = search needs
-
 returns : tie.Need-returns
 returns c = let a = c .before .before .before .before .before .before .before .before .args in
     made-at (rule-no-path _ _ _ _ _ _ _ (not-path (pathOf (a .path .now)) (sym (c .before .before .check-path .ensures) ∙ c .enum-told2 .given .1))) refused
@@ -35,20 +26,8 @@ sub-find-name c = omega (arith, store-held _ _ (c .before .before .before .befor
 part-find-name-start : tie.Need-part-find-name-start
 part-find-name-start c = omega (arith, store-held _ _ (c .before .before .before .before .before .before .before .before .before .pre) .size)
 
-part-find-name-end : tie.Need-part-find-name-end
-part-find-name-end c = search needs
-
 find-name-requires : tie.Need-find-name-requires
 find-name-requires c κs = (rw (rest-of (c .before .before .before .before .before .before .before .before .before .before .args .state .now) 8) (store-held _ _ (c .before .before .before .before .before .before .before .before .before .before .pre) .policy), omega arith)
-
-enum-known-u : tie.Need-enum-known-u
-enum-known-u c = search needs
-
-enum-told-3 : tie.Need-enum-told-3
-enum-told-3 c = search needs
-
-same-length : tie.Need-same-length
-same-length c = search needs
 
 returns-2 : tie.Need-returns-2
 returns-2 c = let a = c .before .before .before .before .before .before .before .before .before .before .before .before .before .args in
@@ -59,12 +38,6 @@ returns-2 c = let a = c .before .before .before .before .before .before .before 
     let w = sym (c .before .before .before .before .before .before .before .check-path .ensures) ∙ c .before .before .before .before .before .enum-told .given .1 in
     let p = is-path (pathOf (a .path .now)) _ w in
     made-at (rule-no-name s t _ _ _ _ n p (found-named s n (c .before .before .find-name .ensures) (c .enum-told3 .given .1))) refused
-
-has-bracket-requires : tie.Need-has-bracket-requires
-has-bracket-requires c κs = search needs
-
-same-length-2 : tie.Need-same-length-2
-same-length-2 c = search needs
 
 returns-3 : tie.Need-returns-3
 returns-3 c = let a = c .before .before .before .before .before .before .before .before .before .before .before .before .before .before .before .before .args in
@@ -78,17 +51,8 @@ returns-3 c = let a = c .before .before .before .before .before .before .before 
     let e : subjectNamed (policyIn s) n ≡ Subject u = found-named s n (c .before .before .before .before .before .find-name .ensures) (c .before .before .before .u .given .1) in
     made-at (rule-bracket s t _ _ _ _ n p u e (sym (c .before .has-bracket .ensures) ∙ c .if1 .taken)) refused
 
-add-wide : tie.Need-add-wide
-add-wide c = search needs
-
 slice-read-wide : tie.Need-slice-read-wide
 slice-read-wide c = omega (arith, store-held _ _ (c .before .before .before .before .before .before .before .before .before .before .before .before .before .before .before .before .before .pre) .size)
-
-wide-requires : tie.Need-wide-requires
-wide-requires c κs = search needs
-
-same-length-3 : tie.Need-same-length-3
-same-length-3 c = search needs
 
 returns-4 : tie.Need-returns-4
 returns-4 c = let a = c .before .before .before .before .before .before .before .before .before .before .before .before .before .before .before .before .before .before .before .args in
@@ -116,9 +80,6 @@ path-restricted-requires c κs = let a = c .before .before .before .before .befo
     let b = sym (c .before .before .before .before .has-bracket .ensures) ∙ c .before .before .before .if1 .left in
     plain (a .path .now) _ w b
 
-same-length-4 : tie.Need-same-length-4
-same-length-4 c = search needs
-
 returns-5 : tie.Need-returns-5
 returns-5 c = let a = c .before .before .before .before .before .before .before .before .before .before .before .before .before .before .before .before .before .before .before .before .before .args in
     let g = c .before .before .before .before .before .before .before .before .before .before .before .before .before .before .before .before .before .before .before .before .before .pre in
@@ -131,15 +92,6 @@ returns-5 c = let a = c .before .before .before .before .before .before .before 
     let e : subjectNamed (policyIn s) n ≡ Subject u = found-named s n (c .before .before .before .before .before .before .before .before .before .before .find-name .ensures) (c .before .before .before .before .before .before .before .before .u .given .1) in
     let b = sym (c .before .before .before .before .before .before .has-bracket .ensures) ∙ c .before .before .before .before .before .if1 .left in
     made-at (rule-restricted s t _ _ _ _ n p u e b (omega (arith, c .before .before .before .wide .ensures)) (sym (c .before .path-restricted .ensures) ∙ c .if3 .taken)) refused
-
-answer-ok-requires : tie.Need-answer-ok-requires
-answer-ok-requires c κs = search needs
-
-same-length-5 : tie.Need-same-length-5
-same-length-5 c = search needs
-
-same-length-6 : tie.Need-same-length-6
-same-length-6 c = search needs
 
 returns-6 : tie.Need-returns-6
 returns-6 c = let a = c .before .before .before .before .before .before .before .before .before .before .before .before .before .before .before .before .before .before .before .before .before .before .before .before .before .before .args in
@@ -161,9 +113,6 @@ sub-add-rule c = omega (arith, store-held _ _ (c .before .before .before .before
 part-add-rule-start : tie.Need-part-add-rule-start
 part-add-rule-start c = omega (arith, store-held _ _ (c .before .before .before .before .before .before .before .before .before .before .before .before .before .before .before .before .before .before .before .before .before .before .before .before .before .before .pre) .size)
 
-part-add-rule-end : tie.Need-part-add-rule-end
-part-add-rule-end c = search needs
-
 add-rule-requires : tie.Need-add-rule-requires
 add-rule-requires c κs = let a = c .before .before .before .before .before .before .before .before .before .before .before .before .before .before .before .before .before .before .before .before .before .before .before .before .before .before .before .args in
     let g = c .before .before .before .before .before .before .before .before .before .before .before .before .before .before .before .before .before .before .before .before .before .before .before .before .before .before .before .pre in
@@ -182,12 +131,6 @@ slice-write-state c = let g = c .before .before .before .before .before .before 
     let s = c .before .before .before .before .before .before .before .before .before .before .before .before .before .before .before .before .before .before .before .before .before .before .before .before .before .before .before .before .before .before .args .state .now in
     put-room s (c .before .before .add-rule .last .0) (omega (arith, store-held _ _ g .size))
 
-same-length-7 : tie.Need-same-length-7
-same-length-7 c = search needs
-
-same-length-8 : tie.Need-same-length-8
-same-length-8 c = search needs
-
 returns-7 : tie.Need-returns-7
 returns-7 c = let a = c .before .before .before .before .before .before .before .before .before .before .before .before .before .before .before .before .before .before .before .before .before .before .before .before .before .before .before .before .before .before .args in
     let g = c .before .before .before .before .before .before .before .before .before .before .before .before .before .before .before .before .before .before .before .before .before .before .before .before .before .before .before .before .before .before .pre in
@@ -205,39 +148,9 @@ returns-7 c = let a = c .before .before .before .before .before .before .before 
 pub rule-spec : {M : Type 1} → statement M
 rule-spec =
     tie.close
-    (tie.spec
-    check-path-requires
-    enum-told
-    enum-told-2
-    returns
-    sub-find-name
-    part-find-name-start
-    part-find-name-end
-    find-name-requires
-    enum-known-u
-    enum-told-3
-    same-length
-    returns-2
-    has-bracket-requires
-    same-length-2
-    returns-3
-    add-wide
-    slice-read-wide
-    wide-requires
-    same-length-3
-    returns-4
-    path-restricted-requires
-    same-length-4
-    returns-5
-    answer-ok-requires
-    same-length-5
-    same-length-6
-    returns-6
-    sub-add-rule
-    part-add-rule-start
-    part-add-rule-end
-    add-rule-requires
-    slice-write-state
-    same-length-7
-    same-length-8
-    returns-7)
+    (tie.spec (λ c κs. search needs) (λ c. search needs) (λ c. search needs) returns sub-find-name part-find-name-start
+    (λ c. search needs) find-name-requires (λ c. search needs) (λ c. search needs) (λ c. search needs) returns-2
+    (λ c κs. search needs) (λ c. search needs) returns-3 (λ c. search needs) slice-read-wide (λ c κs. search needs)
+    (λ c. search needs) returns-4 path-restricted-requires (λ c. search needs) returns-5 (λ c κs. search needs)
+    (λ c. search needs) (λ c. search needs) returns-6 sub-add-rule part-add-rule-start (λ c. search needs)
+    add-rule-requires slice-write-state (λ c. search needs) (λ c. search needs) returns-7)

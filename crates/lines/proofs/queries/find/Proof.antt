@@ -8,15 +8,6 @@ use borrow.Author.Needs.{needs}
 use Rattle.lines.proofs.queries.find.Statement.{statement}
 use Rattle.lines.proofs.queries.find.Tie as tie
 
-check-path-requires : tie.Need-check-path-requires
-check-path-requires c κs = search needs
-
-enum-told : tie.Need-enum-told
-enum-told c = search needs
-
-enum-told-2 : tie.Need-enum-told-2
-enum-told-2 c = search needs
-
 returns : tie.Need-returns
 returns c = let a = c .before .before .before .before .before .before .before .args in made-at (find-no-path _ _ _ _ _ (not-path (pathOf (a .path .now)) (sym (c .before .before .check-path .ensures) ∙ c .enum-told2 .given .1))) refused
 
@@ -29,22 +20,8 @@ returns-2 c = let a = c .before .before .before .before .before .before .before 
 find-user-requires : tie.Need-find-user-requires
 find-user-requires c κs = let a = c .before .before .before .before .before .before .before .before .before .before .args in (c .before .before .before .before .before .before .before .before .before .before .pre, ne-eqb _ _ (c .before .if1 .left), is-path (pathOf (a .path .now)) _ (sym (c .before .before .before .before .before .check-path .ensures) ∙ c .before .before .before .enum-told .given .1))
 
-same-length : tie.Need-same-length
-same-length c = search needs
-
-returns-3 : tie.Need-returns-3
-returns-3 c = search needs
-
 pub find-spec : {M : Type 1} → statement M
 find-spec =
     tie.close
-    (tie.spec
-    check-path-requires
-    enum-told
-    enum-told-2
-    returns
-    shared-slice-read-if1
-    returns-2
-    find-user-requires
-    same-length
-    returns-3)
+    (tie.spec (λ c κs. search needs) (λ c. search needs) (λ c. search needs) returns shared-slice-read-if1 returns-2
+    find-user-requires (λ c. search needs) (λ c. search needs))

@@ -7,35 +7,14 @@ use Rattle.lines.proofs.StepLaws.{made-at, made-finish, shown-fits, sho
 use Rattle.lines.proofs.queries.find_user.Statement.{statement}
 use Rattle.lines.proofs.queries.find_user.Tie as tie
 
-slice-aggregate-select-user : tie.Need-slice-aggregate-select-user
-slice-aggregate-select-user c = search needs
-
-slice-aggregate-select-user-2 : tie.Need-slice-aggregate-select-user-2
-slice-aggregate-select-user-2 c = search needs
-
-slice-aggregate-select-user-3 : tie.Need-slice-aggregate-select-user-3
-slice-aggregate-select-user-3 c = search needs
-
 select-user-requires : tie.Need-select-user-requires
 select-user-requires c κs = let g = c .before .before .before .before .before .before .before .pre in (g .0, g .1, g .2, record { reading = refl; seeing = refl }, refl {a = 16384}, refl {a = 16384}, refl {a = 16384})
-
-sub-answer-find : tie.Need-sub-answer-find
-sub-answer-find c = search needs
-
-part-answer-find-start : tie.Need-part-answer-find-start
-part-answer-find-start c = search needs
 
 part-answer-find-end : tie.Need-part-answer-find-end
 part-answer-find-end c = let g = c .before .before .before .before .before .before .before .before .before .before .before .before .pre in
     let a = c .before .before .before .before .before .before .before .before .before .before .before .before .args in
     let r = c .before .before .before .before .select-user .ensures .0 in
     shown-long (a .state .now) (a .table .now) (g .0) _ _ _ (r .size) (r .numbers)
-
-sub-answer-find-2 : tie.Need-sub-answer-find-2
-sub-answer-find-2 c = search needs
-
-part-answer-find-start-2 : tie.Need-part-answer-find-start-2
-part-answer-find-start-2 c = search needs
 
 part-answer-find-end-2 : tie.Need-part-answer-find-end-2
 part-answer-find-end-2 c = let g = c .before .before .before .before .before .before .before .before .before .before .before .before .before .before .pre in
@@ -49,12 +28,6 @@ answer-find-requires c κs = let g = c .before .before .before .before .before .
     let r = c .before .before .before .before .before .before .before .before .select-user .ensures .0 in
     (shown-fits (a .state .now) (a .table .now) (g .0) _ _ _ (r .size) (r .numbers), marks-cover (a .state .now) (a .table .now) (a .path .now) _ _ _ _ _ (g .0) (r .size) (r .numbers) (r .picked))
 
-finished-requires : tie.Need-finished-requires
-finished-requires c κs = search needs
-
-same-length : tie.Need-same-length
-same-length c = search needs
-
 returns : tie.Need-returns
 returns c = let g = c .before .before .before .before .before .before .before .before .before .before .before .before .before .before .before .before .before .before .before .before .pre in
     let a = c .before .before .before .before .before .before .before .before .before .before .before .before .before .before .before .before .before .before .before .before .args in
@@ -66,18 +39,6 @@ returns c = let g = c .before .before .before .before .before .before .before .b
 pub find-user-spec : {M : Type 1} → statement M
 find-user-spec =
     tie.close
-    (tie.spec
-    slice-aggregate-select-user
-    slice-aggregate-select-user-2
-    slice-aggregate-select-user-3
-    select-user-requires
-    sub-answer-find
-    part-answer-find-start
-    part-answer-find-end
-    sub-answer-find-2
-    part-answer-find-start-2
-    part-answer-find-end-2
-    answer-find-requires
-    finished-requires
-    same-length
-    returns)
+    (tie.spec (λ c. search needs) (λ c. search needs) (λ c. search needs) select-user-requires (λ c. search needs)
+    (λ c. search needs) part-answer-find-end (λ c. search needs) (λ c. search needs) part-answer-find-end-2
+    answer-find-requires (λ c κs. search needs) (λ c. search needs) returns)

@@ -8,14 +8,8 @@ use Rattle.lines.proofs.StepLaws.{user-some, shown-long, shown-fits, sh
 use Rattle.lines.proofs.queries.select_user.Statement.{statement}
 use Rattle.lines.proofs.queries.select_user.Tie as tie
 
-show-user-requires : tie.Need-show-user-requires
-show-user-requires c κs = search needs
-
 shared-slice-read-wide : tie.Need-shared-slice-read-wide
 shared-slice-read-wide c = omega (arith, store-held _ _ (c .before .before .before .before .before .before .before .before .before .before .before .before .before .before .pre .0) .size)
-
-wide-requires : tie.Need-wide-requires
-wide-requires c κs = search needs
 
 sub-user : tie.Need-sub-user
 sub-user c = let g = c .before .before .before .before .before .before .before .before .before .before .before .before .before .before .before .pre in omega (arith, c .wide .ensures, user-some _ _ (g .0) (g .1))
@@ -25,15 +19,6 @@ sub-select c = omega (arith, store-held _ _ (c .before .before .before .before .
 
 part-select-start : tie.Need-part-select-start
 part-select-start c = omega (arith, store-held _ _ (c .before .before .before .before .before .before .before .before .before .before .before .before .before .before .before .pre .0) .size)
-
-part-select-end : tie.Need-part-select-end
-part-select-end c = search needs
-
-sub-select-2 : tie.Need-sub-select-2
-sub-select-2 c = search needs
-
-part-select-start-2 : tie.Need-part-select-start-2
-part-select-start-2 c = search needs
 
 part-select-end-2 : tie.Need-part-select-end-2
 part-select-end-2 c = let g = c .before .before .before .before .before .before .before .before .before .before .before .before .before .before .before .before .before .pre in
@@ -47,15 +32,6 @@ select-requires c κs = let g = c .before .before .before .before .before .befor
     let f = shown-fits (a .state .now) (a .table .now) (g .0) _ _ _ (r .0) (r .1) in
     (subject-asks (a .state .now) (a .table .now) (g .0) (g .1) _ (c .before .before .before .before .wide .ensures), f, omega (arith, f .few, g .6))
 
-same-length : tie.Need-same-length
-same-length c = search needs
-
-same-length-2 : tie.Need-same-length-2
-same-length-2 c = search needs
-
-same-length-3 : tie.Need-same-length-3
-same-length-3 c = search needs
-
 returns : tie.Need-returns
 returns c = let g = c .before .before .before .before .before .before .before .before .before .before .before .before .before .before .before .before .before .before .before .before .before .before .pre in
     let a = c .before .before .before .before .before .before .before .before .before .before .before .before .before .before .before .before .before .before .before .before .before .before .args in
@@ -65,19 +41,6 @@ returns c = let g = c .before .before .before .before .before .before .before .b
 pub select-user-spec : {M : Type 1} → statement M
 select-user-spec =
     tie.close
-    (tie.spec
-    show-user-requires
-    shared-slice-read-wide
-    wide-requires
-    sub-user
-    sub-select
-    part-select-start
-    part-select-end
-    sub-select-2
-    part-select-start-2
-    part-select-end-2
-    select-requires
-    same-length
-    same-length-2
-    same-length-3
-    returns)
+    (tie.spec (λ c κs. search needs) shared-slice-read-wide (λ c κs. search needs) sub-user sub-select part-select-start
+    (λ c. search needs) (λ c. search needs) (λ c. search needs) part-select-end-2 select-requires (λ c. search needs)
+    (λ c. search needs) (λ c. search needs) returns)

@@ -15,9 +15,6 @@ use Rattle.lines.proofs.queries.show_user.Tie as tie
 shared-slice-read-wide : tie.Need-shared-slice-read-wide
 shared-slice-read-wide c = let g = c .before .before .before .before .before .pre in omega (arith, store-held _ _ (g .0) .size)
 
-wide-requires : tie.Need-wide-requires
-wide-requires c κs = search needs
-
 sub-user : tie.Need-sub-user
 sub-user c = let g = c .before .before .before .before .before .before .pre in omega (arith, c .wide .ensures, user-some _ _ (g .0) (g .1))
 
@@ -27,9 +24,6 @@ sub-asked-on c = let g = c .before .before .before .before .before .before .pre 
 part-asked-on-start : tie.Need-part-asked-on-start
 part-asked-on-start c = let g = c .before .before .before .before .before .before .pre in omega (arith, store-held _ _ (g .0) .size)
 
-part-asked-on-end : tie.Need-part-asked-on-end
-part-asked-on-end c = search needs
-
 asked-on-requires : tie.Need-asked-on-requires
 asked-on-requires c κs = let g = c .before .before .before .before .before .before .before .before .pre in rights-asks _ _ (g .0) (g .1) _ _ (c .before .before .wide .ensures) (g .3)
 
@@ -38,12 +32,6 @@ show-requires c κs = let g = c .before .before .before .before .before .before 
     let a = c .before .before .before .before .before .before .before .before .before .before .before .before .before .args in
     let h = store-held _ _ (g .0) in
     (h .table, asked-cover (a .state .now) (a .table .now) _ (drop (count (a .table .now)) (a .rights .now)) _ (a .asked) (c .before .before .before .before .before .before .before .wide .ensures) (c .before .before .before .before .asked-on .ensures), omega (arith, table-few _ (h .table), g .4))
-
-same-length : tie.Need-same-length
-same-length c = search needs
-
-same-length-2 : tie.Need-same-length-2
-same-length-2 c = search needs
 
 returns : tie.Need-returns
 returns c = let r = c .before .before .show .ensures in
@@ -56,15 +44,5 @@ returns c = let r = c .before .before .show .ensures in
 pub show-user-spec : {M : Type 1} → statement M
 show-user-spec =
     tie.close
-    (tie.spec
-    shared-slice-read-wide
-    wide-requires
-    sub-user
-    sub-asked-on
-    part-asked-on-start
-    part-asked-on-end
-    asked-on-requires
-    show-requires
-    same-length
-    same-length-2
-    returns)
+    (tie.spec shared-slice-read-wide (λ c κs. search needs) sub-user sub-asked-on part-asked-on-start
+    (λ c. search needs) asked-on-requires show-requires (λ c. search needs) (λ c. search needs) returns)

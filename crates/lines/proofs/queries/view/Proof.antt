@@ -15,18 +15,7 @@ returns c = made-at (view-no-user _ _ _ (eq-eqb _ _ (c .if1 .taken))) refused
 view-user-requires : tie.Need-view-user-requires
 view-user-requires c κs = (c .before .before .before .before .before .before .pre, ne-eqb _ _ (c .before .if1 .left))
 
-same-length : tie.Need-same-length
-same-length c = search needs
-
-returns-2 : tie.Need-returns-2
-returns-2 c = search needs
-
 pub view-spec : {M : Type 1} → statement M
 view-spec =
     tie.close
-    (tie.spec
-    shared-slice-read-if1
-    returns
-    view-user-requires
-    same-length
-    returns-2)
+    (tie.spec shared-slice-read-if1 returns view-user-requires (λ c. search needs) (λ c. search needs))

@@ -7,20 +7,8 @@ use Rattle.lines.proofs.StepLaws.{made-at, made-finish, shown-fits, sho
 use Rattle.lines.proofs.queries.view_user.Statement.{statement}
 use Rattle.lines.proofs.queries.view_user.Tie as tie
 
-slice-aggregate-show-user : tie.Need-slice-aggregate-show-user
-slice-aggregate-show-user c = search needs
-
-slice-aggregate-show-user-2 : tie.Need-slice-aggregate-show-user-2
-slice-aggregate-show-user-2 c = search needs
-
 show-user-requires : tie.Need-show-user-requires
 show-user-requires c κs = let g = c .before .before .before .before .before .pre in (g .0, g .1, record { reading = refl; seeing = refl }, refl {a = 16384}, refl {a = 16384})
-
-sub-answer-view : tie.Need-sub-answer-view
-sub-answer-view c = search needs
-
-part-answer-view-start : tie.Need-part-answer-view-start
-part-answer-view-start c = search needs
 
 part-answer-view-end : tie.Need-part-answer-view-end
 part-answer-view-end c = let g = c .before .before .before .before .before .before .before .before .before .pre in
@@ -32,12 +20,6 @@ answer-view-requires c κs = let g = c .before .before .before .before .before .
     let a = c .before .before .before .before .before .before .before .before .before .before .before .args in
     shown-fits (a .state .now) (a .table .now) (g .0) _ _ _ (c .before .before .before .before .before .show-user .ensures .0) (c .before .before .before .before .before .show-user .ensures .1)
 
-finished-requires : tie.Need-finished-requires
-finished-requires c κs = search needs
-
-same-length : tie.Need-same-length
-same-length c = search needs
-
 returns : tie.Need-returns
 returns c = let g = c .before .before .before .before .before .before .before .before .before .before .before .before .before .before .before .pre in
     let a = c .before .before .before .before .before .before .before .before .before .before .before .before .before .before .before .args in
@@ -47,14 +29,5 @@ returns c = let g = c .before .before .before .before .before .before .before .b
 pub view-user-spec : {M : Type 1} → statement M
 view-user-spec =
     tie.close
-    (tie.spec
-    slice-aggregate-show-user
-    slice-aggregate-show-user-2
-    show-user-requires
-    sub-answer-view
-    part-answer-view-start
-    part-answer-view-end
-    answer-view-requires
-    finished-requires
-    same-length
-    returns)
+    (tie.spec (λ c. search needs) (λ c. search needs) show-user-requires (λ c. search needs) (λ c. search needs)
+    part-answer-view-end answer-view-requires (λ c κs. search needs) (λ c. search needs) returns)

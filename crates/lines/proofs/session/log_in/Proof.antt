@@ -20,34 +20,13 @@ sub-find-name c = omega (arith, store-held _ _ (c .before .before .before .befor
 part-find-name-start : tie.Need-part-find-name-start
 part-find-name-start c = omega (arith, store-held _ _ (c .before .before .before .before .before .pre) .size)
 
-part-find-name-end : tie.Need-part-find-name-end
-part-find-name-end c = search needs
-
 find-name-requires : tie.Need-find-name-requires
 find-name-requires c κs = let g = c .before .before .before .before .before .before .pre in
     (rw (rest-of (c .before .before .before .before .before .before .args .state .now) 8) (store-held _ _ g .policy), omega arith)
 
-enum-known-u : tie.Need-enum-known-u
-enum-known-u c = search needs
-
-enum-told : tie.Need-enum-told
-enum-told c = search needs
-
-same-length : tie.Need-same-length
-same-length c = search needs
-
 returns : tie.Need-returns
 returns c = let a = c .before .before .before .before .before .before .before .before .before .args in
     made-at (user-unknown _ _ _ _ (sym (name-whole (a .state .now) (a .name .now)) ∙ sym (c .before .before .find-name .ensures) ∙ c .enum-told .given .1)) refused
-
-answer-ok-requires : tie.Need-answer-ok-requires
-answer-ok-requires c κs = search needs
-
-same-length-2 : tie.Need-same-length-2
-same-length-2 c = search needs
-
-same-length-3 : tie.Need-same-length-3
-same-length-3 c = search needs
 
 returns-2 : tie.Need-returns-2
 returns-2 c = let a = c .before .before .before .before .before .before .before .before .before .before .before .before .before .before .before .args in
@@ -85,12 +64,6 @@ cast-state c = let a = c .before .before .before .before .before .before .before
 slice-write-state-2 : tie.Need-slice-write-state-2
 slice-write-state-2 c = simp length-set (omega (arith, store-held _ _ (c .before .before .before .before .before .before .before .before .before .before .before .before .before .before .before .pre) .size))
 
-same-length-4 : tie.Need-same-length-4
-same-length-4 c = search needs
-
-same-length-5 : tie.Need-same-length-5
-same-length-5 c = search needs
-
 returns-3 : tie.Need-returns-3
 returns-3 c = let a = c .before .before .before .before .before .before .before .before .before .before .before .before .before .before .before .args in
     let g = c .before .before .before .before .before .before .before .before .before .before .before .before .before .before .before .pre in
@@ -104,23 +77,7 @@ returns-3 c = let a = c .before .before .before .before .before .before .before 
 pub log-in-spec : {M : Type 1} → statement M
 log-in-spec =
     tie.close
-    (tie.spec
-    sub-find-name
-    part-find-name-start
-    part-find-name-end
-    find-name-requires
-    enum-known-u
-    enum-told
-    same-length
-    returns
-    answer-ok-requires
-    same-length-2
-    same-length-3
-    returns-2
-    slice-write-state
-    add-state
-    cast-state
-    slice-write-state-2
-    same-length-4
-    same-length-5
+    (tie.spec sub-find-name part-find-name-start (λ c. search needs) find-name-requires (λ c. search needs)
+    (λ c. search needs) (λ c. search needs) returns (λ c κs. search needs) (λ c. search needs) (λ c. search needs)
+    returns-2 slice-write-state add-state cast-state slice-write-state-2 (λ c. search needs) (λ c. search needs)
     returns-3)

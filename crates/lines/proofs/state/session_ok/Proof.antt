@@ -12,35 +12,14 @@ use borrow.Author.Needs.{needs}
 use Rattle.lines.proofs.state.session_ok.Statement.{statement}
 use Rattle.lines.proofs.state.session_ok.Tie as tie
 
-shared-slice-read-stage : tie.Need-shared-slice-read-stage
-shared-slice-read-stage c = search needs
-
-shared-slice-read-user : tie.Need-shared-slice-read-user
-shared-slice-read-user c = search needs
-
 returns : tie.Need-returns
 returns c = sym (no-stage _ _ (c .if1 .taken))
-
-shared-slice-read-if2 : tie.Need-shared-slice-read-if2
-shared-slice-read-if2 c = search needs
 
 returns-2 : tie.Need-returns-2
 returns-2 c = sym (no-user _ _ (c .if2 .taken))
 
-zeros-at-requires : tie.Need-zeros-at-requires
-zeros-at-requires c κs = search needs
-
 returns-3 : tie.Need-returns-3
 returns-3 c = sym (no-zeros _ _ (sym (c .before .zeros-at .ensures) ∙ not-true _ (c .if3 .taken)))
-
-add-rules-in-stage : tie.Need-add-rules-in-stage
-add-rules-in-stage c = search needs
-
-shared-slice-read-rules-in-stage : tie.Need-shared-slice-read-rules-in-stage
-shared-slice-read-rules-in-stage c = search needs
-
-rules-in-stage-requires : tie.Need-rules-in-stage-requires
-rules-in-stage-requires c κs = search needs
 
 returns-4 : tie.Need-returns-4
 returns-4 c = sym (no-rules _ _ (sym (c .before .rules-in-stage .ensures) ∙ not-true _ (c .if4 .taken)))
@@ -48,16 +27,10 @@ returns-4 c = sym (no-rules _ _ (sym (c .before .rules-in-stage .ensures) ∙ no
 count-of-requires : tie.Need-count-of-requires
 count-of-requires c κs = table-long _ (c .before .before .before .before .before .before .before .before .before .before .before .before .pre .1)
 
-agree-requires : tie.Need-agree-requires
-agree-requires c κs = search needs
-
 returns-5 : tie.Need-returns-5
 returns-5 c = let s = c .before .before .before .before .before .before .before .before .before .before .before .before .before .before .before .args .state .now in
     let t = c .before .before .before .before .before .before .before .before .before .before .before .before .before .before .before .args .table .now in
     sym (no-root s t (ap (λ n. Bool·beq (leb 2 (stage s)) (leb 1 n)) (sym (c .before .before .count-of .ensures)) ∙ sym (c .before .agree .ensures) ∙ not-true _ (c .if5 .taken)))
-
-agree-requires-2 : tie.Need-agree-requires-2
-agree-requires-2 c κs = search needs
 
 returns-6 : tie.Need-returns-6
 returns-6 c = let s = c .before .before .before .before .before .before .before .before .before .before .before .before .before .before .before .before .args .state .now in
@@ -69,20 +42,6 @@ returns-6 c = let s = c .before .before .before .before .before .before .before 
 pub session-ok-spec : {M : Type 1} → statement M
 session-ok-spec =
     tie.close
-    (tie.spec
-    shared-slice-read-stage
-    shared-slice-read-user
-    returns
-    shared-slice-read-if2
-    returns-2
-    zeros-at-requires
-    returns-3
-    add-rules-in-stage
-    shared-slice-read-rules-in-stage
-    rules-in-stage-requires
-    returns-4
-    count-of-requires
-    agree-requires
-    returns-5
-    agree-requires-2
-    returns-6)
+    (tie.spec (λ c. search needs) (λ c. search needs) returns (λ c. search needs) returns-2 (λ c κs. search needs)
+    returns-3 (λ c. search needs) (λ c. search needs) (λ c κs. search needs) returns-4 count-of-requires
+    (λ c κs. search needs) returns-5 (λ c κs. search needs) returns-6)

@@ -7,26 +7,11 @@ use borrow.Author.Needs.{needs}
 use Rattle.lines.proofs.state.store_ok.Statement.{statement}
 use Rattle.lines.proofs.state.store_ok.Tie as tie
 
-table-ok-requires : tie.Need-table-ok-requires
-table-ok-requires c κs = search needs
-
 returns : tie.Need-returns
 returns c = sym (no-table _ _ (sym (c .before .table-ok .ensures) ∙ not-true _ (c .if1 .taken)))
 
 returns-2 : tie.Need-returns-2
 returns-2 c = sym (no-length _ _ (c .if2 .taken))
-
-sub-policy-ok : tie.Need-sub-policy-ok
-sub-policy-ok c = search needs
-
-part-policy-ok-start : tie.Need-part-policy-ok-start
-part-policy-ok-start c = search needs
-
-part-policy-ok-end : tie.Need-part-policy-ok-end
-part-policy-ok-end c = search needs
-
-policy-ok-requires : tie.Need-policy-ok-requires
-policy-ok-requires c κs = search needs
 
 returns-3 : tie.Need-returns-3
 returns-3 c = sym (no-policy _ _ (simp rest-of at (sym (c .before .policy-ok .ensures) ∙ not-true _ (c .if3 .taken))))
@@ -42,14 +27,5 @@ returns-4 c = c .session-ok .ensures
 pub store-ok-spec : {M : Type 1} → statement M
 store-ok-spec =
     tie.close
-    (tie.spec
-    table-ok-requires
-    returns
-    returns-2
-    sub-policy-ok
-    part-policy-ok-start
-    part-policy-ok-end
-    policy-ok-requires
-    returns-3
-    session-ok-requires
-    returns-4)
+    (tie.spec (λ c κs. search needs) returns returns-2 (λ c. search needs) (λ c. search needs) (λ c. search needs)
+    (λ c κs. search needs) returns-3 session-ok-requires returns-4)

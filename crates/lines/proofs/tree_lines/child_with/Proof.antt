@@ -20,9 +20,6 @@ turned-down-requires c κs = let a = c .before .before .before .before .before .
     let h = store-held _ _ (g .0) .table in
     (h, omega (arith, table-few (a .table .now) h, root-marks (a .marks .now) (g .1)), g .3, g .4)
 
-same-length : tie.Need-same-length
-same-length c = search needs
-
 returns : tie.Need-returns
 returns c = let a = c .before .before .before .before .before .before .before .before .args in
     let g = c .before .before .before .before .before .before .before .before .pre in
@@ -31,15 +28,6 @@ returns c = let a = c .before .before .before .before .before .before .before .b
     let k = a .marks .now in
     made-at (child-inserts s t (length (a .area .now)) (a .m) (a .tree .now) k (g .1) (g .2)
     ∙ insert-refused Append k (a .m) (a .tree .now) t _ (c .before .turned-down .ensures) okText (withStage 3 s) s (length (a .area .now)) (c .if1 .taken)) refused
-
-answer-ok-requires : tie.Need-answer-ok-requires
-answer-ok-requires c κs = search needs
-
-same-length-2 : tie.Need-same-length-2
-same-length-2 c = search needs
-
-same-length-3 : tie.Need-same-length-3
-same-length-3 c = search needs
 
 returns-2 : tie.Need-returns-2
 returns-2 c = let a = c .before .before .before .before .before .before .before .before .before .before .before .before .before .args in
@@ -67,15 +55,6 @@ insert-marked-requires c κs = let a = c .before .before .before .before .before
 slice-write-state : tie.Need-slice-write-state
 slice-write-state c = omega (arith, store-held _ _ (c .before .before .before .before .before .before .before .before .before .before .before .before .before .before .before .before .before .pre .0) .size)
 
-same-length-4 : tie.Need-same-length-4
-same-length-4 c = search needs
-
-same-length-5 : tie.Need-same-length-5
-same-length-5 c = search needs
-
-same-length-6 : tie.Need-same-length-6
-same-length-6 c = search needs
-
 returns-3 : tie.Need-returns-3
 returns-3 c = let a = c .before .before .before .before .before .before .before .before .before .before .before .before .before .before .before .before .before .args in
     let g = c .before .before .before .before .before .before .before .before .before .before .before .before .before .before .before .before .before .pre in
@@ -90,17 +69,6 @@ returns-3 c = let a = c .before .before .before .before .before .before .before 
 pub child-with-spec : {M : Type 1} → statement M
 child-with-spec =
     tie.close
-    (tie.spec
-    turned-down-requires
-    same-length
-    returns
-    answer-ok-requires
-    same-length-2
-    same-length-3
-    returns-2
-    insert-marked-requires
-    slice-write-state
-    same-length-4
-    same-length-5
-    same-length-6
-    returns-3)
+    (tie.spec turned-down-requires (λ c. search needs) returns (λ c κs. search needs) (λ c. search needs)
+    (λ c. search needs) returns-2 insert-marked-requires slice-write-state (λ c. search needs) (λ c. search needs)
+    (λ c. search needs) returns-3)

@@ -6,24 +6,9 @@ use borrow.Author.Needs.{needs}
 use Rattle.lines.proofs.tree_lines.record_restricted.Statement.{statement}
 use Rattle.lines.proofs.tree_lines.record_restricted.Tie as tie
 
-add-wide : tie.Need-add-wide
-add-wide c = search needs
-
-shared-slice-read-wide : tie.Need-shared-slice-read-wide
-shared-slice-read-wide c = search needs
-
-wide-requires : tie.Need-wide-requires
-wide-requires c κs = search needs
-
 returns : tie.Need-returns
 returns c = let a = c .before .before .before .before .args in
     label-long (a .tree .now) (a .at) _ (c .before .before .before .before .pre) (c .before .wide .ensures) (c .if1 .taken)
-
-add-is-restricted : tie.Need-add-is-restricted
-add-is-restricted c = search needs
-
-is-restricted-requires : tie.Need-is-restricted-requires
-is-restricted-requires c κs = search needs
 
 returns-2 : tie.Need-returns-2
 returns-2 c = let a = c .before .before .before .before .before .args in
@@ -33,11 +18,5 @@ returns-2 c = let a = c .before .before .before .before .before .args in
 pub record-restricted-spec : {M : Type 1} → statement M
 record-restricted-spec =
     tie.close
-    (tie.spec
-    add-wide
-    shared-slice-read-wide
-    wide-requires
-    returns
-    add-is-restricted
-    is-restricted-requires
-    returns-2)
+    (tie.spec (λ c. search needs) (λ c. search needs) (λ c κs. search needs) returns (λ c. search needs)
+    (λ c κs. search needs) returns-2)

@@ -19,9 +19,6 @@ use borrow.Author.Needs.{needs}
 use Rattle.lines.proofs.tree_lines.root.Statement.{statement}
 use Rattle.lines.proofs.tree_lines.root.Tie as tie
 
-is-restricted-requires : tie.Need-is-restricted-requires
-is-restricted-requires c κs = search needs
-
 returns : tie.Need-returns
 returns c = let l = c .before .before .before .before .before .before .args .label .now in
     made-at (root-restricted _ _ _ l (ap (λ x. sameLabel x restricted) (sym (take-length l)) ∙ sym (c .before .is-restricted .ensures) ∙ c .if1 .taken)) refused
@@ -34,12 +31,6 @@ returns-2 c = let l = c .before .before .before .before .before .before .before 
     made-at (root-full _ _ _ l (ap (λ x. sameLabel x restricted) (sym (take-length l)) ∙ sym (c .before .before .before .is-restricted .ensures) ∙ c .before .before .if1 .left)
     (omega (arith, c .before .capacity-of .ensures, c .if2 .taken))) refused
 
-answer-ok-requires : tie.Need-answer-ok-requires
-answer-ok-requires c κs = search needs
-
-same-length : tie.Need-same-length
-same-length c = search needs
-
 returns-3 : tie.Need-returns-3
 returns-3 c = let g = c .before .before .before .before .before .before .before .before .before .before .before .before .before .pre in
     let s = c .before .before .before .before .before .before .before .before .before .before .before .before .before .args .state .now in
@@ -49,23 +40,8 @@ returns-3 c = let g = c .before .before .before .before .before .before .before 
     made-at (root-new s t _ l e (no-records s t (g .0) (g .1)) (omega (arith, c .before .before .before .before .before .before .capacity-of .ensures, c .before .before .before .before .before .if2 .left)))
     (made-kept okText _ _ s t (withStage 2 s) (changed t (recordOf 0 l ∷ [])) _ (c .before .before .before .answer-ok .ensures) (c .if3 .taken))
 
-put-record-requires : tie.Need-put-record-requires
-put-record-requires c κs = search needs
-
-put-count-requires : tie.Need-put-count-requires
-put-count-requires c κs = search needs
-
 slice-write-state : tie.Need-slice-write-state
 slice-write-state c = omega (arith, store-held _ _ (c .before .before .before .before .before .before .before .before .before .before .before .before .before .before .before .before .before .before .before .before .before .pre .0) .size)
-
-same-length-2 : tie.Need-same-length-2
-same-length-2 c = search needs
-
-same-length-3 : tie.Need-same-length-3
-same-length-3 c = search needs
-
-same-length-4 : tie.Need-same-length-4
-same-length-4 c = search needs
 
 returns-4 : tie.Need-returns-4
 returns-4 c = let g = c .before .before .before .before .before .before .before .before .before .before .before .before .before .before .before .before .before .before .before .before .before .pre in
@@ -83,18 +59,6 @@ returns-4 c = let g = c .before .before .before .before .before .before .before 
 pub root-spec : {M : Type 1} → statement M
 root-spec =
     tie.close
-    (tie.spec
-    is-restricted-requires
-    returns
-    capacity-of-requires
-    returns-2
-    answer-ok-requires
-    same-length
-    returns-3
-    put-record-requires
-    put-count-requires
-    slice-write-state
-    same-length-2
-    same-length-3
-    same-length-4
-    returns-4)
+    (tie.spec (λ c κs. search needs) returns capacity-of-requires returns-2 (λ c κs. search needs) (λ c. search needs)
+    returns-3 (λ c κs. search needs) (λ c κs. search needs) slice-write-state (λ c. search needs) (λ c. search needs)
+    (λ c. search needs) returns-4)

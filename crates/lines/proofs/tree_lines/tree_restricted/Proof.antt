@@ -17,22 +17,10 @@ abbrev μ-loop : tie.MeasureT-loop
 loop-holds : tie.Need-loop-holds Inv-loop μ-loop
 loop-holds c = let a = c .before .args in (omega arith, restricted-first (a .m) (a .tree .now))
 
-mul-record-restricted : tie.Need-mul-record-restricted Inv-loop μ-loop
-mul-record-restricted c = search needs
-
-record-restricted-requires : tie.Need-record-restricted-requires Inv-loop μ-loop
-record-restricted-requires c κs = search needs
-
 returns : tie.Need-returns Inv-loop μ-loop
 returns c = let l = c .before .before .before .loop in
     let a = c .before .before .before .before .before .args in
     restricted-stop (a .m) (l .j) (a .tree .now) (omega arith) (sym (c .before .record-restricted .ensures) ∙ c .if1 .taken) ∙ sym (l .inv .1)
-
-add-j : tie.Need-add-j Inv-loop μ-loop
-add-j c = search needs
-
-loop-less : tie.Need-loop-less Inv-loop μ-loop
-loop-less c = search needs
 
 loop-again : tie.Need-loop-again Inv-loop μ-loop
 loop-again c = let l = c .before .before .before .loop in
@@ -47,14 +35,5 @@ returns-2 c = let l = c .before .loop in
 pub tree-restricted-spec : {M : Type 1} → statement M
 tree-restricted-spec =
     tie.close
-    (tie.spec
-    Inv-loop
-    μ-loop
-    loop-holds
-    mul-record-restricted
-    record-restricted-requires
-    returns
-    add-j
-    loop-less
-    loop-again
-    returns-2)
+    (tie.spec Inv-loop μ-loop loop-holds (λ c. search needs) (λ c κs. search needs) returns (λ c. search needs)
+    (λ c. search needs) loop-again returns-2)

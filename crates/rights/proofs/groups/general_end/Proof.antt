@@ -9,26 +9,11 @@ Inv-loop policy u roles right count k₀ k = k ≤ count
 abbrev μ-loop : tie.MeasureT-loop
 μ-loop policy u roles right count k₀ k = k
 
-loop-holds : tie.Need-loop-holds Inv-loop μ-loop
-loop-holds c = omega arith
-
-sub-is-general : tie.Need-sub-is-general Inv-loop μ-loop
-sub-is-general c = omega arith
-
 is-general-requires : tie.Need-is-general-requires Inv-loop μ-loop
 is-general-requires c κs = (c .before .before .before .pre .0, omega (arith, c .before .before .before .pre .1))
 
 returns : tie.Need-returns Inv-loop μ-loop
 returns c = (c .before .before .before .loop .inv, λ h. c .before .is-general .ensures (c .if1 .taken))
-
-sub-k : tie.Need-sub-k Inv-loop μ-loop
-sub-k c = omega arith
-
-loop-less : tie.Need-loop-less Inv-loop μ-loop
-loop-less c = omega arith
-
-loop-again : tie.Need-loop-again Inv-loop μ-loop
-loop-again c = omega arith
 
 returns-2 : tie.Need-returns-2 Inv-loop μ-loop
 returns-2 c = (omega arith, λ h. absurd (omega arith))
@@ -36,14 +21,5 @@ returns-2 c = (omega arith, λ h. absurd (omega arith))
 pub general-end-spec : {M : Type 1} → statement M
 general-end-spec =
     tie.close
-    (tie.spec
-    Inv-loop
-    μ-loop
-    loop-holds
-    sub-is-general
-    is-general-requires
-    returns
-    sub-k
-    loop-less
-    loop-again
-    returns-2)
+    (tie.spec Inv-loop μ-loop (λ c. omega arith) (λ c. omega arith) is-general-requires returns (λ c. omega arith)
+    (λ c. omega arith) (λ c. omega arith) returns-2)

@@ -47,9 +47,6 @@ with-lane-requires c κs =
 add-k : tie.Need-add-k Inv-loop μ-loop
 add-k c = omega (arith, c .before .before .before .before .before .before .before .before .before .before .before .before .before .pre .0 .sound .rules)
 
-loop-less : tie.Need-loop-less Inv-loop μ-loop
-loop-less c = omega arith
-
 loop-again : tie.Need-loop-again Inv-loop μ-loop
 loop-again c =
     let a = c .before .before .before .before .before .before .before .before .before .before .before .before .before .args in
@@ -69,15 +66,5 @@ returns c =
 pub make-group-spec : {M : Type 1} → statement M
 make-group-spec =
     tie.close
-    (tie.spec
-    Inv-loop
-    μ-loop
-    add-clear-rows
-    clear-rows-requires
-    loop-holds
-    with-lane-requires
-    add-k
-    loop-less
-    loop-again
-    same-length
-    returns)
+    (tie.spec Inv-loop μ-loop add-clear-rows clear-rows-requires loop-holds with-lane-requires add-k (λ c. omega arith)
+    loop-again same-length returns)

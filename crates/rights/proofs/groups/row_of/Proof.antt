@@ -8,30 +8,12 @@ use Rattle.rights.proofs.PackedLaws.{noted-name, noted-text}
 use Rattle.rights.proofs.groups.row_of.Statement.{statement}
 use Rattle.rights.proofs.groups.row_of.Tie as tie
 
-add-if1 : tie.Need-add-if1
-add-if1 c = search needs
-
-shared-slice-read-if1 : tie.Need-shared-slice-read-if1
-shared-slice-read-if1 c = search needs
-
-mul-number-of : tie.Need-mul-number-of
-mul-number-of c = search needs
-
-add-number-of : tie.Need-add-number-of
-add-number-of c = search needs
-
-number-of-requires : tie.Need-number-of-requires
-number-of-requires c κs = search needs
-
 returns : tie.Need-returns
 returns c =
     let a = c .before .before .before .before .before .args in
     let g = c .before .before .before .before .before .pre in
     let p = a .policy .now in
     (c .number-of .ensures .0 ∙ ap (numberIn p (a .words .now) (a .n)) (sym (noted-name (nameAt p (a .u)) (label (recAt p (a .step))) (text-first p (a .step) (g .1) ∙ c .before .if1 .taken))), c .number-of .ensures .1)
-
-number-of-requires-2 : tie.Need-number-of-requires-2
-number-of-requires-2 c κs = search needs
 
 returns-2 : tie.Need-returns-2
 returns-2 c =
@@ -43,12 +25,5 @@ returns-2 c =
 pub row-of-spec : {M : Type 1} → statement M
 row-of-spec =
     tie.close
-    (tie.spec
-    add-if1
-    shared-slice-read-if1
-    mul-number-of
-    add-number-of
-    number-of-requires
-    returns
-    number-of-requires-2
-    returns-2)
+    (tie.spec (λ c. search needs) (λ c. search needs) (λ c. search needs) (λ c. search needs) (λ c κs. search needs)
+    returns (λ c κs. search needs) returns-2)

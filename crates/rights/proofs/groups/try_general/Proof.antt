@@ -13,24 +13,6 @@ returns c =
     let a = c .before .before .before .before .args in
     record { long = refl; at = λ i h. ruled-zero (laneAt (a .policy .now) (a .u) (a .roles .now) (a .right)) (a .right) (chainOf (a .t .now) i) 0 (a .k) _ (c .if1 .taken); rest = refl }
 
-sub-a : tie.Need-sub-a
-sub-a c = search needs
-
-mul-a : tie.Need-mul-a
-mul-a c = search needs
-
-add-a : tie.Need-add-a
-add-a c = search needs
-
-shared-slice-read-rule-all : tie.Need-shared-slice-read-rule-all
-shared-slice-read-rule-all c = search needs
-
-rule-all-requires : tie.Need-rule-all-requires
-rule-all-requires c κs = search needs
-
-same-length : tie.Need-same-length
-same-length c = search needs
-
 returns-2 : tie.Need-returns-2
 returns-2 c =
     let a = c .before .before .before .before .before .before .before .before .before .args in
@@ -42,12 +24,5 @@ returns-2 c =
 pub try-general-spec : {M : Type 1} → statement M
 try-general-spec =
     tie.close
-    (tie.spec
-    returns
-    sub-a
-    mul-a
-    add-a
-    shared-slice-read-rule-all
-    rule-all-requires
-    same-length
-    returns-2)
+    (tie.spec returns (λ c. search needs) (λ c. search needs) (λ c. search needs) (λ c. search needs)
+    (λ c κs. search needs) (λ c. search needs) returns-2)

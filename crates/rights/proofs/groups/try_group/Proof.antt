@@ -45,9 +45,6 @@ returns c =
     let z = sym (made .used-is) ∙ c .if1 .taken in
     (made .packed .long, record { long = refl; at = λ i h. ruled-none q (a .from) (a .right) (chainOf (a .t .now) i) (a .to - a .from) (getD (a .out .now) i 0) z; rest = refl })
 
-array-write-st : tie.Need-array-write-st Inv-loop μ-loop
-array-write-st c = omega arith
-
 loop-holds : tie.Need-loop-holds Inv-loop μ-loop
 loop-holds c =
     let a = c .before .before .before .before .before .before .before .before .before .before .before .before .args in
@@ -63,17 +60,11 @@ add-wide c = omega (arith, c .before .before .before .before .before .before .be
 shared-slice-read-wide : tie.Need-shared-slice-read-wide Inv-loop μ-loop
 shared-slice-read-wide c = omega (arith, c .before .before .before .before .before .before .before .before .before .before .before .before .before .before .before .pre .6 .room)
 
-wide-requires : tie.Need-wide-requires Inv-loop μ-loop
-wide-requires c κs = tt
-
 mul-wide-number : tie.Need-mul-wide-number Inv-loop μ-loop
 mul-wide-number c = omega (arith, c .before .before .before .before .before .before .before .before .before .before .before .before .before .before .before .before .pre .6 .few)
 
 shared-slice-read-wide-number : tie.Need-shared-slice-read-wide-number Inv-loop μ-loop
 shared-slice-read-wide-number c = omega (arith, c .before .before .before .before .before .before .before .before .before .before .before .before .before .before .before .before .before .pre .6 .long)
-
-wide-number-requires : tie.Need-wide-number-requires Inv-loop μ-loop
-wide-number-requires c κs = tt
 
 mul-next-states : tie.Need-mul-next-states Inv-loop μ-loop
 mul-next-states c =
@@ -99,9 +90,6 @@ array-read-next-states c =
     let a = c .before .before .before .before .before .before .before .before .before .before .before .before .before .before .before .before .before .before .before .args in
     omega (arith, c .before .before .before .wide .ensures, low-byte (a .t .now) (a .n) (c .before .before .before .before .before .before .loop .i) (c .before .before .before .before .before .before .before .before .before .before .before .before .before .before .before .before .before .before .before .pre .6 .records) (c .before .before .before .before .before .loop-test .taken))
 
-next-states-requires : tie.Need-next-states-requires Inv-loop μ-loop
-next-states-requires c κs = tt
-
 add-st : tie.Need-add-st Inv-loop μ-loop
 add-st c =
     let a = c .before .before .before .before .before .before .before .before .before .before .before .before .before .before .before .before .before .before .before .before .args in
@@ -120,17 +108,11 @@ array-write-st-2 c =
 slice-read-settle : tie.Need-slice-read-settle Inv-loop μ-loop
 slice-read-settle c = omega (arith, c .before .before .before .before .before .before .before .before .before .before .before .before .before .before .before .before .before .before .before .before .before .pre .7)
 
-settle-requires : tie.Need-settle-requires Inv-loop μ-loop
-settle-requires c κs = tt
-
 slice-write-out : tie.Need-slice-write-out Inv-loop μ-loop
 slice-write-out c = omega (arith, c .before .before .before .before .before .before .before .before .before .before .before .before .before .before .before .before .before .before .before .before .before .before .pre .7)
 
 add-i : tie.Need-add-i Inv-loop μ-loop
 add-i c = omega (arith, c .before .before .before .before .before .before .before .before .before .before .before .before .before .before .before .before .before .before .before .before .before .before .pre .6 .few)
-
-loop-less : tie.Need-loop-less Inv-loop μ-loop
-loop-less c = omega arith
 
 loop-again : tie.Need-loop-again Inv-loop μ-loop
 loop-again c =
@@ -172,35 +154,8 @@ returns-2 c =
 pub try-group-spec : {M : Type 1} → statement M
 try-group-spec =
     tie.close
-    (tie.spec
-    Inv-loop
-    μ-loop
-    make-group-requires
-    same-length
-    returns
-    array-write-st
-    loop-holds
-    mul-wide
-    add-wide
-    shared-slice-read-wide
-    wide-requires
-    mul-wide-number
-    shared-slice-read-wide-number
-    wide-number-requires
-    mul-next-states
-    slice-read-next-states
-    mul-next-states-2
-    array-read-next-states
-    next-states-requires
-    add-st
-    mul-st
-    array-write-st-2
-    slice-read-settle
-    settle-requires
-    slice-write-out
-    add-i
-    loop-less
-    loop-again
-    same-length-2
-    same-length-3
+    (tie.spec Inv-loop μ-loop make-group-requires same-length returns (λ c. omega arith) loop-holds mul-wide add-wide
+    shared-slice-read-wide (λ c κs. tt) mul-wide-number shared-slice-read-wide-number (λ c κs. tt) mul-next-states
+    slice-read-next-states mul-next-states-2 array-read-next-states (λ c κs. tt) add-st mul-st array-write-st-2
+    slice-read-settle (λ c κs. tt) slice-write-out add-i (λ c. omega arith) loop-again same-length-2 same-length-3
     returns-2)

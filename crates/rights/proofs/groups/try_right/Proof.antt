@@ -20,9 +20,6 @@ abbrev μ-loop : tie.MeasureT-loop
 shared-slice-read-wide : tie.Need-shared-slice-read-wide Inv-loop μ-loop
 shared-slice-read-wide c = omega (arith, c .before .before .before .before .before .before .before .pre .0 .sound .size)
 
-wide-requires : tie.Need-wide-requires Inv-loop μ-loop
-wide-requires c κs = tt
-
 general-end-requires : tie.Need-general-end-requires Inv-loop μ-loop
 general-end-requires c κs = (c .before .before .before .before .before .before .before .before .pre .0 .sound, c .wide .ensures)
 
@@ -95,18 +92,5 @@ returns c =
 pub try-right-spec : {M : Type 1} → statement M
 try-right-spec =
     tie.close
-    (tie.spec
-    Inv-loop
-    μ-loop
-    shared-slice-read-wide
-    wide-requires
-    general-end-requires
-    try-general-requires
-    loop-holds
-    group-end-requires
-    try-group-requires
-    loop-less
-    loop-again
-    same-length
-    same-length-2
-    returns)
+    (tie.spec Inv-loop μ-loop shared-slice-read-wide (λ c κs. tt) general-end-requires try-general-requires loop-holds
+    group-end-requires try-group-requires loop-less loop-again same-length same-length-2 returns)

@@ -46,12 +46,5 @@ returns c =
 pub try-rights-spec : {M : Type 1} → statement M
 try-rights-spec =
     tie.close
-    (tie.spec
-    try-asked-requires
-    try-asked-requires-2
-    try-asked-requires-3
-    try-asked-requires-4
-    try-asked-requires-5
-    same-length
-    same-length-2
-    returns)
+    (tie.spec try-asked-requires try-asked-requires-2 try-asked-requires-3 try-asked-requires-4 try-asked-requires-5
+    same-length same-length-2 returns)

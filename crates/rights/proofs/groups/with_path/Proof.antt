@@ -31,21 +31,12 @@ mul-with-step c = omega (arith, c .before .before .before .before .before .pre .
 add-with-step : tie.Need-add-with-step Inv-loop μ-loop
 add-with-step c = omega (arith, c .before .before .before .before .before .pre .1 .texts (c .before .loop .j) (c .loop-test .taken) .room)
 
-add-with-step-2 : tie.Need-add-with-step-2 Inv-loop μ-loop
-add-with-step-2 c = omega arith
-
 with-step-requires : tie.Need-with-step-requires Inv-loop μ-loop
 with-step-requires c κs =
     let g = c .before .before .before .before .before .before .pre in
     let l = c .before .before .loop in
     let h = c .before .loop-test .taken in
     (g .0, g .1 .texts (l .j) h, g .2 (l .j) h, omega arith, l .inv .1)
-
-add-j : tie.Need-add-j Inv-loop μ-loop
-add-j c = omega arith
-
-loop-less : tie.Need-loop-less Inv-loop μ-loop
-loop-less c = omega arith
 
 loop-again : tie.Need-loop-again Inv-loop μ-loop
 loop-again c =
@@ -71,16 +62,5 @@ returns c =
 pub with-path-spec : {M : Type 1} → statement M
 with-path-spec =
     tie.close
-    (tie.spec
-    Inv-loop
-    μ-loop
-    loop-holds
-    mul-with-step
-    add-with-step
-    add-with-step-2
-    with-step-requires
-    add-j
-    loop-less
-    loop-again
-    same-length
-    returns)
+    (tie.spec Inv-loop μ-loop loop-holds mul-with-step add-with-step (λ c. omega arith) with-step-requires
+    (λ c. omega arith) (λ c. omega arith) loop-again same-length returns)

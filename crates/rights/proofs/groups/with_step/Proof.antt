@@ -12,21 +12,6 @@ use Rattle.rights.proofs.PackedLaws.{packed-every, packed-row, step-dee
 use Rattle.rights.proofs.groups.with_step.Statement.{statement}
 use Rattle.rights.proofs.groups.with_step.Tie as tie
 
-is-deep-requires : tie.Need-is-deep-requires
-is-deep-requires c κs = search needs
-
-mark-if-requires : tie.Need-mark-if-requires
-mark-if-requires c κs = search needs
-
-add-if1 : tie.Need-add-if1
-add-if1 c = search needs
-
-shared-slice-read-if1 : tie.Need-shared-slice-read-if1
-shared-slice-read-if1 c = search needs
-
-one-at-requires : tie.Need-one-at-requires
-one-at-requires c κs = search needs
-
 returns : tie.Need-returns
 returns c =
     let a = c .before .before .before .before .before .before .before .before .before .args in
@@ -40,27 +25,6 @@ returns c =
           (step-every p (a .u) (a .step) (text-first p (a .step) (g .1) ∙ c .before .before .if1 .taken)))),
       g .4,
     )
-
-row-of-requires : tie.Need-row-of-requires
-row-of-requires c κs = search needs
-
-mul-rows : tie.Need-mul-rows
-mul-rows c = search needs
-
-slice-read-rows : tie.Need-slice-read-rows
-slice-read-rows c = search needs
-
-one-at-requires-2 : tie.Need-one-at-requires-2
-one-at-requires-2 c κs = search needs
-
-mul-rows-2 : tie.Need-mul-rows-2
-mul-rows-2 c = search needs
-
-slice-write-rows : tie.Need-slice-write-rows
-slice-write-rows c = search needs
-
-same-length : tie.Need-same-length
-same-length c = search needs
 
 returns-2 : tie.Need-returns-2
 returns-2 c =
@@ -81,18 +45,6 @@ returns-2 c =
 pub with-step-spec : {M : Type 1} → statement M
 with-step-spec =
     tie.close
-    (tie.spec
-    is-deep-requires
-    mark-if-requires
-    add-if1
-    shared-slice-read-if1
-    one-at-requires
-    returns
-    row-of-requires
-    mul-rows
-    slice-read-rows
-    one-at-requires-2
-    mul-rows-2
-    slice-write-rows
-    same-length
-    returns-2)
+    (tie.spec (λ c κs. search needs) (λ c κs. search needs) (λ c. search needs) (λ c. search needs)
+    (λ c κs. search needs) returns (λ c κs. search needs) (λ c. search needs) (λ c. search needs) (λ c κs. search needs)
+    (λ c. search needs) (λ c. search needs) (λ c. search needs) returns-2)

@@ -27,33 +27,12 @@ loop-holds c =
     let e : a .m ≡ a .n = omega arith in
     (omega arith, e, level-with (a .a .now) (a .b .now) (a .i) (a .j) (a .m) (a .n) (omega arith) (omega arith) e)
 
-add-x : tie.Need-add-x Inv-loop μ-loop
-add-x c = search needs
-
-shared-slice-read-x : tie.Need-shared-slice-read-x Inv-loop μ-loop
-shared-slice-read-x c = search needs
-
-add-y : tie.Need-add-y Inv-loop μ-loop
-add-y c = search needs
-
-shared-slice-read-y : tie.Need-shared-slice-read-y Inv-loop μ-loop
-shared-slice-read-y c = search needs
-
-byte-order-requires : tie.Need-byte-order-requires Inv-loop μ-loop
-byte-order-requires c κs = search needs
-
 returns-3 : tie.Need-returns-3 Inv-loop μ-loop
 returns-3 c =
     let a = c .before .before .before .before .before .before .before .before .before .before .args in
     let l = c .before .before .before .before .before .loop in
     c .byte-order .ensures
     ∙ sym (l .inv .2 ∙ rest-stop (a .a .now) (a .b .now) (a .i) (a .j) (a .n) (l .k) (omega arith) (omega arith) (omega arith) (c .before .if3 .taken))
-
-add-k : tie.Need-add-k Inv-loop μ-loop
-add-k c = search needs
-
-loop-less : tie.Need-loop-less Inv-loop μ-loop
-loop-less c = search needs
 
 loop-again : tie.Need-loop-again Inv-loop μ-loop
 loop-again c =
@@ -70,19 +49,5 @@ returns-4 c =
 pub compare-labels-spec : {M : Type 1} → statement M
 compare-labels-spec =
     tie.close
-    (tie.spec
-    Inv-loop
-    μ-loop
-    returns
-    returns-2
-    loop-holds
-    add-x
-    shared-slice-read-x
-    add-y
-    shared-slice-read-y
-    byte-order-requires
-    returns-3
-    add-k
-    loop-less
-    loop-again
-    returns-4)
+    (tie.spec Inv-loop μ-loop returns returns-2 loop-holds (λ c. search needs) (λ c. search needs) (λ c. search needs)
+    (λ c. search needs) (λ c κs. search needs) returns-3 (λ c. search needs) (λ c. search needs) loop-again returns-4)

@@ -21,9 +21,6 @@ abbrev μ-loop : tie.MeasureT-loop
 shared-slice-read-wide : tie.Need-shared-slice-read-wide Inv-loop μ-loop
 shared-slice-read-wide c = omega (arith, c .before .before .before .pre .0 .size)
 
-wide-requires : tie.Need-wide-requires Inv-loop μ-loop
-wide-requires c κs = tt
-
 loop-holds : tie.Need-loop-holds Inv-loop μ-loop
 loop-holds c =
     let a = c .before .before .before .before .args in
@@ -42,12 +39,6 @@ add-word-requires c κs =
     let l = c .before .before .loop in
     let w = c .before .before .before .wide .ensures in
     (l .inv .2 .words, omega (arith, w, g .0 .subjects, g .2), g .0 .names (l .u) (omega (arith, w)), omega (arith, w, g .0 .subjects))
-
-add-u : tie.Need-add-u Inv-loop μ-loop
-add-u c = omega arith
-
-loop-less : tie.Need-loop-less Inv-loop μ-loop
-loop-less c = omega arith
 
 loop-again : tie.Need-loop-again Inv-loop μ-loop
 loop-again c =
@@ -72,17 +63,5 @@ returns c =
 pub add-names-spec : {M : Type 1} → statement M
 add-names-spec =
     tie.close
-    (tie.spec
-    Inv-loop
-    μ-loop
-    shared-slice-read-wide
-    wide-requires
-    loop-holds
-    mul-add-word
-    add-add-word
-    add-word-requires
-    add-u
-    loop-less
-    loop-again
-    same-length
-    returns)
+    (tie.spec Inv-loop μ-loop shared-slice-read-wide (λ c κs. tt) loop-holds mul-add-word add-add-word add-word-requires
+    (λ c. omega arith) (λ c. omega arith) loop-again same-length returns)

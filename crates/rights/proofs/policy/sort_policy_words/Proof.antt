@@ -52,11 +52,4 @@ returns-2 c =
 pub sort-policy-words-spec : {M : Type 1} → statement M
 sort-policy-words-spec =
     tie.close
-    (tie.spec
-    add-rules-requires
-    rules-use-requires
-    add-names-requires
-    same-length
-    returns
-    same-length-2
-    returns-2)
+    (tie.spec add-rules-requires rules-use-requires add-names-requires same-length returns same-length-2 returns-2)

@@ -11,37 +11,10 @@ use Rattle.rights.proofs.Eaches.{each-then, each-alike}
 use Rattle.rights.proofs.rights.rights_of.Statement.{statement}
 use Rattle.rights.proofs.rights.rights_of.Tie as tie
 
-roles-of-requires : tie.Need-roles-of-requires
-roles-of-requires c κs = search needs
-
-slice-aggregate-sort-words : tie.Need-slice-aggregate-sort-words
-slice-aggregate-sort-words c = search needs
-
 sort-words-requires : tie.Need-sort-words-requires
 sort-words-requires c κs =
     let g = c .before .before .before .before .before .pre in
     (g .0, record { declared = g .2; name = g .0 .names (c .before .before .before .before .before .args .u) (g .2) }, refl)
-
-slice-aggregate-number-nodes : tie.Need-slice-aggregate-number-nodes
-slice-aggregate-number-nodes c = search needs
-
-slice-aggregate-number-nodes-2 : tie.Need-slice-aggregate-number-nodes-2
-slice-aggregate-number-nodes-2 c = search needs
-
-number-nodes-requires : tie.Need-number-nodes-requires
-number-nodes-requires c κs = search needs
-
-clear-rights-requires : tie.Need-clear-rights-requires
-clear-rights-requires c κs = search needs
-
-slice-aggregate-try-rights : tie.Need-slice-aggregate-try-rights
-slice-aggregate-try-rights c = search needs
-
-slice-aggregate-try-rights-2 : tie.Need-slice-aggregate-try-rights-2
-slice-aggregate-try-rights-2 c = search needs
-
-slice-aggregate-try-rights-3 : tie.Need-slice-aggregate-try-rights-3
-slice-aggregate-try-rights-3 c = search needs
 
 try-rights-requires : tie.Need-try-rights-requires
 try-rights-requires c κs =
@@ -53,9 +26,6 @@ try-rights-requires c κs =
       record { few = g .5; room = g .3; records = g .4; long = omega (arith, b .long, g .5); at = b .at },
       omega (arith, g .6, c .before .before .before .before .before .before .before .clear-rights .ensures .long),
     )
-
-same-length : tie.Need-same-length
-same-length c = search needs
 
 returns : tie.Need-returns
 returns c =
@@ -71,17 +41,6 @@ returns c =
 pub rights-of-spec : {M : Type 1} → statement M
 rights-of-spec =
     tie.close
-    (tie.spec
-    roles-of-requires
-    slice-aggregate-sort-words
-    sort-words-requires
-    slice-aggregate-number-nodes
-    slice-aggregate-number-nodes-2
-    number-nodes-requires
-    clear-rights-requires
-    slice-aggregate-try-rights
-    slice-aggregate-try-rights-2
-    slice-aggregate-try-rights-3
-    try-rights-requires
-    same-length
-    returns)
+    (tie.spec (λ c κs. search needs) (λ c. search needs) sort-words-requires (λ c. search needs) (λ c. search needs)
+    (λ c κs. search needs) (λ c κs. search needs) (λ c. search needs) (λ c. search needs) (λ c. search needs)
+    try-rights-requires (λ c. search needs) returns)

@@ -29,35 +29,14 @@ Inv-loop r n labels₀ bits₀ side₀ i₀ labels bits side i =
 abbrev μ-loop : tie.MeasureT-loop
 μ-loop r n labels₀ bits₀ side₀ i₀ labels bits side i = 32 - i
 
-add-side : tie.Need-add-side Inv-loop μ-loop
-add-side c = omega arith
-
 loop-holds : tie.Need-loop-holds Inv-loop μ-loop
 loop-holds c =
     let n = c .before .args .n in
     let e : 2 + n - 0 + 0 ≡ 2 + n = omega arith in
     (omega arith, omega arith, omega arith, sym (zero-add _), rw e)
 
-shared-slice-read-b : tie.Need-shared-slice-read-b Inv-loop μ-loop
-shared-slice-read-b c = omega arith
-
-label-bit-requires : tie.Need-label-bit-requires Inv-loop μ-loop
-label-bit-requires c κs = tt
-
 add-labels : tie.Need-add-labels Inv-loop μ-loop
 add-labels c = omega (arith, c .label-bit .ensures .1)
-
-behind-requires : tie.Need-behind-requires Inv-loop μ-loop
-behind-requires c κs = tt
-
-sub-side : tie.Need-sub-side Inv-loop μ-loop
-sub-side c = omega arith
-
-add-i : tie.Need-add-i Inv-loop μ-loop
-add-i c = omega arith
-
-loop-less : tie.Need-loop-less Inv-loop μ-loop
-loop-less c = omega arith
 
 loop-again : tie.Need-loop-again Inv-loop μ-loop
 loop-again c =
@@ -87,12 +66,6 @@ returns c =
     let zero = sym (zeros-told (a .r .now) (a .n) (at .i) (at .bits) (omega arith) (at .inv .4)) ∙ ne-eqb (at .bits) 0 (c .if1 .taken) in
     simp (zero, and-false)
 
-wide-requires : tie.Need-wide-requires Inv-loop μ-loop
-wide-requires c κs = search needs
-
-is-restricted-requires : tie.Need-is-restricted-requires Inv-loop μ-loop
-is-restricted-requires c κs = search needs
-
 returns-2 : tie.Need-returns-2 Inv-loop μ-loop
 returns-2 c =
     let r = c .before .before .before .before .before .before .before .args .r .now in
@@ -114,21 +87,6 @@ returns-3 c =
 pub label-ok-spec : {M : Type 1} → statement M
 label-ok-spec =
     tie.close
-    (tie.spec
-    Inv-loop
-    μ-loop
-    add-side
-    loop-holds
-    shared-slice-read-b
-    label-bit-requires
-    add-labels
-    behind-requires
-    sub-side
-    add-i
-    loop-less
-    loop-again
-    returns
-    wide-requires
-    is-restricted-requires
-    returns-2
-    returns-3)
+    (tie.spec Inv-loop μ-loop (λ c. omega arith) loop-holds (λ c. omega arith) (λ c κs. tt) add-labels (λ c κs. tt)
+    (λ c. omega arith) (λ c. omega arith) (λ c. omega arith) loop-again returns (λ c κs. search needs)
+    (λ c κs. search needs) returns-2 returns-3)

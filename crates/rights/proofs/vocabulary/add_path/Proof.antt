@@ -36,12 +36,6 @@ add-step-requires c κs =
     let l = c .before .before .loop in
     (l .inv .2 .words, omega (arith, g .2), g .0 .texts (l .j) (c .before .loop-test .taken), omega (arith, g .0 .few, g .3))
 
-add-j : tie.Need-add-j Inv-loop μ-loop
-add-j c = omega arith
-
-loop-less : tie.Need-loop-less Inv-loop μ-loop
-loop-less c = omega arith
-
 loop-again : tie.Need-loop-again Inv-loop μ-loop
 loop-again c =
     let a = c .before .before .before .before .before .before .before .before .args in
@@ -65,15 +59,5 @@ returns c =
 pub add-path-spec : {M : Type 1} → statement M
 add-path-spec =
     tie.close
-    (tie.spec
-    Inv-loop
-    μ-loop
-    loop-holds
-    mul-add-step
-    add-add-step
-    add-step-requires
-    add-j
-    loop-less
-    loop-again
-    same-length
-    returns)
+    (tie.spec Inv-loop μ-loop loop-holds mul-add-step add-add-step add-step-requires (λ c. omega arith)
+    (λ c. omega arith) loop-again same-length returns)

@@ -21,9 +21,6 @@ abbrev μ-loop : tie.MeasureT-loop
 shared-slice-read-wide : tie.Need-shared-slice-read-wide Inv-loop μ-loop
 shared-slice-read-wide c = omega (arith, c .before .before .before .pre .0 .size)
 
-wide-requires : tie.Need-wide-requires Inv-loop μ-loop
-wide-requires c κs = tt
-
 loop-holds : tie.Need-loop-holds Inv-loop μ-loop
 loop-holds c =
     let a = c .before .before .before .before .args in
@@ -35,12 +32,6 @@ add-rule-requires c κs =
     let g = c .before .before .before .before .before .before .before .pre in
     let l = c .before .before .loop in
     (g .0, omega (arith, c .before .before .before .wide .ensures), l .inv .2 .words, omega (arith, c .before .before .before .wide .ensures, g .0 .rules, g .2, l .inv .1))
-
-add-k : tie.Need-add-k Inv-loop μ-loop
-add-k c = omega arith
-
-loop-less : tie.Need-loop-less Inv-loop μ-loop
-loop-less c = omega arith
 
 loop-again : tie.Need-loop-again Inv-loop μ-loop
 loop-again c =
@@ -65,15 +56,5 @@ returns c =
 pub add-rules-spec : {M : Type 1} → statement M
 add-rules-spec =
     tie.close
-    (tie.spec
-    Inv-loop
-    μ-loop
-    shared-slice-read-wide
-    wide-requires
-    loop-holds
-    add-rule-requires
-    add-k
-    loop-less
-    loop-again
-    same-length
-    returns)
+    (tie.spec Inv-loop μ-loop shared-slice-read-wide (λ c κs. tt) loop-holds add-rule-requires (λ c. omega arith)
+    (λ c. omega arith) loop-again same-length returns)

@@ -45,11 +45,4 @@ returns-3 c =
 pub add-step-spec : {M : Type 1} → statement M
 add-step-spec =
     tie.close
-    (tie.spec
-    add-first
-    shared-slice-read-first
-    returns
-    returns-2
-    add-word-requires
-    same-length
-    returns-3)
+    (tie.spec add-first shared-slice-read-first returns returns-2 add-word-requires same-length returns-3)

@@ -8,18 +8,6 @@ use Rattle.rights.proofs.VocabularyLaws.{added-old, added-new}
 use Rattle.rights.proofs.vocabulary.add_word.Statement.{statement}
 use Rattle.rights.proofs.vocabulary.add_word.Tie as tie
 
-search-requires : tie.Need-search-requires
-search-requires c κs = search needs
-
-enum-known-i : tie.Need-enum-known-i
-enum-known-i c = search needs
-
-enum-told : tie.Need-enum-told
-enum-told c = search needs
-
-same-length : tie.Need-same-length
-same-length c = search needs
-
 returns : tie.Need-returns
 returns c =
     let a = c .before .before .before .before .before .before .args in
@@ -37,12 +25,6 @@ insert-word-requires c κs =
     let s = subst (Stands (wordAt p (a .words .now)) (a .n) (label (recAt p (a .at)))) (c .before .before .i .given .1) (c .before .before .before .before .search .ensures) in
     (s .0, omega (arith, g .0 .long), g .3)
 
-add-result : tie.Need-add-result
-add-result c = search needs
-
-same-length-2 : tie.Need-same-length-2
-same-length-2 c = search needs
-
 returns-2 : tie.Need-returns-2
 returns-2 c =
     let a = c .before .before .before .before .before .before .before .before .before .before .before .args in
@@ -54,13 +36,5 @@ returns-2 c =
 pub add-word-spec : {M : Type 1} → statement M
 add-word-spec =
     tie.close
-    (tie.spec
-    search-requires
-    enum-known-i
-    enum-told
-    same-length
-    returns
-    insert-word-requires
-    add-result
-    same-length-2
-    returns-2)
+    (tie.spec (λ c κs. search needs) (λ c. search needs) (λ c. search needs) (λ c. search needs) returns
+    insert-word-requires (λ c. search needs) (λ c. search needs) returns-2)

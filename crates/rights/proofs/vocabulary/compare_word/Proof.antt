@@ -10,39 +10,6 @@ use Rattle.rights.proofs.Texts.{text-eq}
 use Rattle.rights.proofs.vocabulary.compare_word.Statement.{statement}
 use Rattle.rights.proofs.vocabulary.compare_word.Tie as tie
 
-mul-wide-place : tie.Need-mul-wide-place
-mul-wide-place c = search needs
-
-shared-slice-read-wide-place : tie.Need-shared-slice-read-wide-place
-shared-slice-read-wide-place c = search needs
-
-wide-place-requires : tie.Need-wide-place-requires
-wide-place-requires c κs = search needs
-
-add-wide : tie.Need-add-wide
-add-wide c = search needs
-
-shared-slice-read-wide : tie.Need-shared-slice-read-wide
-shared-slice-read-wide c = search needs
-
-wide-requires : tie.Need-wide-requires
-wide-requires c κs = search needs
-
-add-wide-2 : tie.Need-add-wide-2
-add-wide-2 c = search needs
-
-shared-slice-read-wide-2 : tie.Need-shared-slice-read-wide-2
-shared-slice-read-wide-2 c = search needs
-
-wide-requires-2 : tie.Need-wide-requires-2
-wide-requires-2 c κs = search needs
-
-add-compare-labels : tie.Need-add-compare-labels
-add-compare-labels c = search needs
-
-add-compare-labels-2 : tie.Need-add-compare-labels-2
-add-compare-labels-2 c = search needs
-
 compare-labels-requires : tie.Need-compare-labels-requires
 compare-labels-requires c κs =
     let a = c .before .before .before .before .before .before .before .before .before .args in
@@ -67,17 +34,6 @@ returns c =
 pub compare-word-spec : {M : Type 1} → statement M
 compare-word-spec =
     tie.close
-    (tie.spec
-    mul-wide-place
-    shared-slice-read-wide-place
-    wide-place-requires
-    add-wide
-    shared-slice-read-wide
-    wide-requires
-    add-wide-2
-    shared-slice-read-wide-2
-    wide-requires-2
-    add-compare-labels
-    add-compare-labels-2
-    compare-labels-requires
-    returns)
+    (tie.spec (λ c. search needs) (λ c. search needs) (λ c κs. search needs) (λ c. search needs) (λ c. search needs)
+    (λ c κs. search needs) (λ c. search needs) (λ c. search needs) (λ c κs. search needs) (λ c. search needs)
+    (λ c. search needs) compare-labels-requires returns)

@@ -16,9 +16,6 @@ abbrev μ-loop : tie.MeasureT-loop
 loop-holds : tie.Need-loop-holds Inv-loop μ-loop
 loop-holds c = (omega arith, omega arith, moved-none _ _)
 
-sub-words : tie.Need-sub-words Inv-loop μ-loop
-sub-words c = omega arith
-
 mul-words : tie.Need-mul-words Inv-loop μ-loop
 mul-words c = omega (arith, c .before .loop .inv .2 .same)
 
@@ -31,23 +28,11 @@ mul-words-2 c = omega (arith, c .before .before .loop .inv .2 .same)
 slice-write-words : tie.Need-slice-write-words Inv-loop μ-loop
 slice-write-words c = omega (arith, c .before .before .loop .inv .2 .same)
 
-sub-k : tie.Need-sub-k Inv-loop μ-loop
-sub-k c = omega arith
-
-loop-less : tie.Need-loop-less Inv-loop μ-loop
-loop-less c = omega arith
-
 loop-again : tie.Need-loop-again Inv-loop μ-loop
 loop-again c =
     let a = c .before .before .before .args in
     let l = c .before .before .loop in
     (omega arith, omega arith, moved-more (a .words .now) (l .words) (a .n) (l .k) (l .inv .2) (omega arith) (omega arith))
-
-cast-words : tie.Need-cast-words Inv-loop μ-loop
-cast-words c = omega arith
-
-mul-words-3 : tie.Need-mul-words-3 Inv-loop μ-loop
-mul-words-3 c = omega arith
 
 slice-write-words-2 : tie.Need-slice-write-words-2 Inv-loop μ-loop
 slice-write-words-2 c = omega (arith, c .before .loop .inv .2 .same)
@@ -65,20 +50,6 @@ returns c =
 pub insert-word-spec : {M : Type 1} → statement M
 insert-word-spec =
     tie.close
-    (tie.spec
-    Inv-loop
-    μ-loop
-    loop-holds
-    sub-words
-    mul-words
-    slice-read-words
-    mul-words-2
-    slice-write-words
-    sub-k
-    loop-less
-    loop-again
-    cast-words
-    mul-words-3
-    slice-write-words-2
-    same-length
-    returns)
+    (tie.spec Inv-loop μ-loop loop-holds (λ c. omega arith) mul-words slice-read-words mul-words-2 slice-write-words
+    (λ c. omega arith) (λ c. omega arith) loop-again (λ c. omega arith) (λ c. omega arith) slice-write-words-2
+    same-length returns)

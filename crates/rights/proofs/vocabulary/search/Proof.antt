@@ -21,9 +21,6 @@ abbrev μ-loop : tie.MeasureT-loop
 loop-holds : tie.Need-loop-holds Inv-loop μ-loop
 loop-holds c = (omega arith, omega arith, (λ j h. absurd (omega arith)), λ j h l. absurd (omega arith))
 
-sub-middle : tie.Need-sub-middle Inv-loop μ-loop
-sub-middle c = omega arith
-
 add-middle : tie.Need-add-middle Inv-loop μ-loop
 add-middle c = omega (arith, c .before .before .before .before .before .pre .0 .few)
 
@@ -39,9 +36,6 @@ returns c =
 
 raised-requires : tie.Need-raised-requires Inv-loop μ-loop
 raised-requires c κs = omega (arith, c .before .before .before .before .before .before .before .pre .0 .few)
-
-lowered-requires : tie.Need-lowered-requires Inv-loop μ-loop
-lowered-requires c κs = tt
 
 loop-less : tie.Need-loop-less Inv-loop μ-loop
 loop-less c =
@@ -74,16 +68,5 @@ returns-2 c =
 pub search-spec : {M : Type 1} → statement M
 search-spec =
     tie.close
-    (tie.spec
-    Inv-loop
-    μ-loop
-    loop-holds
-    sub-middle
-    add-middle
-    compare-word-requires
-    returns
-    raised-requires
-    lowered-requires
-    loop-less
-    loop-again
-    returns-2)
+    (tie.spec Inv-loop μ-loop loop-holds (λ c. omega arith) add-middle compare-word-requires returns raised-requires
+    (λ c κs. tt) loop-less loop-again returns-2)

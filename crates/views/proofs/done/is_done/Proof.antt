@@ -3,60 +3,6 @@ use borrow.Author.Needs.{needs}
 use Rattle.views.proofs.done.is_done.Statement.{statement}
 use Rattle.views.proofs.done.is_done.Tie as tie
 
-enum-told : tie.Need-enum-told
-enum-told c = search needs
-
-is-renamable-requires : tie.Need-is-renamable-requires
-is-renamable-requires c κs = search needs
-
-enum-told-2 : tie.Need-enum-told-2
-enum-told-2 c = search needs
-
-both-requires : tie.Need-both-requires
-both-requires c κs = search needs
-
-is-renamable-requires-2 : tie.Need-is-renamable-requires-2
-is-renamable-requires-2 c κs = search needs
-
-enum-told-3 : tie.Need-enum-told-3
-enum-told-3 c = search needs
-
-holds-right-requires : tie.Need-holds-right-requires
-holds-right-requires c κs = search needs
-
-both-requires-2 : tie.Need-both-requires-2
-both-requires-2 c κs = search needs
-
-enum-told-4 : tie.Need-enum-told-4
-enum-told-4 c = search needs
-
-is-inner-requires : tie.Need-is-inner-requires
-is-inner-requires c κs = search needs
-
-both-requires-3 : tie.Need-both-requires-3
-both-requires-3 c κs = search needs
-
-enum-told-5 : tie.Need-enum-told-5
-enum-told-5 c = search needs
-
-is-inner-requires-2 : tie.Need-is-inner-requires-2
-is-inner-requires-2 c κs = search needs
-
-both-requires-4 : tie.Need-both-requires-4
-both-requires-4 c κs = search needs
-
-enum-told-6 : tie.Need-enum-told-6
-enum-told-6 c = search needs
-
-holds-right-requires-2 : tie.Need-holds-right-requires-2
-holds-right-requires-2 c κs = search needs
-
-is-inner-requires-3 : tie.Need-is-inner-requires-3
-is-inner-requires-3 c κs = search needs
-
-both-requires-5 : tie.Need-both-requires-5
-both-requires-5 c κs = search needs
-
 returns : tie.Need-returns
 returns c = rw (c .before .enum-told .given .1) (c .is-renamable .ensures)
 
@@ -78,28 +24,8 @@ returns-6 c = rw (c .before .before .before .enum-told6 .given .1, ← c .before
 pub is-done-spec : {M : Type 1} → statement M
 is-done-spec =
     tie.close
-    (tie.spec
-    enum-told
-    is-renamable-requires
-    enum-told-2
-    both-requires
-    is-renamable-requires-2
-    enum-told-3
-    holds-right-requires
-    both-requires-2
-    enum-told-4
-    is-inner-requires
-    both-requires-3
-    enum-told-5
-    is-inner-requires-2
-    both-requires-4
-    enum-told-6
-    holds-right-requires-2
-    is-inner-requires-3
-    both-requires-5
-    returns
-    returns-2
-    returns-3
-    returns-4
-    returns-5
-    returns-6)
+    (tie.spec (λ c. search needs) (λ c κs. search needs) (λ c. search needs) (λ c κs. search needs)
+    (λ c κs. search needs) (λ c. search needs) (λ c κs. search needs) (λ c κs. search needs) (λ c. search needs)
+    (λ c κs. search needs) (λ c κs. search needs) (λ c. search needs) (λ c κs. search needs) (λ c κs. search needs)
+    (λ c. search needs) (λ c κs. search needs) (λ c κs. search needs) (λ c κs. search needs) returns returns-2 returns-3
+    returns-4 returns-5 returns-6)

@@ -47,30 +47,12 @@ shared-slice-read-level c =
     let g = good (a .table .now) (c .before .before .before .before .before .before .before .before .before .before .pre .1) in
     omega arith
 
-wide-requires : tie.Need-wide-requires Inv-loop μ-loop
-wide-requires c κs = search needs
-
-shared-slice-read-set : tie.Need-shared-slice-read-set Inv-loop μ-loop
-shared-slice-read-set c = search needs
-
-is-shown-requires : tie.Need-is-shown-requires Inv-loop μ-loop
-is-shown-requires c κs = search needs
-
-shared-slice-read-is-set : tie.Need-shared-slice-read-is-set Inv-loop μ-loop
-shared-slice-read-is-set c = search needs
-
-is-set-requires : tie.Need-is-set-requires Inv-loop μ-loop
-is-set-requires c κs = search needs
-
 array-read-is-set : tie.Need-array-read-is-set Inv-loop μ-loop
 array-read-is-set c =
     let a = c .before .before .before .before .before .before .before .before .before .before .before .before .before .before .before .args in
     let l = c .before .before .before .before .before .before .before .loop in
     let k = record-text (a .table .now) (c .before .before .before .before .before .before .before .before .before .before .before .before .before .before .before .pre .1) (l .i) (omega arith) in
     omega (arith, k .1, c .before .before .before .before .wide .ensures)
-
-is-set-requires-2 : tie.Need-is-set-requires-2 Inv-loop μ-loop
-is-set-requires-2 c κs = search needs
 
 array-read-is-set-2 : tie.Need-array-read-is-set-2 Inv-loop μ-loop
 array-read-is-set-2 c =
@@ -79,45 +61,12 @@ array-read-is-set-2 c =
     let k = record-text (a .table .now) (c .before .before .before .before .before .before .before .before .before .before .before .before .before .before .before .before .pre .1) (l .i) (omega arith) in
     omega (arith, k .1, c .before .before .before .before .before .wide .ensures)
 
-is-set-requires-3 : tie.Need-is-set-requires-3 Inv-loop μ-loop
-is-set-requires-3 c κs = search needs
-
 is-done-requires : tie.Need-is-done-requires Inv-loop μ-loop
 is-done-requires c κs =
     let a = c .before .before .before .before .before .before .before .before .before .before .before .before .before .before .before .before .before .args in
     let l = c .before .before .before .before .before .before .before .before .before .loop in
     let k = record-text (a .table .now) (c .before .before .before .before .before .before .before .before .before .before .before .before .before .before .before .before .before .pre .1) (l .i) (omega arith) in
     (c .before .before .before .before .before .before .before .before .before .before .before .before .before .before .before .before .before .pre .0, k .0)
-
-mark-of-requires : tie.Need-mark-of-requires Inv-loop μ-loop
-mark-of-requires c κs = search needs
-
-slice-write-done : tie.Need-slice-write-done Inv-loop μ-loop
-slice-write-done c = search needs
-
-mark-of-requires-2 : tie.Need-mark-of-requires-2 Inv-loop μ-loop
-mark-of-requires-2 c κs = search needs
-
-pass-down-requires : tie.Need-pass-down-requires Inv-loop μ-loop
-pass-down-requires c κs = search needs
-
-holds-right-requires : tie.Need-holds-right-requires Inv-loop μ-loop
-holds-right-requires c κs = search needs
-
-mark-of-requires-3 : tie.Need-mark-of-requires-3 Inv-loop μ-loop
-mark-of-requires-3 c κs = search needs
-
-pass-down-requires-2 : tie.Need-pass-down-requires-2 Inv-loop μ-loop
-pass-down-requires-2 c κs = search needs
-
-depth-after-requires : tie.Need-depth-after-requires Inv-loop μ-loop
-depth-after-requires c κs = search needs
-
-add-i : tie.Need-add-i Inv-loop μ-loop
-add-i c = search needs
-
-loop-less : tie.Need-loop-less Inv-loop μ-loop
-loop-less c = search needs
 
 loop-again : tie.Need-loop-again Inv-loop μ-loop
 loop-again c =
@@ -137,9 +86,6 @@ loop-again c =
           (c .before .before .before .before .before .pass-down .ensures) (c .before .pass-down2 .ensures) (c .depth-after .ensures),
     )
 
-same-length : tie.Need-same-length Inv-loop μ-loop
-same-length c = search needs
-
 returns : tie.Need-returns Inv-loop μ-loop
 returns c =
     let a = c .before .before .before .before .before .before .before .before .before .args in
@@ -149,34 +95,9 @@ returns c =
 pub mark-by-words-spec : {M : Type 1} → statement M
 mark-by-words-spec =
     tie.close
-    (tie.spec
-    Inv-loop
-    μ-loop
-    count-of-requires
-    loop-holds
-    mul-level
-    add-level
-    shared-slice-read-level
-    wide-requires
-    shared-slice-read-set
-    is-shown-requires
-    shared-slice-read-is-set
-    is-set-requires
-    array-read-is-set
-    is-set-requires-2
-    array-read-is-set-2
-    is-set-requires-3
-    is-done-requires
-    mark-of-requires
-    slice-write-done
-    mark-of-requires-2
-    pass-down-requires
-    holds-right-requires
-    mark-of-requires-3
-    pass-down-requires-2
-    depth-after-requires
-    add-i
-    loop-less
-    loop-again
-    same-length
-    returns)
+    (tie.spec Inv-loop μ-loop count-of-requires loop-holds mul-level add-level shared-slice-read-level
+    (λ c κs. search needs) (λ c. search needs) (λ c κs. search needs) (λ c. search needs) (λ c κs. search needs)
+    array-read-is-set (λ c κs. search needs) array-read-is-set-2 (λ c κs. search needs) is-done-requires
+    (λ c κs. search needs) (λ c. search needs) (λ c κs. search needs) (λ c κs. search needs) (λ c κs. search needs)
+    (λ c κs. search needs) (λ c κs. search needs) (λ c κs. search needs) (λ c. search needs) (λ c. search needs)
+    loop-again (λ c. search needs) returns)

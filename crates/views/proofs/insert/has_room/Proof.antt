@@ -11,9 +11,6 @@ count-of-requires c κs = omega (arith, facts (c .before .before .args .t .now) 
 capacity-of-requires : tie.Need-capacity-of-requires
 capacity-of-requires c κs = omega (arith, facts (c .before .before .before .args .t .now) (c .before .before .before .pre .0) .head)
 
-count-marks-requires : tie.Need-count-marks-requires
-count-marks-requires c κs = search needs
-
 mul-result : tie.Need-mul-result
 mul-result c =
     let s = c .before .before .before .before .before in
@@ -38,10 +35,4 @@ returns c =
 pub has-room-spec : {M : Type 1} → statement M
 has-room-spec =
     tie.close
-    (tie.spec
-    count-of-requires
-    capacity-of-requires
-    count-marks-requires
-    mul-result
-    sub-result
-    returns)
+    (tie.spec count-of-requires capacity-of-requires (λ c κs. search needs) mul-result sub-result returns)

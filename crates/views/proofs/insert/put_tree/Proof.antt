@@ -25,28 +25,10 @@ loop-holds c =
     let a = c .before .before .args in
     (search needs, refl, tree-none (a .w) (a .k) (a .t .now) (a .tree .now), refl)
 
-add-put-raised : tie.Need-add-put-raised Inv-loop μ-loop
-add-put-raised c = search needs
-
-mul-put-raised : tie.Need-mul-put-raised Inv-loop μ-loop
-mul-put-raised c = search needs
-
-add-put-raised-2 : tie.Need-add-put-raised-2 Inv-loop μ-loop
-add-put-raised-2 c = search needs
-
-mul-put-raised-2 : tie.Need-mul-put-raised-2 Inv-loop μ-loop
-mul-put-raised-2 c = search needs
-
 put-raised-requires : tie.Need-put-raised-requires Inv-loop μ-loop
 put-raised-requires c κs =
     let s = c .before .before .before .before .before in
     (search needs, search needs, s .pre .2 (c .before .before .loop .j) (omega arith))
-
-add-j : tie.Need-add-j Inv-loop μ-loop
-add-j c = search needs
-
-loop-less : tie.Need-loop-less Inv-loop μ-loop
-loop-less c = search needs
 
 loop-again : tie.Need-loop-again Inv-loop μ-loop
 loop-again c =
@@ -60,9 +42,6 @@ loop-again c =
           (p .ensures .1 ∙ drop-more (4 + (a .w + l .j) * 32) 32 (l .t) (a .t .now) (4 + (a .w + l .j) * 32 + 32) (omega arith) (l .inv .3)),
     )
 
-same-length : tie.Need-same-length Inv-loop μ-loop
-same-length c = search needs
-
 returns : tie.Need-returns Inv-loop μ-loop
 returns c =
     let l = c .before .loop in
@@ -72,17 +51,5 @@ returns c =
 pub put-tree-spec : {M : Type 1} → statement M
 put-tree-spec =
     tie.close
-    (tie.spec
-    Inv-loop
-    μ-loop
-    loop-holds
-    add-put-raised
-    mul-put-raised
-    add-put-raised-2
-    mul-put-raised-2
-    put-raised-requires
-    add-j
-    loop-less
-    loop-again
-    same-length
-    returns)
+    (tie.spec Inv-loop μ-loop loop-holds (λ c. search needs) (λ c. search needs) (λ c. search needs) (λ c. search needs)
+    put-raised-requires (λ c. search needs) (λ c. search needs) loop-again (λ c. search needs) returns)

@@ -19,32 +19,11 @@ abbrev μ-loop : tie.MeasureT-loop
 loop-holds : tie.Need-loop-holds Inv-loop μ-loop
 loop-holds c = let a = c .before .before .args in (omega arith, deep-first (a .deep) (a .n) (a .t .now) (a .marks .now))
 
-shared-slice-read-is-too-deep : tie.Need-shared-slice-read-is-too-deep Inv-loop μ-loop
-shared-slice-read-is-too-deep c = search needs
-
-mul-is-too-deep : tie.Need-mul-is-too-deep Inv-loop μ-loop
-mul-is-too-deep c = search needs
-
-add-is-too-deep : tie.Need-add-is-too-deep Inv-loop μ-loop
-add-is-too-deep c = search needs
-
-shared-slice-read-is-too-deep-2 : tie.Need-shared-slice-read-is-too-deep-2 Inv-loop μ-loop
-shared-slice-read-is-too-deep-2 c = search needs
-
-is-too-deep-requires : tie.Need-is-too-deep-requires Inv-loop μ-loop
-is-too-deep-requires c κs = search needs
-
 returns : tie.Need-returns Inv-loop μ-loop
 returns c =
     let l = c .before .before .before .before .before .loop in
     let a = c .before .before .before .before .before .before .before .before .args in
     deep-stop (a .deep) (a .n) (l .i) (a .t .now) (a .marks .now) (omega arith) (omega arith) (sym (c .before .is-too-deep .ensures) ∙ c .if1 .taken) ∙ sym (l .inv .1)
-
-add-i : tie.Need-add-i Inv-loop μ-loop
-add-i c = search needs
-
-loop-less : tie.Need-loop-less Inv-loop μ-loop
-loop-less c = search needs
 
 loop-again : tie.Need-loop-again Inv-loop μ-loop
 loop-again c =
@@ -61,17 +40,5 @@ returns-2 c =
 pub some-too-deep-spec : {M : Type 1} → statement M
 some-too-deep-spec =
     tie.close
-    (tie.spec
-    Inv-loop
-    μ-loop
-    loop-holds
-    shared-slice-read-is-too-deep
-    mul-is-too-deep
-    add-is-too-deep
-    shared-slice-read-is-too-deep-2
-    is-too-deep-requires
-    returns
-    add-i
-    loop-less
-    loop-again
-    returns-2)
+    (tie.spec Inv-loop μ-loop loop-holds (λ c. search needs) (λ c. search needs) (λ c. search needs) (λ c. search needs)
+    (λ c κs. search needs) returns (λ c. search needs) (λ c. search needs) loop-again returns-2)

@@ -32,9 +32,6 @@ add-loop c =
     let l = c .loop in
     record { fits = omega (arith, depth (a .n) (a .gap) (a .up) (a .m) (l .i) (l .d) (a .tree .now) (a .marks .now) (l .t) (l .st) (l .inv .0), s .pre .0 .0 .size) }
 
-slice-aggregate-turn : tie.Need-slice-aggregate-turn Inv-loop μ-loop
-slice-aggregate-turn c = search needs
-
 turn-requires : tie.Need-turn-requires Inv-loop μ-loop
 turn-requires c κs =
     let s = c .before .before .before .before .before .before .before in
@@ -44,17 +41,11 @@ turn-requires c κs =
       (l .inv .0, (search needs, ap length (l .inv .2) ∙ s .pre .1 .2)),
     )
 
-loop-less : tie.Need-loop-less Inv-loop μ-loop
-loop-less c = search needs
-
 loop-again : tie.Need-loop-again Inv-loop μ-loop
 loop-again c =
     let l = c .before .before .before .before .before .before .before .loop in
     let f = c .before .before .before .turn in
     (f .ensures .0, search needs, f .ensures .1 .1 ∙ l .inv .2)
-
-same-length : tie.Need-same-length Inv-loop μ-loop
-same-length c = search needs
 
 returns : tie.Need-returns Inv-loop μ-loop
 returns c =
@@ -66,14 +57,5 @@ returns c =
 pub spread-spec : {M : Type 1} → statement M
 spread-spec =
     tie.close
-    (tie.spec
-    Inv-loop
-    μ-loop
-    loop-holds
-    add-loop
-    slice-aggregate-turn
-    turn-requires
-    loop-less
-    loop-again
-    same-length
-    returns)
+    (tie.spec Inv-loop μ-loop loop-holds add-loop (λ c. search needs) turn-requires (λ c. search needs) loop-again
+    (λ c. search needs) returns)

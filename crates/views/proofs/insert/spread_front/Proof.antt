@@ -33,20 +33,11 @@ step-front-requires c κs =
       (search needs, l .inv .1, ap length (l .inv .3) ∙ s .pre .1 .1),
     )
 
-add-i : tie.Need-add-i Inv-loop μ-loop
-add-i c = search needs
-
-loop-less : tie.Need-loop-less Inv-loop μ-loop
-loop-less c = search needs
-
 loop-again : tie.Need-loop-again Inv-loop μ-loop
 loop-again c =
     let l = c .before .before .before .before .before .loop in
     let f = c .before .before .step-front in
     (search needs, f .ensures .0, search needs, f .ensures .1 ∙ l .inv .3)
-
-same-length : tie.Need-same-length Inv-loop μ-loop
-same-length c = search needs
 
 returns : tie.Need-returns Inv-loop μ-loop
 returns c =
@@ -58,13 +49,5 @@ returns c =
 pub spread-front-spec : {M : Type 1} → statement M
 spread-front-spec =
     tie.close
-    (tie.spec
-    Inv-loop
-    μ-loop
-    loop-holds
-    step-front-requires
-    add-i
-    loop-less
-    loop-again
-    same-length
-    returns)
+    (tie.spec Inv-loop μ-loop loop-holds step-front-requires (λ c. search needs) (λ c. search needs) loop-again
+    (λ c. search needs) returns)

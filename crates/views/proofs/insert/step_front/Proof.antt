@@ -4,38 +4,11 @@ use borrow.Author.Needs.{needs}
 use Rattle.views.proofs.insert.step_front.Statement.{statement}
 use Rattle.views.proofs.insert.step_front.Tie as tie
 
-add-l : tie.Need-add-at
-add-l c = search needs
-
-mul-l : tie.Need-mul-at
-mul-l c = search needs
-
-add-l-2 : tie.Need-add-at-2
-add-l-2 c = search needs
-
-slice-read-l : tie.Need-slice-read-l
-slice-read-l c = search needs
-
 tree-in-front-requires : tie.Need-tree-in-front-requires
 tree-in-front-requires c κs =
     let s = c .before .before .before .before .before in
     let a = s .args in
     front-asks (a .n) (a .gap) (a .m) (a .i) (a .w) (a .t .now) (a .marks .now) (a .tree .now) (s .pre .0) (s .pre .1 .0) (s .pre .1 .1) (s .pre .1 .2) _ refl
-
-add-move-record : tie.Need-add-move-record
-add-move-record c = search needs
-
-mul-move-record : tie.Need-mul-move-record
-mul-move-record c = search needs
-
-move-record-requires : tie.Need-move-record-requires
-move-record-requires c κs = search needs
-
-add-result : tie.Need-add-result
-add-result c = search needs
-
-same-length : tie.Need-same-length
-same-length c = search needs
 
 returns : tie.Need-returns
 returns c =
@@ -52,15 +25,5 @@ returns c =
 pub step-front-spec : {M : Type 1} → statement M
 step-front-spec =
     tie.close
-    (tie.spec
-    add-l
-    mul-l
-    add-l-2
-    slice-read-l
-    tree-in-front-requires
-    mul-move-record
-    add-move-record
-    move-record-requires
-    add-result
-    same-length
-    returns)
+    (tie.spec (λ c. search needs) (λ c. search needs) (λ c. search needs) (λ c. search needs) tree-in-front-requires
+    (λ c. search needs) (λ c. search needs) (λ c κs. search needs) (λ c. search needs) (λ c. search needs) returns)

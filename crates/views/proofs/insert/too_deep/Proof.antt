@@ -9,15 +9,6 @@ use Rattle.views.proofs.insert.too_deep.Tie as tie
 count-of-requires : tie.Need-count-of-requires
 count-of-requires c κs = omega (arith, facts (c .before .before .before .args .t .now) (c .before .before .before .pre .0) .head)
 
-levels-down-requires : tie.Need-levels-down-requires
-levels-down-requires c κs = search needs
-
-deepest-level-requires : tie.Need-deepest-level-requires
-deepest-level-requires c κs = search needs
-
-add-deep : tie.Need-add-deep
-add-deep c = search needs
-
 some-too-deep-requires : tie.Need-some-too-deep-requires
 some-too-deep-requires c κs =
     let s = c .before .before .before .before .before .before in
@@ -33,10 +24,5 @@ returns c =
 pub too-deep-spec : {M : Type 1} → statement M
 too-deep-spec =
     tie.close
-    (tie.spec
-    count-of-requires
-    levels-down-requires
-    deepest-level-requires
-    add-deep
-    some-too-deep-requires
+    (tie.spec count-of-requires (λ c κs. search needs) (λ c κs. search needs) (λ c. search needs) some-too-deep-requires
     returns)

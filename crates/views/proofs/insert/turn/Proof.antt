@@ -5,9 +5,6 @@ use borrow.Author.Needs.{needs}
 use Rattle.views.proofs.insert.turn.Statement.{statement}
 use Rattle.views.proofs.insert.turn.Tie as tie
 
-next-level-requires : tie.Need-next-level-requires
-next-level-requires c κs = search needs
-
 is-due-requires : tie.Need-is-due-requires
 is-due-requires c κs =
     let s = c .before .before .before .before .before .before .before in
@@ -21,12 +18,6 @@ flush-tree-requires c κs =
     let x = c .before .before .before .before .before in
     let y = c .before .before .before in
     flush-asks (a .n) (a .gap) (a .up) (a .m) (a .i) (a .w) (a .d) (x .next-level .result) (a .t .now) (a .marks .now) (a .tree .now) (a .st .now) (s .pre .0 .0) (s .pre .0 .1) (s .pre .1 .0) (s .pre .1 .1 .0) (s .pre .1 .1 .1) (x .next-level .ensures) (sym (y .is-due .ensures) ∙ c .before .before .if1 .taken)
-
-same-length : tie.Need-same-length
-same-length c = search needs
-
-same-length-2 : tie.Need-same-length-2
-same-length-2 c = search needs
 
 returns : tie.Need-returns
 returns c =
@@ -46,12 +37,6 @@ take-record-requires c κs =
     let y = c .before .before .before in
     take-asks (a .n) (a .gap) (a .up) (a .m) (a .i) (a .w) (a .d) (x .next-level .result) (a .t .now) (a .marks .now) (a .tree .now) (a .st .now) (s .pre .0 .0) (s .pre .0 .1) (s .pre .1 .0) (s .pre .1 .1 .0) (s .pre .1 .1 .1) (x .next-level .ensures) (sym (y .is-due .ensures) ∙ c .before .before .if1 .left)
 
-same-length-3 : tie.Need-same-length-3
-same-length-3 c = search needs
-
-same-length-4 : tie.Need-same-length-4
-same-length-4 c = search needs
-
 returns-2 : tie.Need-returns-2
 returns-2 c =
     let s = c .before .before .before .before .before .before .before .before .before .before .before .before .before .before .before .before in
@@ -65,14 +50,5 @@ returns-2 c =
 pub turn-spec : {M : Type 1} → statement M
 turn-spec =
     tie.close
-    (tie.spec
-    next-level-requires
-    is-due-requires
-    flush-tree-requires
-    same-length
-    same-length-2
-    returns
-    take-record-requires
-    same-length-3
-    same-length-4
-    returns-2)
+    (tie.spec (λ c κs. search needs) is-due-requires flush-tree-requires (λ c. search needs) (λ c. search needs) returns
+    take-record-requires (λ c. search needs) (λ c. search needs) returns-2)

@@ -40,9 +40,6 @@ put-count-requires c κs =
     let f = facts (s .args .t .now) (s .pre .0) in
     (omega (arith, f .head), omega (arith, k .compact .ensures .0, k .before .before .count-of .ensures, f .few))
 
-same-length : tie.Need-same-length
-same-length c = search needs
-
 returns : tie.Need-returns
 returns c =
     let k = c .before .before .before .before .before .before .before .before .before .before in
@@ -57,12 +54,5 @@ returns c =
 pub remove-marked-spec : {M : Type 1} → statement M
 remove-marked-spec =
     tie.close
-    (tie.spec
-    count-of-requires
-    compact-requires
-    mul-clear-from
-    add-clear-from
-    clear-from-requires
-    put-count-requires
-    same-length
-    returns)
+    (tie.spec count-of-requires compact-requires mul-clear-from add-clear-from clear-from-requires put-count-requires
+    (λ c. search needs) returns)

@@ -21,15 +21,6 @@ loop-holds c =
     let a = c .before .before .before .args in
     (search needs, refl, naming-none (a .n) (take (a .to - a .from) (drop (a .from) (a .s .now))) (a .marks .now) (a .t .now), refl, refl)
 
-rename-one-requires : tie.Need-rename-one-requires Inv-loop μ-loop
-rename-one-requires c κs = search needs
-
-add-i : tie.Need-add-i Inv-loop μ-loop
-add-i c = search needs
-
-loop-less : tie.Need-loop-less Inv-loop μ-loop
-loop-less c = search needs
-
 loop-again : tie.Need-loop-again Inv-loop μ-loop
 loop-again c =
     let a = c .before .before .before .before .before .before .before .before .before .args in
@@ -42,9 +33,6 @@ loop-again c =
       tail-stays (a .n) (take (a .to - a .from) (drop (a .from) (a .s .now))) (a .marks .now) (l .i) (l .t) (f .last .0) (omega arith) (omega arith) (omega arith) (f .ensures .0) (f .ensures .1) ∙ l .inv .4,
     )
 
-same-length : tie.Need-same-length Inv-loop μ-loop
-same-length c = search needs
-
 returns : tie.Need-returns Inv-loop μ-loop
 returns c =
     let a = c .before .before .before .before .before .args in
@@ -56,13 +44,5 @@ returns c =
 pub rename-all-spec : {M : Type 1} → statement M
 rename-all-spec =
     tie.close
-    (tie.spec
-    Inv-loop
-    μ-loop
-    loop-holds
-    rename-one-requires
-    add-i
-    loop-less
-    loop-again
-    same-length
-    returns)
+    (tie.spec Inv-loop μ-loop loop-holds (λ c κs. search needs) (λ c. search needs) (λ c. search needs) loop-again
+    (λ c. search needs) returns)

@@ -11,27 +11,6 @@ use borrow.Author.Needs.{needs}
 use Rattle.views.proofs.rename.rename_one.Statement.{statement}
 use Rattle.views.proofs.rename.rename_one.Tie as tie
 
-shared-slice-read-if1 : tie.Need-shared-slice-read-if1
-shared-slice-read-if1 c = search needs
-
-mul-at : tie.Need-mul-at
-mul-at c = search needs
-
-add-at : tie.Need-add-at
-add-at c = search needs
-
-slice-read-level : tie.Need-slice-read-level
-slice-read-level c = search needs
-
-sub-put-record : tie.Need-sub-put-record
-sub-put-record c = search needs
-
-put-record-requires : tie.Need-put-record-requires
-put-record-requires c κs = search needs
-
-same-length : tie.Need-same-length
-same-length c = search needs
-
 returns : tie.Need-returns
 returns c =
     let a = c .before .before .before .before .before .before .before .before .before .before .args in
@@ -52,13 +31,5 @@ returns-2 c =
 pub rename-one-spec : {M : Type 1} → statement M
 rename-one-spec =
     tie.close
-    (tie.spec
-    shared-slice-read-if1
-    mul-at
-    add-at
-    slice-read-level
-    sub-put-record
-    put-record-requires
-    same-length
-    returns
-    returns-2)
+    (tie.spec (λ c. search needs) (λ c. search needs) (λ c. search needs) (λ c. search needs) (λ c. search needs)
+    (λ c κs. search needs) (λ c. search needs) returns returns-2)
