@@ -9,7 +9,7 @@ use borrow.Author.Tests.{le-leb}
 use lib.ListN.{length}
 use Rattle.rights.specs.Policy.{Policy, policyWord}
 use Rattle.rights.specs.PolicyBytes.{policyOf}
-use Rattle.rights.specs.Table.{records, level}
+use Rattle.rights.specs.Table.{records, level, label}
 use Rattle.views.specs.Nodes.{Nested}
 use Rattle.views.specs.Shown.{Stored, stored, shown, keep, view}
 use Rattle.answers.specs.Answer.{okText}
@@ -19,6 +19,7 @@ use Rattle.lines.specs.State.{stageC, stageE, stage, policyIn, storeOk}
 use Rattle.lines.specs.Step.{says, refuses, stepUser}
 use Rattle.store.specs.Line.{inStage, bytesOf, stepForm, stepRead, step}
 use Rattle.lines.specs.declared.policy_edit.Found.the-variants as found
+use Rattle.rights.proofs.LabelLaws.{same-self as label-self}
 use Rattle.lines.proofs.StateLaws.{store-held}
 use Rattle.guarantee.specs.Alike.{SamePolicy, shownTo, look, Behind, Alike, UserIs, Input, outcome, LogsIn, Begins, AnswersAlike}
 use Rattle.guarantee.proofs.SamePolicy.{same-named, same-rights-on}
@@ -58,7 +59,7 @@ module _ (u : ℕ) (s t s' t' : List ℕ) (declared : u < length (policyIn s .na
 -- A store with the root line taken is alike to itself, for every reader.
 behind-self : (word : List ℕ → Bool) (xs : List Stored) → Behind word xs xs
 behind-self word [] = tt
-behind-self word (x ∷ xs) = ((λ a b. inl refl), behind-self word xs)
+behind-self word (x ∷ xs) = ((λ a b. inl (label-self (label (x .bytes)))), behind-self word xs)
 
 pub alike-self : (u : ℕ) (s t : List ℕ) → storeOk s t ≡ true → stageC ≤ stage s → Alike u s t s t
 alike-self u s t ok g = record {

@@ -1,4 +1,4 @@
--- Rights by keys: a label's key is the label if it is a policy word, and nothing otherwise. A rule's step names a label, which is a policy word, or is `*`, or is `$`,
+-- Rights by keys: a label's key is what the label is compared by if it is a policy word, and nothing otherwise. A rule's step names a label, which is a policy word, or is `*`, or is `$`,
 -- and then every subject's name is a policy word: so the keys of a chain decide what every declared subject may do. Assumes nothing.
 use Prim.Native.Nat.{ℕ, zero, suc, _<_}
 use mathlib.Core.Bool.{Bool, true, false, cond, _&&_, _||_}
@@ -7,18 +7,20 @@ use mathlib.Core.List.{List, [], _∷_, map}
 use mathlib.Core.Option.{Option, none, some}
 use native.Mathlib.Omega.{arith}
 use lib.ListN.{length, getD}
-use Rattle.rights.specs.Labels.{sameLabel}
+use Rattle.rights.specs.Labels.{foldedLabel, sameLabel}
 use Rattle.rights.specs.Path.{Test, label, any, own, Axis, far, passes}
 use Rattle.rights.specs.Policy.{Rule, Policy, passesOwn, some as anyOf, uses, policyWord}
 use Rattle.rights.specs.Rights.{is, stepFor, finds, withRule, decide, rightsBy}
+use Rattle.rights.proofs.LabelLaws.{same-left, folded-like}
 use Rattle.rights.proofs.Lists.{byCase}
+use Rattle.rights.proofs.PolicyWords.{own-same}
 use Rattle.rights.proofs.XPathLists.{or-right}
 
 abbrev pub Key : Type 0
 Key = Option (List ℕ)
 
 abbrev pub keyOf : Policy → List ℕ → Key
-keyOf P x = cond (policyWord P x) (some x) none
+keyOf P x = cond (policyWord P x) (some (foldedLabel x)) none
 
 -- a key passes a step's test; mine are the labels that pass `$`
 abbrev pub passesKey : (List ℕ → Bool) → Test → Key → Bool
@@ -88,12 +90,12 @@ module _ (P : Policy) (u : ℕ) where
   unfolding passes
   passes-key a (label s) x v =
       byCase (policyWord P x)
-      (λ e. rw e)
+      (λ e. rw e (sym (same-left (foldedLabel x) x (folded-like x) s)))
       (λ e. rw e (byCase (sameLabel x s) (λ q. clash (policyWord P x) (v .by-name x q) e) (λ q. q)))
   passes-key a any x v = refl
   passes-key a own x v =
       byCase (policyWord P x)
-      (λ e. rw e)
+      (λ e. rw e (sym (own-same P (foldedLabel x) x (folded-like x) u)))
       (λ e. rw e (byCase (passesOwn P u x) (λ q. clash (policyWord P x) (v .by-own x refl q) e) (λ q. q)))
 
   finds-keys : (p : List (Axis × Test)) (c : List (List ℕ)) → CoversPath p

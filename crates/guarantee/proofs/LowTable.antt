@@ -20,6 +20,8 @@ use Rattle.views.specs.Done.{doneMarks, inTable}
 use Rattle.views.specs.Nodes.{Nested}
 use Rattle.views.specs.Shown.{Stored, storedFrom, stored, storedLevel, grants, granted, isShown, isShownAt, depthAfter, shownAfter, shownFrom, shown, keep, view}
 use Rattle.views.specs.declared.done.Change.{Change}
+use Rattle.rights.proofs.LabelLaws.{same-folded, folded-same}
+use Rattle.rights.proofs.PolicyWords.{word-same}
 use Rattle.views.proofs.ShownDepth.{shown-by-depth}
 use Rattle.guarantee.specs.Alike.{NoWordDiffers, Behind}
 use Rattle.guarantee.proofs.Keys.{Key, keyOf, rightsByKeys, rights-by-keys}
@@ -69,13 +71,13 @@ some-none a z = absurd (let o : _≡_ {A = ℕ} 0 1 = cc in omega arith)
 
 module _ (P : Policy) (a b : List ℕ) where
   key-same : NoWordDiffers (policyWord P) a b → keyOf P a ≡ keyOf P b
-  key-same (inl e) = ap (keyOf P) e
+  key-same (inl e) = rw (word-same P a b e, same-folded a b e)
   key-same (inr e) = rw (e .0, e .1)
 
   same-key : keyOf P a ≡ keyOf P b → NoWordDiffers (policyWord P) a b
   same-key e = byCase (policyWord P a)
-      (λ p. byCase (policyWord P b) (λ q. inl (some-eq a b (rw (p, q) at e))) (λ q. some-none a (rw (p, q) at e)))
-      (λ p. byCase (policyWord P b) (λ q. some-none b (sym (rw (p, q) at e))) (λ q. inr (p, q)))
+      (λ p. byCase (policyWord P b) (λ q. inl (folded-same a b (some-eq _ _ (rw (p, q) at e)))) (λ q. some-none _ (rw (p, q) at e)))
+      (λ p. byCase (policyWord P b) (λ q. some-none _ (sym (rw (p, q) at e))) (λ q. inr (p, q)))
 
 -- The reader
 

@@ -5,7 +5,7 @@ use mathlib.Core.Path.{_≡_}
 use mathlib.Core.Bool.{Bool, true, false}
 use mathlib.Core.List.{List, [], _∷_}
 use mathlib.Core.Logic.{_⊎_}
-use Rattle.rights.specs.Labels.{restricted}
+use Rattle.rights.specs.Labels.{sameLabel, restricted}
 use Rattle.rights.specs.Nodes.{Nodes}
 use Rattle.rights.specs.Policy.{Policy, Rule, policyWord}
 use Rattle.rights.specs.Rights.{rightsOn}
@@ -41,7 +41,7 @@ look u s t = view (storedFor u s t)
 
 -- the true labels are equal, or neither is a policy word
 abbrev pub NoWordDiffers : (List ℕ → Bool) → List ℕ → List ℕ → Type 0
-NoWordDiffers word a b = (a ≡ b) ⊎ ((word a ≡ false) × (word b ≡ false))
+NoWordDiffers word a b = (sameLabel a b ≡ true) ⊎ ((word a ≡ false) × (word b ≡ false))
 
 -- "Nodes with the same number in these lists stand in the same place." No policy word differs behind RESTRICTED in the same place.
 abbrev pub Behind : (List ℕ → Bool) → List Stored → List Stored → Type 0

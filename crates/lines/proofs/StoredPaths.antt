@@ -5,8 +5,7 @@ use mathlib.Core.Path.{_≡_, refl, sym, ap, _∙_}
 use mathlib.Core.Bool.{Bool, true, false, _||_, or-false, or-assoc}
 use mathlib.Core.List.{List, [], _∷_, _++_, append-assoc, append-nil}
 use native.Mathlib.Omega.{arith}
-use borrow.Author.Tests.{eq-eqb, ne-eqb, eqb-true}
-use lib.Dec.{eqb}
+use borrow.Author.Tests.{ne-eqb}
 use lib.ListN.{length, getD, take, drop, length-append, length-drop}
 use lib.Seq.{take-append-seam}
 use Rattle.rights.specs.Bytes.{all}
@@ -19,7 +18,7 @@ use Rattle.lines.specs.PolicyEdit.{isOpen, hasBracket, anyBracket, brack
 use Rattle.rights.specs.Record.{recordOf, pasted}
 use Rattle.rights.specs.declared.path.Read.{Read}
 use Rattle.rights.specs.declared.path.Read.the-variants.{At, Bad}
-use Rattle.rights.proofs.Lists.{byCase}
+use Rattle.rights.proofs.LabelLaws.{same-sym, same-differ}
 use Rattle.rights.proofs.PathComplete.{label-axis, label-not, first-test, drop-over, test-reads, axis-reads}
 use Rattle.rights.proofs.PathSound.{sound}
 use Rattle.rights.proofs.PathTexts.{and-left, and-right}
@@ -189,21 +188,11 @@ test-short own g = omega arith
 
 -- Which step names RESTRICTED
 
-pub same-sym : (x y : List ℕ) → sameLabel x y ≡ sameLabel y x
-unfolding sameLabel
-same-sym [] [] = refl
-same-sym [] (y ∷ ys) = refl
-same-sym (x ∷ xs) [] = refl
-same-sym (x ∷ xs) (y ∷ ys) = rw (same-sym xs ys, eqb-sym x y)
-  where
-    eqb-sym : (a b : ℕ) → eqb a b ≡ eqb b a
-    eqb-sym a b = byCase (eqb b a) (λ e. rw e (eq-eqb a b (sym (eqb-true b a e)))) (λ e. rw e (ne-eqb a b (λ q. never-both (sym (eq-eqb b a (sym q)) ∙ e))))
-
 pub names-restricted : (w : Axis × Test) → uses false restricted w ≡ sameLabel (writeTest (w .1)) restricted
-unfolding sameLabel writeTest
+unfolding writeTest
 names-restricted (a, label l) = same-sym restricted l
-names-restricted (a, any) = refl
-names-restricted (a, own) = refl
+names-restricted (a, any) = sym (same-differ _ restricted (λ e. absurd (omega arith)))
+names-restricted (a, own) = sym (same-differ _ restricted (λ e. absurd (omega arith)))
 
 -- what a loop that looks for RESTRICTED knows at i
 pub record Seeking (s : List ℕ) (i : ℕ) : Type 0 where

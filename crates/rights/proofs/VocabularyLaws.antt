@@ -11,17 +11,12 @@ use borrow.Author.Tests.{eq-eqb, ne-eqb, eqb-true, eqb-false, ltb-true, ltb-fals
 use lib.Dec.{eqb, ltb}
 use lib.ListN.{length, getD, set, length-set}
 use lib.Seq.{getD-set-same, getD-set-other}
-use Rattle.rights.specs.Labels.{sameLabel}
+use Rattle.rights.specs.Labels.{foldedLabel, sameLabel}
 use Rattle.rights.specs.Table.{recAt, label}
 use Rattle.rights.specs.PolicyBytes.{Text}
 use Rattle.rights.specs.Vocabulary.{order, labelOrder, wordAt, wordNumber, numberIn, isWord, Words, Inserted, Added}
-use Rattle.rights.proofs.LabelLaws.{same-equal, same-self, order-flip, order-through, order-self, order-same, order-other}
-use Rattle.rights.proofs.Lists.{byCase}
-
-bool-ext : (a b : Bool) → (a ≡ true → b ≡ true) → (b ≡ true → a ≡ true) → a ≡ b
-bool-ext true b f g = sym (f refl)
-bool-ext false true f g = g refl
-bool-ext false false f g = refl
+use Rattle.rights.proofs.LabelLaws.{same-sym, same-left, same-right, same-order, order-flip, order-through, order-same, order-other}
+use Rattle.rights.proofs.Lists.{byCase, bool-ext}
 
 or-first : (a b : Bool) → a ≡ true → a || b ≡ true
 or-first a b e = rw e
@@ -71,17 +66,21 @@ module _ (f : ℕ → List ℕ) where
   number-none zero x h = refl
   number-none (suc n) x h = rw (h n (omega arith)) (number-none n x (λ i l. h i (omega arith)))
 
+  number-same : (n : ℕ) (x y : List ℕ) → sameLabel x y ≡ true → wordNumber f n x ≡ wordNumber f n y
+  unfolding wordNumber
+  number-same zero x y e = refl
+  number-same (suc n) x y e = rw (same-right x y e (f n), number-same n x y e)
+
   -- a label has a word's number exactly if it is that word
   pub number-decides : (n : ℕ) (x w : List ℕ) → 0 < wordNumber f n w → eqb (wordNumber f n x) (wordNumber f n w) ≡ sameLabel x w
   number-decides n x w h =
       byCase (sameLabel x w)
-      (λ e. rw e (eq-eqb _ _ (ap (wordNumber f n) (same-equal x w e))))
+      (λ e. rw e (eq-eqb _ _ (number-same n x w e)))
       (λ e. rw e
       (ne-eqb _ _
       (λ d. let z : wordNumber f n w ≡ suc (wordNumber f n w - 1) = omega arith in
-      let a = same-equal _ _ (number-word n (wordNumber f n w - 1) x (d ∙ z) .1) in
-      let b = same-equal _ _ (number-word n (wordNumber f n w - 1) w z .1) in
-      let v : sameLabel x w ≡ true = rw (sym a ∙ b) (same-self w) in
+      let i = wordNumber f n w - 1 in
+      let v : sameLabel x w ≡ true = sym (same-left (f i) x (number-word n i x (d ∙ z) .1) w) ∙ number-word n i w z .1 in
       let q : _≡_ {A = ℕ} 0 1 = cc in omega arith)))
 
 -- Sorted words
@@ -90,13 +89,13 @@ abbrev Ascending : (ℕ → List ℕ) → ℕ → Type 0
 Ascending f n = (i j : ℕ) → i < j → j < n → labelOrder (f i) (f j) ≡ 0
 
 flip-up : (x y : List ℕ) → labelOrder x y ≡ 0 → labelOrder y x ≡ 2
-flip-up x y e = order-flip (length x ∷ x) (length y ∷ y) ∙ ap (λ (k : ℕ). 2 - k) e
+flip-up x y e = order-flip (length x ∷ foldedLabel x) (length y ∷ foldedLabel y) ∙ ap (λ (k : ℕ). 2 - k) e
 
 flip-down : (x y : List ℕ) → labelOrder x y ≡ 2 → labelOrder y x ≡ 0
-flip-down x y e = order-flip (length x ∷ x) (length y ∷ y) ∙ ap (λ (k : ℕ). 2 - k) e
+flip-down x y e = order-flip (length x ∷ foldedLabel x) (length y ∷ foldedLabel y) ∙ ap (λ (k : ℕ). 2 - k) e
 
 through : (x y z : List ℕ) → labelOrder x y ≡ 0 → labelOrder y z ≡ 0 → labelOrder x z ≡ 0
-through x y z = order-through (length x ∷ x) (length y ∷ y) (length z ∷ z)
+through x y z = order-through (length x ∷ foldedLabel x) (length y ∷ foldedLabel y) (length z ∷ foldedLabel z)
 
 module _ (f : ℕ → List ℕ) (n : ℕ) (up : Ascending f n) (x : List ℕ) where
   -- a word is found at one place alone
@@ -106,10 +105,9 @@ module _ (f : ℕ → List ℕ) (n : ℕ) (up : Ascending f n) (x : List ℕ) wh
       let k = wordNumber f n x - 1 in
       let z : wordNumber f n x ≡ suc k = omega arith in
       let w = number-word f n k x z in
-      let a = same-equal _ _ (order-same (f i) x e) in
-      let b = same-equal _ _ (w .1) in
-      let one : labelOrder (f k) (f i) ≡ 1 = rw (b ∙ sym a) (order-self (length (f i) ∷ f i)) in
-      let two : labelOrder (f i) (f k) ≡ 1 = rw (b ∙ sym a) (order-self (length (f i) ∷ f i)) in
+      let same = same-left (f k) x (w .1) (f i) ∙ same-sym x (f i) ∙ order-same (f i) x e in
+      let one = same-order (f k) (f i) same in
+      let two = same-order (f i) (f k) (same-sym (f i) (f k) ∙ same) in
       byCase (ltb k i)
       (λ l. absurd (omega (arith, up k i (ltb-true k i l) h)))
       (λ l. byCase (ltb i k) (λ m. absurd (omega (arith, up i k (ltb-true i k m) (w .0)))) (λ m. omega (arith, z, ltb-false k i l, ltb-false i k m)))
@@ -249,7 +247,7 @@ module _ (p ws ws' : List ℕ) (n i at : ℕ) (k : Words p ws n) (room : n < 211
         let o = number-word (wordAt p ws') (n + 1) j w (omega (arith, pos)) in
         place (λ (j : ℕ). sameLabel (wordAt p ws' j) w ≡ true → isWord p ws n w || sameLabel w x ≡ true)
         (λ j l e. or-first _ _ (lt-ltb 0 _ (number-there (wordAt p ws) n j w (omega arith) (rw (word-low j l) at e))))
-        (λ e. or-second (isWord p ws n w) _ (rw (sym (same-equal _ _ (rw word-here at e))) (same-self x)))
+        (λ e. or-second (isWord p ws n w) _ (same-sym w x ∙ (rw word-here at e)))
         (λ j l m e. or-first _ _ (lt-ltb 0 _ (number-there (wordAt p ws) n j w m (rw (word-high j l m) at e))))
         j (o .0) (o .1))
         (λ h. or-case (isWord p ws n w) (sameLabel w x) h
@@ -259,7 +257,7 @@ module _ (p ws ws' : List ℕ) (n i at : ℕ) (k : Words p ws n) (room : n < 211
         byCase (ltb j i)
         (λ l. lt-ltb 0 _ (number-there (wordAt p ws') (n + 1) j w (omega (arith, o .0)) (rw (word-low j (ltb-true j i l)) (o .1))))
         (λ l. lt-ltb 0 _ (number-there (wordAt p ws') (n + 1) (j + 1) w (omega (arith, o .0)) (rw (word-high j (ltb-false j i l) (o .0)) (o .1)))))
-        (λ e. lt-ltb 0 _ (number-there (wordAt p ws') (n + 1) i w (omega arith) (rw (word-here, same-equal w x e) (same-self x)))))
+        (λ e. lt-ltb 0 _ (number-there (wordAt p ws') (n + 1) i w (omega arith) (rw word-here (same-sym x w ∙ e)))))
 
     pub added-new : Added p ws n ws' (n + 1) (λ (w : List ℕ). sameLabel w x)
     added-new = record { words = words-more; holds = holds-more }
@@ -269,7 +267,7 @@ pub added-old : (p ws : List ℕ) (n i : ℕ) (x : List ℕ) → Words p ws n �
 added-old p ws n i x k h e = record {
   words = k;
   holds = λ w. byCase (sameLabel w x)
-      (λ d. let b : isWord p ws n w ≡ true = lt-ltb 0 _ (number-there (wordAt p ws) n i w h (subst (λ (v : List ℕ). sameLabel (wordAt p ws i) v ≡ true) (sym (same-equal w x d)) e)) in b ∙ sym (or-first (isWord p ws n w) (sameLabel w x) b))
+      (λ d. let b : isWord p ws n w ≡ true = lt-ltb 0 _ (number-there (wordAt p ws) n i w h (same-right w x d (wordAt p ws i) ∙ e)) in b ∙ sym (or-first (isWord p ws n w) (sameLabel w x) b))
       (λ d. rw d (sym (or-false _)));
 }
 

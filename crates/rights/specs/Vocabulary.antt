@@ -8,7 +8,7 @@ use lib.Dec.{ltb}
 use lib.ListN.{length, getD}
 use Rattle.rights.specs.declared.vocabulary.Spot.{Spot}
 use Rattle.rights.specs.declared.vocabulary.Spot.the-variants.{Found, Missing}
-use Rattle.rights.specs.Labels.{sameLabel}
+use Rattle.rights.specs.Labels.{sameLabel, foldedLabel}
 use Rattle.rights.specs.Table.{recAt, label}
 use Rattle.rights.specs.Policy.{Rule, some, uses, policyWord}
 use Rattle.rights.specs.PolicyBytes.{policyOf, ruleCount, rulesFrom, nameAt, Text}
@@ -20,9 +20,9 @@ order [] (y ∷ ys) = 0
 order (x ∷ xs) [] = 2
 order (x ∷ xs) (y ∷ ys) = cond (ltb x y) 0 (cond (ltb y x) 2 (order xs ys))
 
--- Labels are sorted by their length, and those of one length by their bytes.
+-- Labels are sorted by their length, and those of one length by what their bytes are compared by.
 abbrev pub labelOrder : List ℕ → List ℕ → ℕ
-labelOrder x y = order (length x ∷ x) (length y ∷ y)
+labelOrder x y = order (length x ∷ foldedLabel x) (length y ∷ foldedLabel y)
 
 -- word i, where ws are the places of the words' records in the policy
 abbrev pub wordAt : List ℕ → List ℕ → ℕ → List ℕ

@@ -29,16 +29,23 @@ loop-holds c =
 
 returns-3 : tie.Need-returns-3 Inv-loop μ-loop
 returns-3 c =
-    let a = c .before .before .before .before .before .before .before .before .before .before .args in
-    let l = c .before .before .before .before .before .loop in
+    let read = c .before .before in
+    let l = read .before .before .before .before .before .loop in
+    let a = read .before .before .before .before .before .before .before .before .before .before .args in
     c .byte-order .ensures
-    ∙ sym (l .inv .2 ∙ rest-stop (a .a .now) (a .b .now) (a .i) (a .j) (a .n) (l .k) (omega arith) (omega arith) (omega arith) (c .before .if3 .taken))
+    ∙ sym (l .inv .2 ∙ rest-stop (a .a .now) (a .b .now) (a .i) (a .j) (a .n) (l .k) _ _ (omega arith) (omega arith) (omega arith)
+    (read .before .before .fold-byte .ensures) (read .fold-byte2 .ensures) (c .before .if3 .taken))
 
 loop-again : tie.Need-loop-again Inv-loop μ-loop
 loop-again c =
-    let a = c .before .before .before .before .before .before .before .before .before .args in
-    let l = c .before .before .before .before .loop in
-    (omega arith, l .inv .1, l .inv .2 ∙ rest-next (a .a .now) (a .b .now) (a .i) (a .j) (a .n) (l .k) (omega arith) (omega arith) (omega arith) (c .if3 .left))
+    let read = c .before in
+    let l = read .before .before .before .before .before .loop in
+    let a = read .before .before .before .before .before .before .before .before .before .before .args in (
+      omega arith,
+      l .inv .1,
+      l .inv .2 ∙ rest-next (a .a .now) (a .b .now) (a .i) (a .j) (a .n) (l .k) _ _ (omega arith) (omega arith) (omega arith)
+          (read .before .before .fold-byte .ensures) (read .fold-byte2 .ensures) (c .if3 .left),
+    )
 
 returns-4 : tie.Need-returns-4 Inv-loop μ-loop
 returns-4 c =
@@ -49,5 +56,6 @@ returns-4 c =
 pub compare-labels-spec : {M : Type 1} → statement M
 compare-labels-spec =
     tie.close
-    (tie.spec Inv-loop μ-loop returns returns-2 loop-holds (λ c. search needs) (λ c. search needs) (λ c. search needs)
-    (λ c. search needs) (λ c κs. search needs) returns-3 (λ c. search needs) (λ c. search needs) loop-again returns-4)
+    (tie.spec Inv-loop μ-loop returns returns-2 loop-holds (λ c. search needs) (λ c. search needs)
+    (λ c κs. search needs) (λ c. search needs) (λ c. search needs) (λ c κs. search needs) (λ c κs. search needs)
+    returns-3 (λ c. search needs) (λ c. search needs) loop-again returns-4)
