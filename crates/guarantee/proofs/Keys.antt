@@ -8,7 +8,8 @@ use mathlib.Core.Option.{Option, none, some}
 use native.Mathlib.Omega.{arith}
 use lib.ListN.{length, getD}
 use Rattle.rights.specs.Labels.{foldedLabel, sameLabel}
-use Rattle.rights.specs.Path.{Test, label, any, own, Axis, far, passes}
+use Rattle.rights.specs.Path.{Test, label, any, own, isDescendant, passes}
+use Rattle.rights.specs.declared.path.Axis.{Axis}
 use Rattle.rights.specs.Policy.{Rule, Policy, passesOwn, some as anyOf, uses, policyWord}
 use Rattle.rights.specs.Rights.{is, stepFor, finds, withRule, decide, rightsBy}
 use Rattle.rights.proofs.LabelLaws.{same-left, folded-like}
@@ -35,7 +36,7 @@ unfoldable pub findsKeys : (List ℕ → Bool) → List (Axis × Test) → List 
 findsKeys mine [] [] = true
 findsKeys mine [] (k ∷ ks) = false
 findsKeys mine (w ∷ p) [] = false
-findsKeys mine (w ∷ p) (k ∷ ks) = (passesKey mine (w .1) k && findsKeys mine p ks) || (far (w .0) && findsKeys mine (w ∷ p) ks)
+findsKeys mine (w ∷ p) (k ∷ ks) = (passesKey mine (w .1) k && findsKeys mine p ks) || (isDescendant (w .0) && findsKeys mine (w ∷ p) ks)
 
 -- the rules in order, and the set of rights that subject u has on a node with this chain of keys
 unfoldable pub decideKeys : Policy → ℕ → List Key → List Rule → ℕ → ℕ
@@ -107,7 +108,7 @@ module _ (P : Policy) (u : ℕ) where
   finds-keys (w ∷ p) (x ∷ c) v =
       ap₂ _||_
       (ap₂ _&&_ (passes-key (w .0) (w .1) x (first (λ y. uses false y w) (λ y. uses true y w) _ _ v)) (finds-keys p c (others (λ y. uses false y w) (λ y. uses true y w) _ _ v)))
-      (ap (λ b. far (w .0) && b) (finds-keys (w ∷ p) c v))
+      (ap (λ b. isDescendant (w .0) && b) (finds-keys (w ∷ p) c v))
 
   decide-keys : (c : List (List ℕ)) (rs : List Rule) (set : ℕ) → CoversRules rs → decide P u c rs set ≡ decideKeys P u (map (keyOf P) c) rs set
   unfolding decide decideKeys anyOf

@@ -10,7 +10,8 @@ use lib.Dec.{lit<}
 use lib.ListN.{length, getD, take, drop, set, length-append, length-drop, length-set, List·getD-append}
 use lib.Seq.{drop-drop, take-take, drop-at, take-append-le, take-append-seam, drop-append-le, drop-append-seam, drop-set-lt, getD-set-same, getD-set-other, getD-take, getD-drop, length-take-le, sets-eq}
 use Rattle.rights.specs.Bytes.{all, isZero, zeros}
-use Rattle.rights.specs.Path.{Axis, Test}
+use Rattle.rights.specs.Path.{Test}
+use Rattle.rights.specs.declared.path.Axis.{Axis}
 use Rattle.rights.specs.PolicyBytes.{subjectCount, isaCount, ruleCount}
 use Rattle.lines.specs.PolicyEdit.{withLine, withSubject, withIsa, withRule, ruleHead, stepRecords}
 use Rattle.rights.specs.Record.{recordOf, pasted}

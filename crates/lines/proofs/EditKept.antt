@@ -10,7 +10,8 @@ use lib.Dec.{leb, ltb, eqb}
 use lib.ListN.{length, getD}
 use Rattle.rights.specs.Bytes.{every, zeros}
 use Rattle.rights.specs.Labels.{sameLabel}
-use Rattle.rights.specs.Path.{Axis, Test}
+use Rattle.rights.specs.Path.{Test}
+use Rattle.rights.specs.declared.path.Axis.{Axis}
 use Rattle.rights.specs.Policy.{Rule}
 use Rattle.rights.specs.Table.{recAt, recordOk, label}
 use Rattle.rights.specs.PolicyBytes.{subjectCount, isaCount, ruleCount, subjectAt, isaAt, ruleAt, stepsAt, nameAt, isaN, isaR, rightBit, whose, stepCount, stepOf, namesFrom, isaFrom, stepsFrom, ruleOf, rulesFrom, policyOf}

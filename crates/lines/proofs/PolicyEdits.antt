@@ -12,7 +12,8 @@ use lib.Dec.{lit<, leb, ltb, eqb}
 use lib.ListN.{length, getD, take, drop, length-append}
 use Rattle.rights.specs.Bytes.{all, isZero, zeros, every}
 use Rattle.rights.specs.Labels.{labelByte, sameLabel, restricted}
-use Rattle.rights.specs.Path.{Test, Axis}
+use Rattle.rights.specs.Path.{Test}
+use Rattle.rights.specs.declared.path.Axis.{Axis}
 use Rattle.rights.specs.Policy.{Right, position, read, insert, update, delete, bitOf, Rule, some, uses}
 use Rattle.rights.specs.Table.{recAt, recordOk, label}
 use Rattle.rights.specs.PolicyBytes.{subjectCount, isaCount, ruleCount, subjectAt, isaAt, ruleAt, stepsAt, nameAt, isaN, isaR, whose, namesFrom, isaFrom, rulesFrom, stepsFrom, ruleOf, policyOf}

@@ -25,7 +25,7 @@ use borrow.Rule.Slice.PartMut.{putMid, postOf}
 use lib.Seq.{take-at, take-length, getD-drop, length-take-le}
 use Rattle.rights.specs.Nodes.{Nodes, Fits, viewOf}
 use Rattle.rights.specs.Policy.{passesOwn}
-use Rattle.rights.specs.Selection.{selection, marksAfter}
+use Rattle.rights.specs.Selection.{selection, Selects}
 use Rattle.rights.proofs.PassLaws.{marks-length, view-length}
 use Rattle.rights.proofs.Sounds.{policy-sound}
 use Rattle.answers.specs.AnswerChoice.{Choice, findText}
@@ -186,20 +186,14 @@ marks-size s t path ok = marks-long s t path ∙ view-long s t ok
 
 -- what is selected from the user's view
 module _ (s t path : List ℕ) (ok : storeOk s t ≡ true) (user : ℕ) (e : user ≡ userByte s) (nodes : Nodes) (v : nodes ≡ viewIn s t) where
-  pub picked-are : notPath (pathOf path) ≡ false → (before after : List ℕ) (k : ℕ) → k ≡ length (shownNumbers (storedIn s t))
-      → after ≡ marksAfter (pathOf path) (selection path (passesOwn (policyOf (take (length s - 8) (drop 8 s))) (user - 1)) nodes) before
-      → after ≡ marksIn s t path ++ drop k before
-  picked-are h before after k z q =
+  pub picked-are : (before after : List ℕ) (k : ℕ) → k ≡ length (shownNumbers (storedIn s t))
+      → Selects nodes (passesOwn (policyOf (take (length s - 8) (drop 8 s))) (user - 1)) path before after → after ≡ marksIn s t path ++ drop k before
+  picked-are before after k z q =
       let m : selection path (passesOwn (policyOf (take (length s - 8) (drop 8 s))) (user - 1)) nodes ≡ marksIn s t path =
       ap (selection path (passesOwn (policyOf (take (length s - 8) (drop 8 s))) (user - 1))) v
       ∙ ap (λ p. selection path (passesOwn (policyOf p) (user - 1)) (viewIn s t)) (rest-of s 8)
       ∙ ap (λ n. selection path (passesOwn (policyIn s) (n - 1)) (viewIn s t)) e in
-      q ∙ ap (λ l. marksAfter (pathOf path) l before) m ∙ go (pathOf path) h
-      ∙ ap (λ n. marksIn s t path ++ drop n before) (marks-size s t path ok ∙ sym z)
-    where
-      go : (g : Got Path) → notPath g ≡ false → marksAfter g (marksIn s t path) before ≡ marksIn s t path ++ drop (length (marksIn s t path)) before
-      go (got p i) w = refl
-      go bad w = absurd (let z : _≡_ {A = ℕ} 0 1 = cc in omega arith)
+      q ∙ ap (λ l. l ++ drop (length nodes) before) m ∙ ap (λ n. marksIn s t path ++ drop n before) (ap length v ∙ view-long s t ok ∙ sym z)
 
 -- a part that holds the marks
 pub marks-part : (s t path marks' more : List ℕ) (k : ℕ) → storeOk s t ≡ true → k ≡ length (shownNumbers (storedIn s t)) → marks' ≡ marksIn s t path ++ more
@@ -212,6 +206,11 @@ marks-part s t path marks' more k ok e q =
 pub not-path : (g : Got Path) → placeOf g ≡ Bad → notPath g ≡ true
 not-path (got p i) e = absurd (let z : _≡_ {A = ℕ} 0 1 = cc in omega arith)
 not-path bad e = refl
+
+-- what is not refused was read
+pub path-read : (g : Got Path) → notPath g ≡ false → g ≡ bad → ⊥
+path-read (got p i) e q = let z : _≡_ {A = ℕ} 0 1 = cc in omega arith
+path-read bad e q = let z : _≡_ {A = ℕ} 0 1 = cc in omega arith
 
 pub is-path : (g : Got Path) (i : ℕ) → placeOf g ≡ At i → notPath g ≡ false
 is-path (got p k) i e = refl

@@ -10,7 +10,9 @@ use lib.ListN.{length, getD, take, drop, length-append, length-drop}
 use lib.Seq.{take-append-seam}
 use Rattle.rights.specs.Bytes.{all}
 use Rattle.rights.specs.Labels.{labelByte, sameLabel, restricted}
-use Rattle.rights.specs.Path.{Test, label, any, own, Axis, child, descendant, Path, last, next, Brackets, none, position, holds}
+use Rattle.rights.specs.Path.{Test, label, any, own, Path, last, next, Brackets, none, position, holds}
+use Rattle.rights.specs.declared.path.Axis.{Axis}
+use Rattle.rights.specs.declared.path.Axis.the-variants.{Child, Descendant}
 use Rattle.rights.specs.PathReader.{Got, got, bad, readTest, axisAt, afterSlash, pathOf, placeOf, Onward}
 use Rattle.rights.specs.PathText.{writeTest, writeAxis, writeSteps, writeBrackets, write, stepsOf, GoodTest, GoodSteps}
 use Rattle.rights.specs.Policy.{some, uses}
@@ -50,8 +52,8 @@ closed-test own g = refl
 
 closed-axis : (a : Axis) → some isOpen (writeAxis a) ≡ false
 unfolding some writeAxis
-closed-axis child = refl
-closed-axis descendant = refl
+closed-axis Child = refl
+closed-axis Descendant = refl
 
 open-brackets : (bs : Brackets) → some isOpen (writeBrackets bs) ≡ anyBracket bs
 unfolding some writeBrackets
@@ -153,8 +155,8 @@ left-some s i (w ∷ vs) h e f = f w vs refl
 pub left-none : (s : List ℕ) (i : ℕ) (ws : List (Axis × Test)) → GoodStored ws → length s ≤ i → drop i s ≡ writeStored ws → ws ≡ []
 unfolding writeStored writeAxis
 left-none s i [] g h e = refl
-left-none s i ((child, t) ∷ ws) g h e = absurd (omega (arith, length-drop i s, ap length e))
-left-none s i ((descendant, t) ∷ ws) g h e = absurd (omega (arith, length-drop i s, ap length e))
+left-none s i ((Child, t) ∷ ws) g h e = absurd (omega (arith, length-drop i s, ap length e))
+left-none s i ((Descendant, t) ∷ ws) g h e = absurd (omega (arith, length-drop i s, ap length e))
 
 -- the step w is read from its slashes at i over its test at k to e
 pub record Stepped (s : List ℕ) (i k e : ℕ) (w : Axis × Test) (ws : List (Axis × Test)) : Type 0 where

@@ -10,7 +10,9 @@ use lib.Dec.{lit<, eqb}
 use lib.ListN.{length, getD, take, drop}
 use Rattle.rights.specs.Bytes.{all, isZero, zeros, every}
 use Rattle.rights.specs.Labels.{labelByte, restricted}
-use Rattle.rights.specs.Path.{Test, label, any, own, Axis, child, descendant}
+use Rattle.rights.specs.Path.{Test, label, any, own}
+use Rattle.rights.specs.declared.path.Axis.{Axis}
+use Rattle.rights.specs.declared.path.Axis.the-variants.{Child, Descendant}
 use Rattle.rights.specs.PathText.{writeTest, GoodTest}
 use Rattle.rights.specs.Policy.{some, uses}
 use Rattle.rights.specs.PolicyBytes.{axisOf, testOf, stepOf, stepsFrom}
@@ -27,8 +29,8 @@ use Rattle.rights.proofs.Texts.{byte-at, first-at}
 
 -- a step is read again as it was stored
 axis-back : (a : Axis) → axisOf (axisByte a) ≡ a
-axis-back child = refl
-axis-back descendant = refl
+axis-back Child = refl
+axis-back Descendant = refl
 
 test-back : (t : Test) → GoodTest t → testOf (writeTest t) ≡ t
 unfolding testOf writeTest GoodTest all labelByte
@@ -47,7 +49,7 @@ step-back (a, t) g =
 
 -- steps that stand at byte b
 module _ (q : List ℕ) where
-  pub stored-at : (ws : List (Axis × Test)) (b j : ℕ) → j < length ws → GoodStored ws → take (length (stepRecords ws)) (drop b q) ≡ stepRecords ws → recAt q (b + j * 32) ≡ stepRecord (getD ws j (child, any))
+  pub stored-at : (ws : List (Axis × Test)) (b j : ℕ) → j < length ws → GoodStored ws → take (length (stepRecords ws)) (drop b q) ≡ stepRecords ws → recAt q (b + j * 32) ≡ stepRecord (getD ws j (Child, any))
   unfolding stepRecords GoodStored
   stored-at [] b j h g e = absurd (not-suc-le-zero h)
   stored-at (w ∷ ws) b zero h g e =
@@ -70,7 +72,7 @@ module _ (q : List ℕ) where
       (ap stepOf r ∙ step-back w (g .0))
       (stored-steps ws b (suc j) (g .1) (rw z at (s .1)))
 
-good-at : (ws : List (Axis × Test)) (j : ℕ) → j < length ws → GoodStored ws → GoodTest (getD ws j (child, any) .1)
+good-at : (ws : List (Axis × Test)) (j : ℕ) → j < length ws → GoodStored ws → GoodTest (getD ws j (Child, any) .1)
 unfolding GoodStored
 good-at [] j h g = absurd (not-suc-le-zero h)
 good-at (w ∷ ws) zero h g = g .0
@@ -80,7 +82,7 @@ pub or-none : (a b : Bool) → a || b ≡ false → (a ≡ false) × (b ≡ fals
 or-none true b e = absurd (let z : _≡_ {A = ℕ} 0 1 = cc in omega arith)
 or-none false b e = (refl, e)
 
-none-at : (f : Axis × Test → Bool) (ws : List (Axis × Test)) (j : ℕ) → j < length ws → some f ws ≡ false → f (getD ws j (child, any)) ≡ false
+none-at : (f : Axis × Test → Bool) (ws : List (Axis × Test)) (j : ℕ) → j < length ws → some f ws ≡ false → f (getD ws j (Child, any)) ≡ false
 unfolding some
 none-at f [] j h e = absurd (not-suc-le-zero h)
 none-at f (w ∷ ws) zero h e = or-none (f w) (some f ws) e .0
@@ -88,8 +90,8 @@ none-at f (w ∷ ws) (suc j) h e = none-at f ws j (le-of-suc-le-suc h) (or-none 
 
 -- a stored step passes
 axis-low : (a : Axis) → axisByte a ≤ 1
-axis-low child = omega arith
-axis-low descendant = omega arith
+axis-low Child = omega arith
+axis-low Descendant = omega arith
 
 sign-stored : (q : List ℕ) (at b g : ℕ) → b ≤ 1 → eqb g 42 || eqb g 36 ≡ true → recAt q at ≡ recordOf b (g ∷ []) → signOk q at ≡ true
 unfolding signOk recordOf all
@@ -115,4 +117,4 @@ every-all f (suc n) h = rw (every-all f n (λ j l. h j (omega arith)), h n (omeg
 pub steps-pass : (q : List ℕ) (ws : List (Axis × Test)) (b : ℕ) → GoodStored ws → some (uses false restricted) ws ≡ false → take (length (stepRecords ws)) (drop b q) ≡ stepRecords ws → every (λ j. stepOk q (b + j * 32)) (length ws) ≡ true
 steps-pass q ws b g u e =
     every-all (λ j. stepOk q (b + j * 32)) (length ws) λ j h.
-    step-passes q (b + j * 32) (getD ws j (child, any)) (stored-at q ws b j h g e) (good-at ws j h g) (none-at (uses false restricted) ws j h u)
+    step-passes q (b + j * 32) (getD ws j (Child, any)) (stored-at q ws b j h g e) (good-at ws j h g) (none-at (uses false restricted) ws j h u)

@@ -7,7 +7,9 @@ use mathlib.Core.List.{List, [], _∷_, _++_}
 use lib.Dec.{eqb}
 use lib.ListN.{length, getD, set}
 use Rattle.rights.specs.Labels.{sameLabel, restricted}
-use Rattle.rights.specs.Path.{Test, Axis, child, descendant, Path, last, next, Brackets, none, position, holds}
+use Rattle.rights.specs.Path.{Test, Path, last, next, Brackets, none, position, holds}
+use Rattle.rights.specs.declared.path.Axis.{Axis}
+use Rattle.rights.specs.declared.path.Axis.the-variants.{Child, Descendant}
 use Rattle.rights.specs.PathReader.{Got, got, bad, readTest, axisAt, pathOf}
 use Rattle.rights.specs.PathText.{writeTest, writeAxis}
 use Rattle.rights.specs.Policy.{Policy, some, uses}
@@ -79,8 +81,8 @@ pathRestricted s = some (uses false restricted) (stepsIn s)
 
 -- A step is stored as a record: 0 for `/` or 1 for `//`, and `*`, `$` or the label as its text.
 abbrev pub axisByte : Axis → ℕ
-axisByte child = 0
-axisByte descendant = 1
+axisByte Child = 0
+axisByte Descendant = 1
 
 abbrev pub stepRecord : Axis × Test → List ℕ
 stepRecord w = recordOf (axisByte (w .0)) (writeTest (w .1))

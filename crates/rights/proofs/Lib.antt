@@ -29,7 +29,6 @@ pub mod WalkLaws
 pub mod XPathLists
 pub mod XPathAxes
 pub mod XPathLaws
-pub mod ViewNested
 pub mod StarredPaths
 pub mod NodeLaws
 pub mod RecordMade

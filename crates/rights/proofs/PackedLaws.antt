@@ -12,7 +12,7 @@ use lib.Dec.{eqb, eqb·suc-suc, eqb·zero-suc, eqb·suc-zero}
 use lib.ListN.{length, getD, set, length-append, length-set}
 use lib.Seq.{getD-set-same, getD-set-other}
 use Rattle.rights.specs.Labels.{sameLabel}
-use Rattle.rights.specs.Path.{far}
+use Rattle.rights.specs.Path.{isDescendant}
 use Rattle.rights.specs.Rights.{Step, stepFor}
 use Rattle.rights.specs.Table.{recAt, label}
 use Rattle.rights.specs.Policy.{Rule, passesOwn, some, uses}
@@ -171,8 +171,8 @@ module _ (p : List ℕ) (u at : ℕ) where
   abbrev s : Step
   s = stepFor (passesOwn (policyOf p) u) (stepOf (recAt p at))
 
-  pub step-deep : (d : Bool) → d ≡ far (axisOf (getD p at 0)) → d ≡ s .deep
-  step-deep d e = e ∙ ap (λ (z : ℕ). far (axisOf z)) (sym (first-at p at))
+  pub step-deep : (d : Bool) → d ≡ isDescendant (axisOf (getD p at 0)) → d ≡ s .deep
+  step-deep d e = e ∙ ap (λ (z : ℕ). isDescendant (axisOf z)) (sym (first-at p at))
 
   pub step-every : getD (label (recAt p at)) 0 0 ≡ 42 → (x : List ℕ) → s .passed x ≡ true
   step-every e x = passes-any (passesOwn (policyOf p) u) (label (recAt p at)) x e

@@ -23,7 +23,7 @@ ghost use Prim.Native.Nat.{ℕ, suc, _+_, _-_, _*_, _/_, _%_, _^_, _≤_, _<_};
 ghost use lib.Bits.{bitOr};
 ghost use lib.Dec.{eqb};
 ghost use lib.ListN.{length, getD};
-ghost use Rattle.rights.specs.Path.{far};
+ghost use Rattle.rights.specs.Path.{isDescendant};
 ghost use Rattle.rights.specs.Policy.{passesOwn};
 ghost use Rattle.rights.specs.Table.{recAt, label};
 ghost use Rattle.rights.specs.PolicyBytes.{policyOf, ruleCount, stepCount, stepOf, nameAt, accepts, axisOf, Text, Subject};
@@ -55,7 +55,7 @@ fn mark_if(on: bool, m: u64, j: usize) -> u64
 // Whether the step at byte `step` goes to all descendants.
 fn is_deep(policy: &[u8], step: usize) -> bool
     requires { ⌜ step < length (now policy) ⌝ }
-    ensures { λ r. ⌜ r ≡ far (axisOf (getD (now (policy .entry)) step 0)) ⌝ }
+    ensures { λ r. ⌜ r ≡ isDescendant (axisOf (getD (now (policy .entry)) step 0)) ⌝ }
 {
     if policy[step] == 0 {
         return false;

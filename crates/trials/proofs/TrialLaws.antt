@@ -21,14 +21,13 @@ use Rattle.rights.specs.Policy.{passesOwn, policyWord}
 use Rattle.rights.specs.PolicyBytes.{policyOf, subjectCount, Subject}
 use Rattle.rights.specs.PolicyCheck.{policyOk}
 use Rattle.rights.specs.Rights.{rightsOn}
-use Rattle.rights.specs.Selection.{selection, marksAfter, answerOf, Selects}
+use Rattle.rights.specs.Selection.{selection, Selects}
 use Rattle.rights.specs.Table.{tableOk, count, records}
 use Rattle.rights.specs.declared.path.Read.{Read}
 use Rattle.rights.specs.declared.path.Read.the-variants.{At, Bad}
-use Rattle.rights.specs.declared.selection.Selection.{Selection}
-use Rattle.rights.specs.declared.selection.Selection.the-variants.{Selected, NotWellFormed}
 use Rattle.rights.proofs.Facts.{both, table-long, table-few}
 use Rattle.rights.proofs.NodeLaws.{table-fits}
+use Rattle.rights.proofs.PassLaws.{view-length}
 use Rattle.rights.proofs.Sounds.{policy-sound}
 use Rattle.trials.specs.Trials.{refused, notWellFormed, yes, either, pathCode, wordCode, asks, asksRights, RightsTried, below, asksNodes, SelectionTried}
 
@@ -91,21 +90,13 @@ nodes-fit p u t room shown e =
 pub counted : (n : ℕ) → n ≤ 16384 → toZ w64 n ≡ pos n
 counted n h = toZ-pos w64 (omega arith)
 
-either-read : (g : Got Path) (i : ℕ) (x y : ℤ) → placeOf g ≡ At i → either g x y ≡ x
+either-read : {A : Type 0} (g : Got Path) (i : ℕ) (x y : A) → placeOf g ≡ At i → either g x y ≡ x
 either-read (got p e) i x y h = refl
 either-read bad i x y h = absurd (let z : _≡_ {A = ℕ} 0 1 = cc in omega arith)
 
-either-bad : (g : Got Path) (x y : ℤ) → placeOf g ≡ Bad → either g x y ≡ y
+either-bad : {A : Type 0} (g : Got Path) (x y : A) → placeOf g ≡ Bad → either g x y ≡ y
 either-bad (got p e) x y h = absurd (let z : _≡_ {A = ℕ} 0 1 = cc in omega arith)
 either-bad bad x y h = refl
-
-either-selected : (g : Got Path) (x y : ℤ) → answerOf g ≡ Selected → either g x y ≡ x
-either-selected (got p e) x y h = refl
-either-selected bad x y h = absurd (let z : _≡_ {A = ℕ} 0 1 = cc in omega arith)
-
-either-not : (g : Got Path) (x y : ℤ) → answerOf g ≡ NotWellFormed → either g x y ≡ y
-either-not (got p e) x y h = absurd (let z : _≡_ {A = ℕ} 0 1 = cc in omega arith)
-either-not bad x y h = refl
 
 pub path-yes : (s : List ℕ) (i : ℕ) → placeOf (pathOf s) ≡ At i → pos 1 ≡ pathCode s
 path-yes s i h = sym (either-read (pathOf s) i (pos 1) (pos 0) h)
@@ -144,22 +135,17 @@ module _ (p : List ℕ) (u : ℕ) (t : List ℕ) (before : List ℕ) where
   rights-refused e = record { answer = rw e; out = rw e }
 
   module _ (shown s : List ℕ) where
-    pub nodes-done : asksNodes p u t shown (length before) ≡ true → (after : List ℕ) (r : Selection) → Selects (viewOf t shown) (passesOwn (policyOf p) u) s before after r → r ≡ Selected
+    pub nodes-done : asksNodes p u t shown (length before) ≡ true → (i : ℕ) → placeOf (pathOf s) ≡ At i → (after : List ℕ) → Selects (viewOf t shown) (passesOwn (policyOf p) u) s before after
         → SelectionTried p u t shown s before after (toZ w64 (length shown))
-    nodes-done e after r h q =
+    nodes-done e i q after h =
         let g = nodes-gives p u t (length before) shown e in
         record {
-          answer = rw (e, either-selected (pathOf s) (pos (length shown)) notWellFormed (sym (h .is) ∙ q)) (counted (length shown) (g .1));
-          marks = rw e (h .marks);
+          answer = rw (e, either-read (pathOf s) i (pos (length shown)) notWellFormed q) (counted (length shown) (g .1));
+          marks = rw (e, ← (view-length t shown), either-read (pathOf s) i (selection s (passesOwn (policyOf p) u) (viewOf t shown) ++ drop (length (viewOf t shown)) before) before q) h;
         }
 
-    pub nodes-bad : asksNodes p u t shown (length before) ≡ true → (after : List ℕ) (r : Selection) → Selects (viewOf t shown) (passesOwn (policyOf p) u) s before after r → r ≡ NotWellFormed
-        → SelectionTried p u t shown s before after notWellFormed
-    nodes-bad e after r h q =
-        record {
-          answer = rw (e, either-not (pathOf s) (pos (length shown)) notWellFormed (sym (h .is) ∙ q));
-          marks = rw e (h .marks);
-        }
+    pub nodes-bad : asksNodes p u t shown (length before) ≡ true → placeOf (pathOf s) ≡ Bad → SelectionTried p u t shown s before before notWellFormed
+    nodes-bad e q = record { answer = rw (e, either-bad (pathOf s) (pos (length shown)) notWellFormed q); marks = rw (e, either-bad (pathOf s) (selection s (passesOwn (policyOf p) u) (viewOf t shown) ++ drop (length shown) before) before q) }
 
     pub nodes-refused : asksNodes p u t shown (length before) ≡ false → SelectionTried p u t shown s before before refused
     nodes-refused e = record { answer = rw e; marks = rw e }

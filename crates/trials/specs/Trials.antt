@@ -14,7 +14,7 @@ use Rattle.rights.specs.Policy.{passesOwn, policyWord}
 use Rattle.rights.specs.PolicyBytes.{policyOf, subjectCount}
 use Rattle.rights.specs.PolicyCheck.{policyOk}
 use Rattle.rights.specs.Rights.{rightsOn}
-use Rattle.rights.specs.Selection.{selection, marksAfter}
+use Rattle.rights.specs.Selection.{selection}
 use Rattle.rights.specs.Table.{tableOk, count, records}
 
 -- the answers -1 and -2
@@ -29,7 +29,7 @@ abbrev pub yes : Bool → ℤ
 yes b = cond b (pos 1) (pos 0)
 
 -- one answer where a path was read, another where it is not well formed
-abbrev pub either : Got Path → ℤ → ℤ → ℤ
+abbrev pub either : {A : Type 0} → Got Path → A → A → A
 either (got p e) x y = x
 either bad x y = y
 
@@ -64,7 +64,8 @@ asksNodes policy u table shown room =
     && (leb (length shown) room
     && all (below (count table)) shown))
 
--- The marks of the selection and then the bytes that were there, with the number of nodes; or nothing changed.
+-- The marks of the selection and then the bytes that were there, with the number of nodes; or nothing changed ("If the path is not well formed, nothing
+-- of it is used.").
 pub record SelectionTried (policy : List ℕ) (u : ℕ) (table shown path before after : List ℕ) (r : ℤ) : Type 0 where
   pub answer : r ≡ cond (asksNodes policy u table shown (length before)) (either (pathOf path) (pos (length shown)) notWellFormed) refused
-  pub marks : after ≡ cond (asksNodes policy u table shown (length before)) (marksAfter (pathOf path) (selection path (passesOwn (policyOf policy) u) (viewOf table shown)) before) before
+  pub marks : after ≡ cond (asksNodes policy u table shown (length before)) (either (pathOf path) (selection path (passesOwn (policyOf policy) u) (viewOf table shown) ++ drop (length shown) before) before) before

@@ -7,7 +7,6 @@ use rights::path::check_path;
 use rights::policy::is_policy_word;
 use rights::policy_check::policy_ok;
 use rights::rights::rights_on;
-use rights::selection::Selection;
 use rights::selection::select;
 use rights::table::count_of;
 use rights::table::table_ok;
@@ -149,9 +148,10 @@ pub extern "C" fn trial_select(
     ensures { λ r. ⌜ SelectionTried (now (policy .entry)) u (now (table .entry)) (now (shown .entry)) (now (path .entry)) (now (marks .entry)) (now (marks .exit)) r ⌝ }
 {
     if may_select(policy, u, table, shown, marks.len()) {
-        let Selection::Selected = select(policy, u, table, shown, path, marks) else {
+        let Read::At(_) = check_path(path) else {
             return -2;
         };
+        select(policy, u, table, shown, path, marks);
         return shown.len() as i64;
     }
     -1

@@ -1,23 +1,26 @@
-use mathlib.Core.Path.{_≡_, refl, sym, _∙_}
+use mathlib.Core.Path.{sym, _∙_}
+use Rattle.rights.specs.PathReader.{pathOf}
+use Rattle.rights.proofs.PathLaws.{is-path}
 use Rattle.trials.proofs.TrialLaws.{nodes-gives, nodes-fit, asks-subject, nodes-done, nodes-bad, nodes-refused}
-use native.Mathlib.Omega.{arith}
 use borrow.Author.Needs.{needs}
 use Rattle.trials.proofs.trial_select.Statement.{statement}
 use Rattle.trials.proofs.trial_select.Tie as tie
 
-select-requires : tie.Need-select-requires
-select-requires c κs =
-    let e = sym (c .before .before .may-select .ensures) ∙ c .before .if1 .taken in
-    let g = nodes-gives _ _ _ _ _ e in
-    (asks-subject _ _ _ (g .0), nodes-fit _ _ _ _ _ e, g .2)
-
 returns : tie.Need-returns
 returns c =
-    nodes-bad _ _ _ _ _ _ (sym (c .before .before .before .before .before .before .before .may-select .ensures) ∙ c .before .before .before .before .before .before .if1 .taken) _ _ (c .before .before .before .before .select .ensures) (c .enum-told2 .given .1)
+    let asked = c .before .before .before .before in
+    nodes-bad _ _ _ _ _ _ (sym (asked .may-select .ensures) ∙ c .before .before .before .if1 .taken) (sym (c .before .before .check-path .ensures) ∙ c .enum-told2 .given .1)
+
+select-requires : tie.Need-select-requires
+select-requires c κs =
+    let e = sym (c .before .before .before .before .before .may-select .ensures) ∙ c .before .before .before .before .if1 .taken in
+    let g = nodes-gives _ _ _ _ _ e in
+    (asks-subject _ _ _ (g .0), nodes-fit _ _ _ _ _ e, is-path (pathOf (c .before .before .before .before .before .before .before .before .before .before .before .args .path .now)) _ (sym (c .before .before .before .check-path .ensures) ∙ c .before .enum-told .given .1), g .2)
 
 returns-2 : tie.Need-returns-2
 returns-2 c =
-    nodes-done _ _ _ _ _ _ (sym (c .before .before .before .before .before .before .before .may-select .ensures) ∙ c .before .before .before .before .before .before .if1 .taken) _ _ (c .before .before .before .before .select .ensures) (c .enum-told .given .1)
+    let read = c .before .before .before .before .before .before in
+    nodes-done _ _ _ _ _ _ (sym (read .before .before .may-select .ensures) ∙ read .before .if1 .taken) _ (sym (read .check-path .ensures) ∙ c .before .before .before .before .enum-told .given .1) _ (c .before .before .select .ensures)
 
 returns-3 : tie.Need-returns-3
 returns-3 c = nodes-refused _ _ _ _ _ _ (sym (c .before .may-select .ensures) ∙ c .if1 .left)
@@ -25,5 +28,5 @@ returns-3 c = nodes-refused _ _ _ _ _ _ (sym (c .before .may-select .ensures) �
 pub trial-select-spec : {M : Type 1} → statement M
 trial-select-spec =
     tie.close
-    (tie.spec (λ c κs. search needs) select-requires (λ c. search needs) (λ c. search needs) (λ c. search needs) returns
-    (λ c. search needs) (λ c. search needs) returns-2 returns-3)
+    (tie.spec (λ c κs. search needs) (λ c κs. search needs) (λ c. search needs) (λ c. search needs) returns
+    select-requires (λ c. search needs) (λ c. search needs) returns-2 returns-3)

@@ -2,9 +2,10 @@ use mathlib.Core.Path.{_≡_, sym, ap, _∙_}
 use native.Mathlib.Omega.{arith}
 use borrow.Author.Needs.{needs}
 use lib.ListN.{length, drop}
+use Rattle.rights.specs.PathReader.{pathOf}
 use Rattle.lines.specs.Step.{Chosen}
 use Rattle.lines.proofs.StateLaws.{store-held}
-use Rattle.lines.proofs.StepLaws.{user-some, shown-long, shown-fits, shown-view, subject-asks, picked-are}
+use Rattle.lines.proofs.StepLaws.{user-some, shown-long, shown-fits, shown-view, subject-asks, picked-are, path-read}
 use Rattle.lines.proofs.queries.select_user.Statement.{statement}
 use Rattle.lines.proofs.queries.select_user.Tie as tie
 
@@ -30,13 +31,13 @@ select-requires c κs = let g = c .before .before .before .before .before .befor
     let a = c .before .before .before .before .before .before .before .before .before .before .before .before .before .before .before .before .before .before .before .args in
     let r = c .before .before .before .before .before .before .before .before .before .before .show-user .ensures in
     let f = shown-fits (a .state .now) (a .table .now) (g .0) _ _ _ (r .0) (r .1) in
-    (subject-asks (a .state .now) (a .table .now) (g .0) (g .1) _ (c .before .before .before .before .wide .ensures), f, omega (arith, f .few, g .6))
+    (subject-asks (a .state .now) (a .table .now) (g .0) (g .1) _ (c .before .before .before .before .wide .ensures), f, path-read (pathOf (a .path .now)) (g .2), omega (arith, f .few, g .6))
 
 returns : tie.Need-returns
 returns c = let g = c .before .before .before .before .before .before .before .before .before .before .before .before .before .before .before .before .before .before .before .before .before .before .pre in
     let a = c .before .before .before .before .before .before .before .before .before .before .before .before .before .before .before .before .before .before .before .before .before .before .args in
     let r = c .before .before .before .before .before .before .before .before .before .before .before .before .before .show-user .ensures in
-    (record { size = r .0; numbers = r .1; picked = picked-are (a .state .now) (a .table .now) (a .path .now) (g .0) _ (c .before .before .before .before .before .before .before .wide .ensures) _ (shown-view (a .state .now) (a .table .now) (g .0) _ _ _ (r .0) (r .1)) (g .2) (a .marks .now) _ _ (r .0) (c .before .before .select .ensures .marks) }, r .2)
+    (record { size = r .0; numbers = r .1; picked = picked-are (a .state .now) (a .table .now) (a .path .now) (g .0) _ (c .before .before .before .before .before .before .before .wide .ensures) _ (shown-view (a .state .now) (a .table .now) (g .0) _ _ _ (r .0) (r .1)) (a .marks .now) _ _ (r .0) (c .before .before .select .ensures) }, r .2)
 
 pub select-user-spec : {M : Type 1} → statement M
 select-user-spec =
