@@ -4,17 +4,12 @@ use mathlib.Core.Bool.{true}
 use mathlib.Core.Path.{_≡_, refl, sym, ap, _∙_}
 use mathlib.Core.List.{List, [], _∷_, _++_, append-assoc, append-nil}
 use native.Mathlib.Omega.{arith}
-use native.Mathlib.Numerals.{add-one}
 use lib.Dec.{leb}
-use lib.ListN.{length, getD, set, take, drop, length-append, length-take, take-append-drop}
-use lib.Seq.{paste, paste-suc, length-take-le, take-at, drop-at, drop-drop, take-length}
+use lib.ListN.{length, take, drop, length-append, length-take, take-append-drop}
+use lib.Seq.{paste, length-take-le, take-at, drop-at, drop-drop, take-length}
 use borrow.Author.Tests.{lt-ltb, le-ltb, le-leb, lt-leb, leb-true}
 use Rattle.rights.specs.PathText.{decimal}
 use Rattle.answers.specs.AnswerArea.{Puts, Answered, textMost}
-
--- one byte more copied
-pub copy-more : (d d₀ s : List ℕ) (at j : ℕ) → j < length s → at + length s ≤ length d₀ → d ≡ paste d₀ at s j → set d (at + j) (getD s j 0) ≡ paste d₀ at s (j + 1)
-copy-more d d₀ s at j l h e = rw (e, add-one j) (paste-suc d₀ at s j 0 (omega arith) l)
 
 -- nothing put
 pub puts-none : (at : ℕ) (a : List ℕ) → Puts [] at a a at

@@ -2,6 +2,7 @@
 // area of one byte, and what does not fit is not written; so the area of an answer that is too long keeps its bytes (refusal 12).
 // A view or a query that surely fits is put at once.
 // The time is in proportion to the nodes looked at and the bytes of the answer.
+use rights::bytes::copy;
 use rights::bytes::wide;
 use rights::limits::LABEL_AT;
 use rights::limits::RECORDS_MAX;
@@ -13,7 +14,6 @@ ghost use mathlib.Core.List.{List, _∷_, [], _++_};
 ghost use Prim.Native.Nat.{ℕ, _+_, _-_, _*_, _%_, _^_, _≤_, _<_, suc};
 ghost use lib.Dec.{leb};
 ghost use lib.ListN.{length, getD, drop, replicate};
-ghost use lib.Seq.{paste};
 ghost use Rattle.rights.specs.PathText.{decimal};
 ghost use Rattle.rights.specs.Nodes.{recordPlace, levelAt, labelAt, viewOf, Fits};
 ghost use Rattle.answers.specs.Answer.{okText, doneText, refusedText, endLine, hitLine, hitsOf, hitLines, queryText};
@@ -38,18 +38,6 @@ fn surely_fits(n: usize, room: usize) -> bool
     NODE_TEXT_MAX * n + END_TEXT_MAX <= room
 }
 
-// Copies s into the area at byte `at`.
-fn copy(area: &mut [u8], at: usize, s: &[u8])
-    requires { ⌜ at + length (now s) ≤ length (now area) ⌝ }
-    ensures { λ _. ⌜ now (area .exit) ≡ paste (now (area .entry)) at (now (s .entry)) (length (now (s .entry))) ⌝ }
-{
-    let mut i = 0;
-    while i < s.len() {
-        area[at + i] = s[i];
-        i += 1;
-    }
-}
-
 // Puts s into the area at byte `at` where it fits; the place after it, fit or not.
 fn put_bytes(area: &mut [u8], at: usize, s: &[u8]) -> usize
     requires { ⌜ at + length (now s) < 2 ^ 64 ⌝ }
@@ -59,7 +47,7 @@ fn put_bytes(area: &mut [u8], at: usize, s: &[u8]) -> usize
     if area.len() < r {
         return r;
     }
-    copy(area, at, s);
+    copy(area, at, s, 0, s.len());
     r
 }
 

@@ -11,13 +11,14 @@ use borrow.Author.Tests.{ne-eqb, eqb-true, leb-true}
 use Rattle.rights.specs.Bytes.{byteAt}
 use Rattle.rights.specs.Labels.{labelByte}
 use Rattle.rights.specs.PathReader.{runAt, Onward}
-use Rattle.rights.specs.Record.{recordOf, pasted}
+use Rattle.rights.specs.Record.{nodeRecord, pasted}
 use Rattle.rights.specs.declared.path.Read.{Read}
 use Rattle.rights.specs.declared.path.Read.the-variants.{At, Bad}
 use Rattle.rights.proofs.Lists.{byCase, rest-of}
 use Rattle.rights.proofs.PathLaws.{past}
 use Rattle.rights.proofs.PathTexts.{and-left, and-right}
-use Rattle.rights.proofs.RecordLaws.{length-record, pasted-pasted, pasted-none}
+use Rattle.rights.proofs.RecordLaws.{pasted-pasted, pasted-none}
+use Rattle.rights.proofs.RecordMade.{length-node}
 use Rattle.forms.specs.Part.{labelEnd}
 use Rattle.rights.specs.Nodes.{Node, node}
 use Rattle.forms.specs.Tree.{_andThen_, openEnd, tailEnd, tailNodes, treeEnd, treeNodes, recordsOf, held, TailEnd, TailPut}
@@ -131,7 +132,7 @@ module _ (s : List ℕ) (depth : ℕ) where
         closed (suc f) h = let z : suc f - 1 ≡ f = omega arith in rw (e, ne-eqb depth 1 o, q, z)
 
     pub put-open : (before mid after t : List ℕ) (r e : ℕ) → byteAt s 0 ≡ 32 → openEnd s 1 ≡ At e → 3 ≤ e → e ≤ 26 → e ≤ length s → 32 * n + 32 ≤ length before
-        → mid ≡ pasted before (32 * n) (recordOf (held depth) (take (e - 2) (drop 2 s))) → t ≡ drop e s → TailPut t (depth + 1) (n + 1) mid after r → TailPut s depth n before after r
+        → mid ≡ pasted before (32 * n) (nodeRecord (held depth) (take (e - 2) (drop 2 s))) → t ≡ drop e s → TailPut t (depth + 1) (n + 1) mid after r → TailPut s depth n before after r
     unfolding recordsOf tailNodes
     put-open before mid after t r e b o l m g w p q x = record {
       is = λ f h. let len = ap length q ∙ length-drop e s in rw (found f h) (x .is (f - 1) (omega arith) ∙ omega arith);
@@ -139,10 +140,10 @@ module _ (s : List ℕ) (depth : ℕ) where
     }
       where
         rec : List ℕ
-        rec = recordOf (held depth) (take (e - 2) (drop 2 s))
+        rec = nodeRecord (held depth) (take (e - 2) (drop 2 s))
 
         size : length rec ≡ 32
-        size = length-record (held depth) (take (e - 2) (drop 2 s)) (rw (length-take (e - 2) (drop 2 s)) (omega arith))
+        size = length-node (held depth) (take (e - 2) (drop 2 s)) (rw (length-take (e - 2) (drop 2 s)) (omega arith))
 
         v : 32 * (n + 1) ≡ 32 * n + length rec
         v = omega (arith, size)
@@ -169,7 +170,7 @@ module _ (s : List ℕ) (at : ℕ) where
   put-tree-none d h = (rw h, rw h (pasted-none d 0))
 
   pub put-tree-some : (before mid after t : List ℕ) (r e : ℕ) → openEnd s at ≡ At e → at + 2 ≤ e → e ≤ at + 25 → e ≤ length s → 32 ≤ length before
-      → mid ≡ pasted before 0 (recordOf 0 (take (e - (at + 1)) (drop (at + 1) s))) → t ≡ drop e s → TailPut t 1 1 mid after r
+      → mid ≡ pasted before 0 (nodeRecord 0 (take (e - (at + 1)) (drop (at + 1) s))) → t ≡ drop e s → TailPut t 1 1 mid after r
       → (r ≡ length (treeNodes s at)) × (after ≡ pasted before 0 (recordsOf (treeNodes s at)))
   unfolding treeNodes recordsOf
   put-tree-some before mid after t r e o l m g w p q x =
@@ -179,10 +180,10 @@ module _ (s : List ℕ) (at : ℕ) where
       (rw (o, ← q) (i ∙ omega arith), rw (o, ← q) (u ∙ rw (v, p) (pasted-pasted before rec 0 (omega (arith, size)) (recordsOf (tailNodes (length s) 1 t)))))
     where
       rec : List ℕ
-      rec = recordOf 0 (take (e - (at + 1)) (drop (at + 1) s))
+      rec = nodeRecord 0 (take (e - (at + 1)) (drop (at + 1) s))
 
       size : length rec ≡ 32
-      size = length-record 0 (take (e - (at + 1)) (drop (at + 1) s)) (rw (length-take (e - (at + 1)) (drop (at + 1) s)) (omega arith))
+      size = length-node 0 (take (e - (at + 1)) (drop (at + 1) s)) (rw (length-take (e - (at + 1)) (drop (at + 1) s)) (omega arith))
 
       v : 32 * 1 ≡ 0 + length rec
       v = omega (arith, size)

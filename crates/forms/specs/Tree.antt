@@ -7,7 +7,7 @@ use lib.ListN.{length, take, drop}
 use lib.Dec.{eqb}
 use Rattle.rights.specs.Bytes.{byteAt}
 use Rattle.rights.specs.Nodes.{Node, node}
-use Rattle.rights.specs.Record.{recordOf, pasted}
+use Rattle.rights.specs.Record.{nodeRecord, pasted}
 use Rattle.rights.specs.declared.path.Read.{Read}
 use Rattle.rights.specs.declared.path.Read.the-variants.{At, Bad}
 use Rattle.forms.specs.Part.{labelEnd}
@@ -54,7 +54,7 @@ held level = min level 255
 
 unfoldable pub recordsOf : List Node → List ℕ
 recordsOf [] = []
-recordsOf (node l s ∷ ns) = recordOf (held l) s ++ recordsOf ns
+recordsOf (node l s ∷ ns) = nodeRecord (held l) s ++ recordsOf ns
 
 -- What the readers of a tail promise: what the definition gives at any number of parts that is enough
 

@@ -3,7 +3,7 @@ use crate::limits::BYTE;
 use crate::part::label_part_end;
 use rights::limits::RECORD_BYTES;
 use rights::path::Read;
-use rights::record::put_record;
+use rights::record::put_node;
 ghost use mathlib.Core.Path.{_≡_};
 ghost use Prim.Native.Nat.{_+_, _-_, _*_, _^_, _≤_, _<_};
 ghost use lib.ListN.{length};
@@ -86,7 +86,7 @@ fn put_tail(s: &[u8], depth: usize, tree: &mut [u8], n: usize) -> usize
     let Read::At(e) = open_end(s, 1) else {
         return n;
     };
-    put_record(tree, RECORD_BYTES * n, level_byte(depth), s, 2, e - 2);
+    put_node(tree, RECORD_BYTES * n, level_byte(depth), s, 2, e - 2);
     put_tail(&s[e..], depth + 1, tree, n + 1)
 }
 
@@ -99,6 +99,6 @@ pub fn put_tree(s: &[u8], at: usize, tree: &mut [u8]) -> usize
         return 0;
     };
     let a = at + 1;
-    put_record(tree, 0, 0, s, a, e - a);
+    put_node(tree, 0, 0, s, a, e - a);
     put_tail(&s[e..], 1, tree, 1)
 }

@@ -13,7 +13,7 @@ use Rattle.rights.specs.Labels.{sameLabel, restricted}
 use Rattle.rights.specs.PathReader.{pathOf}
 use Rattle.rights.specs.Policy.{policyWord}
 use Rattle.rights.specs.PolicyBytes.{subjectCount, isaCount, ruleCount}
-use Rattle.rights.specs.Record.{recordOf}
+use Rattle.rights.specs.Record.{nodeRecord}
 use Rattle.rights.specs.Table.{records}
 use Rattle.rights.proofs.Lists.{byCase}
 use Rattle.views.specs.Marks.{marksOf}
@@ -75,7 +75,7 @@ pub record RootTaken (s t l text s' t' : List ℕ) : Type 0 where
   pub has-room : ltb (free t) 1 ≡ false
   pub answer : text ≡ okText
   pub state : s' ≡ withStage stageC s
-  pub table : t' ≡ changed t (recordOf 0 l ∷ [])
+  pub table : t' ≡ changed t (nodeRecord 0 l ∷ [])
 
 -- a tree of m records at the places that are marked
 pub record Inserted (at : Place) (marks : List ℕ) (m : ℕ) (tree t t' : List ℕ) : Type 0 where
@@ -243,7 +243,7 @@ module _ (choice : Choice) (s t line : List ℕ) (room : ℕ) (tree : List ℕ) 
   root-by L l k =
       test s t room L (sameLabel l restricted) 9 _ λ a.
       test s t room L (ltb (free t) 1) 11 _ λ b.
-      ends s t room L okText (withStage stageC s) (changed t (recordOf 0 l ∷ []))
+      ends s t room L okText (withStage stageC s) (changed t (nodeRecord 0 l ∷ []))
       (k okText _ _ (record { unbanned = a; has-room = b; answer = refl; state = refl; table = refl }))
 
   child-by : (L : List ℕ → List ℕ → List ℕ → Type 0) (m : ℕ) → ((text s' t' : List ℕ) → ChildTaken s t m tree text s' t' → L text s' t')

@@ -12,7 +12,7 @@ use Rattle.rights.specs.Policy.{Policy, policyWord, read, update}
 use Rattle.rights.specs.Rights.{holds, rightsBy, chains}
 use Rattle.rights.specs.Table.{recordsFrom, records, level, label, count, recordOk, recordsOk, tableOk}
 use Rattle.rights.proofs.Facts.{table-records, both}
-use Rattle.rights.proofs.RecordMade.{level-made, label-made}
+use Rattle.views.proofs.Relabelled.{level-relabel, label-relabel}
 use Rattle.views.specs.Change.{later, chunks, raise, relabel}
 use Rattle.views.specs.Done.{Asked, renamable, does, askedOf, doneMarks}
 use Rattle.views.specs.Marks.{marksOf, eachFrom}
@@ -123,7 +123,7 @@ module _ (P : Policy) (u : ℕ) (declared : u < length (P .names)) where
       ∙ sym (kept-cells ns)
 
   keeps : (l : List ℕ) → policyWord P l ≡ false → (n : Tagged) → NoWord P (n .0) → Keeps taggedLevel keyed (λ x. (relabel l (x .0), x .1)) n
-  keeps l e n h = (level-made (level (n .0)) l, rw (label-made (level (n .0)) l, e, h))
+  keeps l e n h = (level-relabel l (n .0), rw (label-relabel l (n .0), e, h))
 
   keeps-done : (l : List ℕ) → policyWord P l ≡ false → (bs : List Bool) (ns : List Tagged) → AtDone (λ n. NoWord P (n .0)) bs ns
       → AtDone (Keeps taggedLevel keyed (λ x. (relabel l (x .0), x .1))) bs ns

@@ -15,7 +15,7 @@ use Rattle.rights.specs.Selection.{selection}
 use Rattle.rights.specs.Table.{records, level, label, count, recordsOk, recordOk, tableOk}
 use Rattle.rights.proofs.Facts.{both, table-records}
 use Rattle.rights.proofs.Lists.{byCase}
-use Rattle.rights.proofs.RecordMade.{level-made, label-made}
+use Rattle.views.proofs.Relabelled.{level-relabel, label-relabel}
 use Rattle.views.specs.Change.{isDone, later, remove, insertBehind, insertInFront, rename, chunks, raise, relabel}
 use Rattle.views.specs.Change.{placed, removed, renamed, changed, lower, deepest, tooDeep, hasRoom}
 use Rattle.views.specs.Done.{Asked, does, renamable, askedOf, doneMarks, inTable}
@@ -267,8 +267,8 @@ module _ (P : Policy) (u : ℕ) where
     renames : (l : List ℕ) → policyWord P l ≡ false → (r : List ℕ) → policyWord P (label r) ≡ false
         → Renames level (keyIn P u) (labelBy P u) (grantBy P u) (relabel l) (λ k ks w. cond (holds read (rightsByKeys P u ks)) l restricted) r
     renames l q r e = (
-      (level-made (level r) l, (let z = label-made (level r) l in rw (z, q, e))),
-      (λ c. let z = label-made (level r) l in rw z),
+      (level-relabel l r, (let z = label-relabel l r in rw (z, q, e))),
+      (λ c. let z = label-relabel l r in rw z),
     )
 
     pub renamed-low : (c : Change) (path l : List ℕ) → Frees c → LabelOk l → policyWord P l ≡ false

@@ -14,10 +14,10 @@ use Rattle.rights.specs.PathReader.{Got, got, bad, pathOf}
 use Rattle.rights.specs.Policy.{Right, bitOf}
 use Rattle.rights.specs.PolicyBytes.{subjectCount, isaCount, ruleCount, subjectAt, isaAt}
 use Rattle.rights.specs.PolicyCheck.{bitOk, policyOk}
-use Rattle.rights.specs.Record.{recordOf}
+use Rattle.rights.specs.Record.{nameRecord}
 use Rattle.rights.specs.Table.{count, tableOk}
 use Rattle.rights.proofs.Facts.{both}
-use Rattle.rights.proofs.RecordLaws.{length-record}
+use Rattle.rights.proofs.RecordMade.{length-name}
 use Rattle.rights.proofs.XPathLists.{or-right}
 use Rattle.views.proofs.TableKept.{length-records}
 use Rattle.answers.specs.AnswerChoice.{Choice}
@@ -163,7 +163,7 @@ module _ (s t : List ℕ) (h : Held s t) where
       let few : subjectCount p < 64 = leb-false 64 (subjectCount p) (x .few) in
       let long = parts p (h .policy) .long in
       let r : ruleCount (withSubject p name) ≡ ruleCount p =
-      line-byte p (recordOf 0 name) 0 (subjectAt (subjectCount p)) (omega arith) (omega (arith, few, length-record 0 name (g .1), long)) 2 (λ e. omega arith) (omega arith) in
+      line-byte p (nameRecord 0 name) 0 (subjectAt (subjectCount p)) (omega arith) (omega (arith, few, length-name 0 name (g .1), long)) 2 (λ e. omega arith) (omega arith) in
       rw (x .state)
       (first-held (withSubject p name) (subject-keeps p name (h .policy) few (g .1) (g .0) (g .2) (x .free) (unknown-new (policyIn s) name (x .new))) r l)
 

@@ -8,11 +8,10 @@ use borrow.Author.Tests.{eq-eqb, ltb-false}
 use lib.ListN.{length}
 use Rattle.rights.specs.Labels.{sameLabel, restricted}
 use Rattle.rights.specs.Policy.{policyWord}
-use Rattle.rights.specs.Record.{recordOf}
+use Rattle.rights.specs.Record.{nodeRecord}
 use Rattle.rights.specs.Table.{count, records, recordsFrom, recordAt, recordOk, recordsOk, level, tableOk}
 use Rattle.rights.proofs.Facts.{both}
-use Rattle.rights.proofs.RecordLaws.{length-record}
-use Rattle.rights.proofs.RecordMade.{made-ok}
+use Rattle.rights.proofs.RecordMade.{length-node, node-ok}
 use Rattle.views.specs.Marks.{marksOf, eachFrom}
 use Rattle.views.specs.Change.{isDone, remove, placed, removed, relabel, renamed, changed, lower, free}
 use Rattle.views.specs.Done.{Asked, isRoot, does, askedOf}
@@ -46,7 +45,7 @@ abbrev pub recordsAfter : Form → List ℕ → List ℕ → List ℕ → List (
 recordsAfter (Subject n) s t line = records t
 recordsAfter (Isa n r) s t line = records t
 recordsAfter (Rule a b p n) s t line = records t
-recordsAfter (Root l) s t line = recordOf 0 (bytesOf line l) ∷ []
+recordsAfter (Root l) s t line = nodeRecord 0 (bytesOf line l) ∷ []
 recordsAfter (Child m) s t line = placed place.Append m (recordsOf (treeIn line)) rootAlone (records t)
 recordsAfter (User n) s t line = records t
 recordsAfter View s t line = records t
@@ -113,14 +112,14 @@ remove-some ms (r ∷ rs) e h = rw e (omega arith)
 
 -- each change
 module _ (s t t' line : List ℕ) (ok : tableOk t ≡ true) where
-  root-table : (text s' l : List ℕ) → GoodLabel l → RootTaken s t l text s' t' → TableHolds t t' (recordOf 0 l ∷ [])
+  root-table : (text s' l : List ℕ) → GoodLabel l → RootTaken s t l text s' t' → TableHolds t t' (nodeRecord 0 l ∷ [])
   unfolding recordsOk
   root-table text s' l g x =
       let f = facts t ok in
-      let rs : List (List ℕ) = recordOf 0 l ∷ [] in
+      let rs : List (List ℕ) = nodeRecord 0 l ∷ [] in
       let k = ltb-false (free t) 1 (x .has-room) in
-      let full : All Full rs = (length-record 0 l (g .1), tt) in
-      let r = made-ok 0 0 0 l (omega arith) (omega arith) (omega arith) (g .0) (g .1) (g .2) (x .unbanned) in
+      let full : All Full rs = (length-node 0 l (g .1), tt) in
+      let r = node-ok 0 l (g .0) (g .1) (g .2) (x .unbanned) 0 0 (omega arith) (omega arith) (omega arith) in
       changed-table t t' rs
       (record {
         ok = changed-ok t rs (f .head) (omega (arith, k)) full (rw r);

@@ -8,10 +8,9 @@ use lib.ListN.{length, drop}
 use lib.Seq.{take-at, drop-at}
 use Rattle.rights.specs.Labels.{sameLabel, restricted}
 use Rattle.rights.specs.Policy.{some}
-use Rattle.rights.specs.Record.{recordOf}
+use Rattle.rights.specs.Record.{noSpare, recordOf, nodeRecord}
 use Rattle.rights.specs.Table.{level, label, recordOk}
-use Rattle.rights.proofs.RecordLaws.{length-record}
-use Rattle.rights.proofs.RecordMade.{made-ok, level-made, label-made}
+use Rattle.rights.proofs.RecordMade.{length-node, node-ok, level-made, label-made}
 use Rattle.views.specs.Change.{chunks}
 use Rattle.views.specs.Nodes.{All, Nested, TreeOk}
 use Rattle.lines.specs.StepTree.{treeRestricted}
@@ -54,41 +53,41 @@ mutual
       (tree-labels t k (nodesIn k ts ++ rest) (g .0) (trees-labels ts k rest (g .1) a))
 
 -- the record of a node
-level-cleared : (l : ℕ) (x : List ℕ) → 0 ∷ drop 1 (recordOf l x) ≡ recordOf 0 x
+level-cleared : (l : ℕ) (x : List ℕ) → 0 ∷ drop 1 (nodeRecord l x) ≡ nodeRecord 0 x
 unfolding recordOf
 level-cleared l x = refl
 
 abbrev Storable : List ℕ → Type 0
 Storable r = (length r ≡ 32) × (recordOk 0 11 (0 ∷ drop 1 r) ≡ true)
 
-record-storable : (l : ℕ) (x : List ℕ) → GoodLabel x → sameLabel x restricted ≡ false → Storable (recordOf l x)
-record-storable l x g f = (length-record l x (g .1), rw (level-cleared l x) (made-ok 0 11 0 x (omega arith) (omega arith) (omega arith) (g .0) (g .1) (g .2) f))
+record-storable : (l : ℕ) (x : List ℕ) → GoodLabel x → sameLabel x restricted ≡ false → Storable (nodeRecord l x)
+record-storable l x g f = (length-node l x (g .1), rw (level-cleared l x) (node-ok 0 x (g .0) (g .1) (g .2) f 0 11 (omega arith) (omega arith) (omega arith)))
 
 -- the records of nodes
 abbrev pub nodeRecords : List Node → List (List ℕ)
 nodeRecords [] = []
-nodeRecords (node l x ∷ ns) = recordOf (held l) x ∷ nodeRecords ns
+nodeRecords (node l x ∷ ns) = nodeRecord (held l) x ∷ nodeRecords ns
 
 chunks-nodes : (ns : List Node) → All Labelled ns → chunks (length ns) (recordsOf ns) ≡ nodeRecords ns
 unfolding chunks recordsOf
 chunks-nodes [] a = refl
 chunks-nodes (node l x ∷ ns) a =
-    let n = length-record (held l) x (a .0 .1) in
-    rw (take-at (recordOf (held l) x) (recordsOf ns) 32 n, drop-at (recordOf (held l) x) (recordsOf ns) 32 n)
-    (ap (λ (rs : List (List ℕ)). recordOf (held l) x ∷ rs) (chunks-nodes ns (a .1)))
+    let n = length-node (held l) x (a .0 .1) in
+    rw (take-at (nodeRecord (held l) x) (recordsOf ns) 32 n, drop-at (nodeRecord (held l) x) (recordsOf ns) 32 n)
+    (ap (λ (rs : List (List ℕ)). nodeRecord (held l) x ∷ rs) (chunks-nodes ns (a .1)))
 
 nodes-nested : (ns : List Node) (n m : ℕ) → held n ≤ m → Nested nodeLevel n ns → Nested level m (nodeRecords ns)
 nodes-nested [] n m h w = tt
 nodes-nested (node l x ∷ ns) n m h w =
     let i : l ≤ n = w .0 in
-    rw (level-made (held l) x) (omega (arith, i, h), nodes-nested ns (suc l) (suc (held l)) (omega arith) (w .1))
+    rw (level-made (held l) x noSpare) (omega (arith, i, h), nodes-nested ns (suc l) (suc (held l)) (omega arith) (w .1))
 
 nodes-storable : (ns : List Node) → All Labelled ns → some (λ r. sameLabel (label r) restricted) (nodeRecords ns) ≡ false → All Storable (nodeRecords ns)
 unfolding some
 nodes-storable [] a e = tt
 nodes-storable (node l x ∷ ns) a e =
-    let p = or-none (sameLabel (label (recordOf (held l) x)) restricted) (some (λ r. sameLabel (label r) restricted) (nodeRecords ns)) e in
-    let f : sameLabel x restricted ≡ false = sym (ap (λ (y : List ℕ). sameLabel y restricted) (label-made (held l) x)) ∙ p .0 in
+    let p = or-none (sameLabel (label (nodeRecord (held l) x)) restricted) (some (λ r. sameLabel (label r) restricted) (nodeRecords ns)) e in
+    let f : sameLabel x restricted ≡ false = sym (ap (λ (y : List ℕ). sameLabel y restricted) (label-made (held l) x noSpare)) ∙ p .0 in
     (record-storable (held l) x (a .0) f, nodes-storable ns (a .1) (p .1))
 
 -- the records that a line's tree has

@@ -14,7 +14,7 @@ use Rattle.rights.specs.Path.{Test}
 use Rattle.rights.specs.declared.path.Axis.{Axis}
 use Rattle.rights.specs.PolicyBytes.{subjectCount, isaCount, ruleCount}
 use Rattle.lines.specs.PolicyEdit.{withLine, withSubject, withIsa, withRule, ruleHead, stepRecords}
-use Rattle.rights.specs.Record.{recordOf, pasted}
+use Rattle.rights.specs.Record.{nameRecord, pasted}
 use Rattle.rights.proofs.Facts.{both}
 use Rattle.rights.proofs.RecordLaws.{length-pasted}
 use Rattle.rights.proofs.Texts.{drop-take}
@@ -155,7 +155,7 @@ pasted-before d x y a h =
     ∙ rw (take-append-le a (take (a + length x) d) (y ++ drop (a + length x + length y) d) (omega arith), take-take a (a + length x) d (omega arith), drop-at (take (a + length x) d) (y ++ drop (a + length x + length y) d) (a + length x) l, length-append x y, ← (add-assoc a (length x) (length y))) (simp append-assoc)
 
 -- what the writers leave is the definition's
-pub subject-written : (p q x : List ℕ) (w : ℕ) → w ≡ subjectCount p → q ≡ pasted p (8 + w * 32) (recordOf 0 x) → set q 0 (getD p 0 0 + 1) ≡ withSubject p x
+pub subject-written : (p q x : List ℕ) (w : ℕ) → w ≡ subjectCount p → q ≡ pasted p (8 + w * 32) (nameRecord 0 x) → set q 0 (getD p 0 0 + 1) ≡ withSubject p x
 unfolding withLine
 subject-written p q x w e h = rw (h, e)
 

@@ -13,9 +13,9 @@ use Rattle.rights.specs.Labels.{sameLabel}
 use Rattle.rights.specs.Path.{Test}
 use Rattle.rights.specs.declared.path.Axis.{Axis}
 use Rattle.rights.specs.Policy.{Rule}
-use Rattle.rights.specs.Table.{recAt, recordOk, label}
+use Rattle.rights.specs.Table.{recAt, label}
 use Rattle.rights.specs.PolicyBytes.{subjectCount, isaCount, ruleCount, subjectAt, isaAt, ruleAt, stepsAt, nameAt, isaN, isaR, rightBit, whose, stepCount, stepOf, namesFrom, isaFrom, stepsFrom, ruleOf, rulesFrom, policyOf}
-use Rattle.rights.specs.PolicyCheck.{signOk, stepOk, bitOk, ruleOk, subjectOk, sameIsa, isaOk, subjectsOk, isasOk, rulesOk, policyOk}
+use Rattle.rights.specs.PolicyCheck.{textOk, signOk, stepOk, bitOk, ruleOk, subjectOk, sameIsa, isaOk, subjectsOk, isasOk, rulesOk, policyOk}
 use Rattle.rights.proofs.Every.{every-more, every-at}
 use Rattle.rights.proofs.Facts.{both}
 use Rattle.rights.proofs.Words.{subject-is}
@@ -103,9 +103,9 @@ module _ (p q : List ℕ) where
   pub subject-kept : (n k : ℕ) → Alike p q 8 (n * 32) → k < n → subjectOk p k ≡ true → subjectOk q k ≡ true
   unfolding subjectOk
   subject-kept n k e h o =
-      let w = both (recordOk 0 0 (recAt p (subjectAt k))) (every (λ j. not (sameLabel (nameAt p j) (nameAt p k))) k) o in
+      let w = both (textOk 0 (recAt p (subjectAt k))) (every (λ j. not (sameLabel (nameAt p j) (nameAt p k))) k) o in
       subject-is q k
-      (ap (recordOk 0 0) (subject-at n k e h) ∙ w .0)
+      (ap (textOk 0) (subject-at n k e h) ∙ w .0)
       (every-kept (λ j. not (sameLabel (nameAt p j) (nameAt p k))) (λ j. not (sameLabel (nameAt q j) (nameAt q k))) k
       (λ j l y. ap₂ (λ (a b : List ℕ). not (sameLabel a b)) (name-kept n j e (omega arith)) (name-kept n k e h) ∙ y)
       (w .1))

@@ -15,16 +15,15 @@ use Rattle.rights.specs.Labels.{labelByte, sameLabel, restricted}
 use Rattle.rights.specs.Path.{Test}
 use Rattle.rights.specs.declared.path.Axis.{Axis}
 use Rattle.rights.specs.Policy.{Right, position, read, insert, update, delete, bitOf, Rule, some, uses}
-use Rattle.rights.specs.Table.{recAt, recordOk, label}
+use Rattle.rights.specs.Table.{recAt, label}
 use Rattle.rights.specs.PolicyBytes.{subjectCount, isaCount, ruleCount, subjectAt, isaAt, ruleAt, stepsAt, nameAt, isaN, isaR, whose, namesFrom, isaFrom, rulesFrom, stepsFrom, ruleOf, policyOf}
-use Rattle.rights.specs.PolicyCheck.{bitOk, ruleOk, sameIsa, policyOk}
+use Rattle.rights.specs.PolicyCheck.{textOk, bitOk, ruleOk, sameIsa, policyOk}
 use Rattle.lines.specs.PolicyEdit.{isLine, isaHeld, Plain, stepsIn, pathRestricted, stepRecords, ruleHead, withSubject, withIsa, withRule}
-use Rattle.rights.specs.Record.{recordOf}
+use Rattle.rights.specs.Record.{noSpare, nameRecord}
 use Rattle.lines.proofs.EditBytes.{Alike, part-in, part-split, zeros-part, zeros-alike, line-length, line-count, line-byte, line-put, line-put-byte, line-after, line-before}
 use Rattle.lines.proofs.EditKept.{parts, subjects-have, isas-have, rules-have, isa-is, rule-is, policy-is, name-kept, n-kept, r-kept, subjects-kept, isas-kept, rules-kept, subjects-more, isas-more, rules-more, names-same, isas-same, rules-same, names-snoc, isas-snoc, rules-snoc, policy-holds}
 use Rattle.rights.proofs.LabelLaws.{same-sym}
-use Rattle.rights.proofs.RecordLaws.{length-record}
-use Rattle.rights.proofs.RecordMade.{label-made, made-ok}
+use Rattle.rights.proofs.RecordMade.{length-name, label-made, name-ok}
 use Rattle.lines.proofs.StoredPaths.{GoodStored, written, records-length}
 use Rattle.lines.proofs.StoredSteps.{or-none, every-all, stored-steps, steps-pass}
 use Rattle.rights.proofs.Words.{subject-is}
@@ -40,37 +39,37 @@ names-none p f (suc n) i e (suc j) h =
     rw z (names-none p f n (suc i) (or-none (f (nameAt p i)) (some f (namesFrom p n (suc i))) e .1) j (le-of-suc-le-suc h))
 
 module _ (p x : List ℕ) (ok : policyOk p ≡ true) (few : subjectCount p < 64) (short : length x ≤ 24) where
-  s-long : length (recordOf 0 x) ≡ 32
-  s-long = length-record 0 x short
+  s-long : length (nameRecord 0 x) ≡ 32
+  s-long = length-name 0 x short
 
   s-low : 0 < subjectAt (subjectCount p)
   s-low = omega arith
 
-  s-room : subjectAt (subjectCount p) + length (recordOf 0 x) ≤ length p
+  s-room : subjectAt (subjectCount p) + length (nameRecord 0 x) ≤ length p
   s-room = omega (arith, s-long, parts p ok .long)
 
   s-before : (a n : ℕ) → 0 < a → a + n ≤ subjectAt (subjectCount p) → Alike p (withSubject p x) a n
-  s-before = line-before p (recordOf 0 x) 0 (subjectAt (subjectCount p)) s-low s-room
+  s-before = line-before p (nameRecord 0 x) 0 (subjectAt (subjectCount p)) s-low s-room
 
   s-after : (a n : ℕ) → subjectAt (subjectCount p) + 32 ≤ a → Alike p (withSubject p x) a n
-  s-after a n h = line-after p (recordOf 0 x) 0 (subjectAt (subjectCount p)) s-low s-room a n (omega (arith, s-long))
+  s-after a n h = line-after p (nameRecord 0 x) 0 (subjectAt (subjectCount p)) s-low s-room a n (omega (arith, s-long))
 
   s-count : subjectCount (withSubject p x) ≡ subjectCount p + 1
-  s-count = line-count p (recordOf 0 x) 0 (subjectAt (subjectCount p)) s-low s-room
+  s-count = line-count p (nameRecord 0 x) 0 (subjectAt (subjectCount p)) s-low s-room
 
   s-isas : isaCount (withSubject p x) ≡ isaCount p
-  s-isas = line-byte p (recordOf 0 x) 0 (subjectAt (subjectCount p)) s-low s-room 1 (λ e. omega arith) (omega arith)
+  s-isas = line-byte p (nameRecord 0 x) 0 (subjectAt (subjectCount p)) s-low s-room 1 (λ e. omega arith) (omega arith)
 
   s-rules : ruleCount (withSubject p x) ≡ ruleCount p
-  s-rules = line-byte p (recordOf 0 x) 0 (subjectAt (subjectCount p)) s-low s-room 2 (λ e. omega arith) (omega arith)
+  s-rules = line-byte p (nameRecord 0 x) 0 (subjectAt (subjectCount p)) s-low s-room 2 (λ e. omega arith) (omega arith)
 
-  s-record : recAt (withSubject p x) (subjectAt (subjectCount p)) ≡ recordOf 0 x
+  s-record : recAt (withSubject p x) (subjectAt (subjectCount p)) ≡ nameRecord 0 x
   s-record =
       ap (λ (n : ℕ). take n (drop (subjectAt (subjectCount p)) (withSubject p x))) (sym s-long)
-      ∙ line-put p (recordOf 0 x) 0 (subjectAt (subjectCount p)) s-low s-room
+      ∙ line-put p (nameRecord 0 x) 0 (subjectAt (subjectCount p)) s-low s-room
 
   s-name : nameAt (withSubject p x) (subjectCount p) ≡ x
-  s-name = ap label s-record ∙ label-made 0 x
+  s-name = ap label s-record ∙ label-made 0 x noSpare
 
   s-new : some (sameLabel x) (policyOf p .names) ≡ false → every (λ j. not (sameLabel (nameAt (withSubject p x) j) (nameAt (withSubject p x) (subjectCount p)))) (subjectCount p) ≡ true
   unfolding policyOf
@@ -87,10 +86,10 @@ module _ (p x : List ℕ) (ok : policyOk p ≡ true) (few : subjectCount p < 64)
   subject-keeps l g r n =
       let t = parts p ok in
       policy-is (withSubject p x)
-      (line-length p (recordOf 0 x) 0 (subjectAt (subjectCount p)) s-low s-room ∙ t .long)
+      (line-length p (nameRecord 0 x) 0 (subjectAt (subjectCount p)) s-low s-room ∙ t .long)
       (zeros-alike p (withSubject p x) 3 5 (s-before 3 5 (omega arith) (omega arith)) (t .spare))
       (subjects-more p (withSubject p x) few (s-before 8 (subjectCount p * 32) (omega arith) (omega arith)) (s-after (subjectAt (subjectCount p + 1)) ((64 - (subjectCount p + 1)) * 32) (omega arith)) s-count
-      (subject-is (withSubject p x) (subjectCount p) (ap (recordOk 0 0) s-record ∙ made-ok 0 0 0 x (omega arith) (omega arith) (omega arith) l short g r) (s-new n)) (t .subjects))
+      (subject-is (withSubject p x) (subjectCount p) (ap (textOk 0) s-record ∙ name-ok 0 x l short g r 0 (omega arith)) (s-new n)) (t .subjects))
       (isas-kept p (withSubject p x) (s-after 2056 256 (omega arith)) s-isas (omega (arith, s-count)) (t .isas))
       (rules-kept p (withSubject p x) (s-after 2312 66560 (omega arith)) s-rules (omega (arith, s-count)) (t .rules))
 

@@ -17,7 +17,7 @@ use Rattle.rights.specs.PathReader.{Got, got, bad, readTest, axisAt, afterSlash
 use Rattle.rights.specs.PathText.{writeTest, writeAxis, writeSteps, writeBrackets, write, stepsOf, GoodTest, GoodSteps}
 use Rattle.rights.specs.Policy.{some, uses}
 use Rattle.lines.specs.PolicyEdit.{isOpen, hasBracket, anyBracket, bracketed, Plain, stepList, stepsIn, writeStored, pathRestricted, axisByte, stepRecord, stepRecords, TestEnd}
-use Rattle.rights.specs.Record.{recordOf, pasted}
+use Rattle.rights.specs.Record.{nameRecord, pasted}
 use Rattle.rights.specs.declared.path.Read.{Read}
 use Rattle.rights.specs.declared.path.Read.the-variants.{At, Bad}
 use Rattle.rights.proofs.LabelLaws.{same-sym, same-differ}
@@ -25,7 +25,8 @@ use Rattle.rights.proofs.PathComplete.{label-axis, label-not, first-test, drop-
 use Rattle.rights.proofs.PathSound.{sound}
 use Rattle.rights.proofs.PathTexts.{and-left, and-right}
 use Rattle.rights.proofs.PolicyWords.{some-here, some-later, some-none}
-use Rattle.rights.proofs.RecordLaws.{length-record, pasted-pasted, pasted-none}
+use Rattle.rights.proofs.RecordLaws.{pasted-pasted, pasted-none}
+use Rattle.rights.proofs.RecordMade.{length-name}
 
 -- what is found in a text is found in one of its parts
 pub some-append : {A : Type 0} (f : A → Bool) (xs ys : List A) → some f (xs ++ ys) ≡ some f xs || some f ys
@@ -230,7 +231,7 @@ seek-end s i h l = h .same ∙ some-none (uses false restricted) (h .left) (left
 -- Storing steps
 
 pub step-length : (w : Axis × Test) → GoodTest (w .1) → length (stepRecord w) ≡ 32
-step-length w g = length-record (axisByte (w .0)) (writeTest (w .1)) (test-short (w .1) g)
+step-length w g = length-name (axisByte (w .0)) (writeTest (w .1)) (test-short (w .1) g)
 
 pub records-length : (ws : List (Axis × Test)) → GoodStored ws → length (stepRecords ws) ≡ length ws * 32
 unfolding stepRecords GoodStored
@@ -276,14 +277,14 @@ module _ (p₀ : List ℕ) (at : ℕ) (s p : List ℕ) (n i k e : ℕ) (h : Putt
       let q : length (h .put ++ (w ∷ vs)) ≡ length (stepsIn s) = ap (λ (x : List (Axis × Test)). length (h .put ++ x)) (sym z) ∙ ap length (h .whole) in
       (omega (arith, length-append (h .put) (w ∷ vs), written s f .few, h .many), omega (arith, test-short (w .1) (g .0), t .size))
 
-  pub put-more : (p′ : List ℕ) (axis : ℕ) → at + 512 ≤ length p₀ → axis ≡ axisByte (axisAt s i) → p′ ≡ pasted p (at + n * 32) (recordOf axis (take (e - k) (drop k s))) → Putting p₀ at s p′ (n + 1) e
+  pub put-more : (p′ : List ℕ) (axis : ℕ) → at + 512 ≤ length p₀ → axis ≡ axisByte (axisAt s i) → p′ ≡ pasted p (at + n * 32) (nameRecord axis (take (e - k) (drop k s))) → Putting p₀ at s p′ (n + 1) e
   unfolding GoodStored
   put-more p′ axis room q b =
       left-some s i (h .left) l (h .text) λ w vs z.
       let g : GoodStored (w ∷ vs) = rw z at (h .good) in
       let t = stepped s i k e w vs (g .0) (rw z at (h .text)) a r in
       let len : length (stepRecords (h .put)) ≡ n * 32 = rw (records-length (h .put) (h .stored), h .many) in
-      let rec : recordOf axis (take (e - k) (drop k s)) ≡ stepRecord w = rw (q, t .axis, t .text) in
+      let rec : nameRecord axis (take (e - k) (drop k s)) ≡ stepRecord w = rw (q, t .axis, t .text) in
       let fits : at + length (stepRecords (h .put)) ≤ length p₀ = omega (arith, put-asks .0) in
       record {
         put = h .put ++ (w ∷ []);

@@ -16,14 +16,14 @@ use Rattle.rights.specs.declared.path.Axis.the-variants.{Child, Descendant}
 use Rattle.rights.specs.PathText.{writeTest, GoodTest}
 use Rattle.rights.specs.Policy.{some, uses}
 use Rattle.rights.specs.PolicyBytes.{axisOf, testOf, stepOf, stepsFrom}
-use Rattle.rights.specs.PolicyCheck.{signOk, stepOk}
+use Rattle.rights.specs.PolicyCheck.{textOk, signOk, stepOk}
 use Rattle.lines.specs.PolicyEdit.{axisByte, stepRecord, stepRecords}
-use Rattle.rights.specs.Record.{recordOf}
-use Rattle.rights.specs.Table.{recAt, recordOk}
+use Rattle.rights.specs.Record.{noSpare, padded, recordOf, nameRecord}
+use Rattle.rights.specs.Table.{recAt}
 use Rattle.lines.proofs.EditBytes.{part-in, part-split}
 use Rattle.rights.proofs.PathComplete.{label-not}
 use Rattle.rights.proofs.PathTexts.{and-left}
-use Rattle.rights.proofs.RecordMade.{level-made, label-made, made-ok}
+use Rattle.rights.proofs.RecordMade.{level-made, label-made, name-ok}
 use Rattle.lines.proofs.StoredPaths.{GoodStored, step-length, names-restricted}
 use Rattle.rights.proofs.Texts.{byte-at, first-at}
 
@@ -44,8 +44,8 @@ test-back own g = refl
 step-back : (w : Axis × Test) → GoodTest (w .1) → stepOf (stepRecord w) ≡ w
 step-back (a, t) g =
     ap₂ (λ (u : Axis) (v : Test). (u, v))
-    (ap axisOf (level-made (axisByte a) (writeTest t)) ∙ axis-back a)
-    (ap testOf (label-made (axisByte a) (writeTest t)) ∙ test-back t g)
+    (ap axisOf (level-made (axisByte a) (writeTest t) noSpare) ∙ axis-back a)
+    (ap testOf (label-made (axisByte a) (writeTest t) noSpare) ∙ test-back t g)
 
 -- steps that stand at byte b
 module _ (q : List ℕ) where
@@ -93,8 +93,8 @@ axis-low : (a : Axis) → axisByte a ≤ 1
 axis-low Child = omega arith
 axis-low Descendant = omega arith
 
-sign-stored : (q : List ℕ) (at b g : ℕ) → b ≤ 1 → eqb g 42 || eqb g 36 ≡ true → recAt q at ≡ recordOf b (g ∷ []) → signOk q at ≡ true
-unfolding signOk recordOf all
+sign-stored : (q : List ℕ) (at b g : ℕ) → b ≤ 1 → eqb g 42 || eqb g 36 ≡ true → recAt q at ≡ nameRecord b (g ∷ []) → signOk q at ≡ true
+unfolding signOk recordOf padded all
 sign-stored q at b g h s e =
     let e0 : getD q at 0 ≡ b = sym (first-at q at) ∙ ap (λ (r : List ℕ). getD r 0 0) e in
     let e1 : getD q (at + 1) 0 ≡ 1 = sym (byte-at q at 1 (lit< tt)) ∙ ap (λ (r : List ℕ). getD r 1 0) e in
@@ -105,7 +105,7 @@ sign-stored q at b g h s e =
 step-passes : (q : List ℕ) (at : ℕ) (w : Axis × Test) → recAt q at ≡ stepRecord w → GoodTest (w .1) → uses false restricted w ≡ false → stepOk q at ≡ true
 unfolding stepOk writeTest GoodTest
 step-passes q at (a, label l) e g u =
-    rw (ap (recordOk 0 1) e ∙ made-ok 0 1 (axisByte a) l (omega arith) (axis-low a) (omega (arith, axis-low a)) (g .0) (g .1) (g .2) (sym (names-restricted (a, label l)) ∙ u)) (or-true (signOk q at))
+    rw (ap (textOk 1) e ∙ name-ok (axisByte a) l (g .0) (g .1) (g .2) (sym (names-restricted (a, label l)) ∙ u) 1 (axis-low a)) (or-true (signOk q at))
 step-passes q at (a, any) e g u = rw (sign-stored q at (axisByte a) 42 (axis-low a) refl e)
 step-passes q at (a, own) e g u = rw (sign-stored q at (axisByte a) 36 (axis-low a) refl e)
 

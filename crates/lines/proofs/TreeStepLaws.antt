@@ -11,7 +11,7 @@ use lib.Seq.{take-take, take-length, drop-drop, drop-at, getD-take, getD-drop, l
 use Rattle.rights.specs.Bytes.{all, isZero}
 use Rattle.rights.specs.Labels.{sameLabel, restricted}
 use Rattle.rights.specs.Policy.{some}
-use Rattle.rights.specs.Record.{recordOf, pasted}
+use Rattle.rights.specs.Record.{noSpare, nodeRecord, pasted}
 use Rattle.rights.specs.Table.{level, label, count, capacity, records, recordOk, recordsOk, tableOk}
 use Rattle.rights.proofs.Facts.{both}
 use Rattle.rights.proofs.LabelLaws.{same-differ}
@@ -123,7 +123,7 @@ module _ (s t : List ℕ) (room : ℕ) (l : List ℕ) where
   root-full e h = let f : ltb (free t) 1 ≡ true = lt-ltb (free t) 1 (omega (arith, h)) in rw (e, f)
 
   pub root-new : sameLabel l restricted ≡ false → count t ≡ 0 → 1 ≤ capacity (length t)
-      → stepRoot s t room l ≡ finish room okText (withStage 2 s) (changed t (recordOf 0 l ∷ [])) s t
+      → stepRoot s t room l ≡ finish room okText (withStage 2 s) (changed t (nodeRecord 0 l ∷ [])) s t
   unfolding stepRoot
   root-new e n h = let f : ltb (free t) 1 ≡ false = le-ltb (free t) 1 (omega (arith, h, n)) in rw (e, f)
 
@@ -138,18 +138,18 @@ pub root-room : (t : List ℕ) → 1 ≤ capacity (length t) → 36 ≤ length t
 root-room t h = let k : 1 ≤ min ((length t - 4) / 32) 16384 = h in omega (arith, k)
 
 pub root-put : (t l p q : List ℕ) → tableOk t ≡ true → count t ≡ 0 → 1 ≤ capacity (length t) → length l ≤ 24
-    → p ≡ pasted t 4 (recordOf 0 (take (length l) (drop 0 l))) → q ≡ le4 1 ++ drop 4 p → q ≡ changed t (recordOf 0 l ∷ [])
+    → p ≡ pasted t 4 (nodeRecord 0 (take (length l) (drop 0 l))) → q ≡ le4 1 ++ drop 4 p → q ≡ changed t (nodeRecord 0 l ∷ [])
 unfolding changed join
 root-put t l p q ok n h k ep eq =
     let g : 36 ≤ length t = root-room t h in
-    let a : p ≡ take 4 t ++ (recordOf 0 l ++ drop 36 t) = ep ∙ ap (λ x. pasted t 4 (recordOf 0 x)) (take-length l) ∙ pasted-record t 4 0 l k in
-    let b : drop 4 p ≡ recordOf 0 l ++ drop 36 t =
-    ap (drop 4) a ∙ drop-at (take 4 t) (recordOf 0 l ++ drop 36 t) 4 (length-take-le 4 t (omega arith)) in
+    let a : p ≡ take 4 t ++ (nodeRecord 0 l ++ drop 36 t) = ep ∙ ap (λ x. pasted t 4 (nodeRecord 0 x)) (take-length l) ∙ pasted-record t 4 0 l noSpare k refl in
+    let b : drop 4 p ≡ nodeRecord 0 l ++ drop 36 t =
+    ap (drop 4) a ∙ drop-at (take 4 t) (nodeRecord 0 l ++ drop 36 t) 4 (length-take-le 4 t (omega arith)) in
     let z : 4 + count t * 32 ≡ 4 = omega (arith, n) in
     let c : all isZero (drop 4 t) ≡ true = rw z at (facts t ok .clear) in
     let d : all isZero (drop 36 t) ≡ true = rw (drop-drop 32 4 t) at (zeros-behind 32 (drop 4 t) c) in
     let e : drop 36 t ≡ replicate (length t - 36) 0 = zero-replicate (drop 36 t) d ∙ ap (λ i. replicate i 0) (length-drop 36 t) in
-    eq ∙ ap (λ x. le4 1 ++ x) (b ∙ ap (λ x. recordOf 0 l ++ x) e ∙ ap (λ x. x ++ replicate (length t - 36) 0) (sym (append-nil (recordOf 0 l))))
+    eq ∙ ap (λ x. le4 1 ++ x) (b ∙ ap (λ x. nodeRecord 0 l ++ x) e ∙ ap (λ x. x ++ replicate (length t - 36) 0) (sym (append-nil (nodeRecord 0 l))))
 
 -- an insertion, by the number that `turned_down` gives
 module _ (place : Place) (marks : List ℕ) (m : ℕ) (tree t : List ℕ) (down : ℕ)

@@ -14,7 +14,7 @@ use Rattle.rights.specs.PathReader.{Got, got, bad, readTest, axisAt, pathOf}
 use Rattle.rights.specs.PathText.{writeTest, writeAxis}
 use Rattle.rights.specs.Policy.{Policy, some, uses}
 use Rattle.rights.specs.PolicyBytes.{subjectCount, isaCount, ruleCount, subjectAt, isaAt, ruleAt}
-use Rattle.rights.specs.Record.{recordOf, pasted}
+use Rattle.rights.specs.Record.{nameRecord, pasted}
 use Rattle.lines.specs.declared.policy_edit.Found.{Found}
 use Rattle.lines.specs.declared.policy_edit.Found.the-variants.{Subject, Unknown}
 
@@ -85,7 +85,7 @@ axisByte Child = 0
 axisByte Descendant = 1
 
 abbrev pub stepRecord : Axis × Test → List ℕ
-stepRecord w = recordOf (axisByte (w .0)) (writeTest (w .1))
+stepRecord w = nameRecord (axisByte (w .0)) (writeTest (w .1))
 
 unfoldable pub stepRecords : List (Axis × Test) → List ℕ
 stepRecords [] = []
@@ -97,7 +97,7 @@ withLine p c at x = set (pasted p at x) c (getD p c 0 + 1)
 
 -- `(subject N)`: x is the name
 abbrev pub withSubject : List ℕ → List ℕ → List ℕ
-withSubject p x = withLine p 0 (subjectAt (subjectCount p)) (recordOf 0 x)
+withSubject p x = withLine p 0 (subjectAt (subjectCount p)) (nameRecord 0 x)
 
 -- `(isa N R)`: n and r are the subjects' numbers
 abbrev pub withIsa : List ℕ → ℕ → ℕ → List ℕ

@@ -8,7 +8,7 @@ use Rattle.rights.specs.Labels.{sameLabel, restricted}
 use Rattle.rights.specs.Automaton.{bit}
 use Rattle.rights.specs.PathReader.{pathOf}
 use Rattle.rights.specs.Policy.{policyWord, some}
-use Rattle.rights.specs.Record.{recordOf}
+use Rattle.rights.specs.Record.{nodeRecord}
 use Rattle.rights.specs.Table.{records, label, count}
 use Rattle.views.specs.Shown.{shown}
 use Rattle.views.specs.Marks.{marksOf, markCount, marked}
@@ -31,7 +31,7 @@ unfoldable pub stepRoot : List ℕ → List ℕ → ℕ → List ℕ → Outcome
 stepRoot s t room l =
     refuse (sameLabel l restricted) 9 s t
     (refuse (ltb (free t) 1) 11 s t
-    (finish room okText (withStage stageC s) (changed t (recordOf 0 l ∷ [])) s t))
+    (finish room okText (withStage stageC s) (changed t (nodeRecord 0 l ∷ [])) s t))
 
 -- An insertion of a tree of m records at the places that are marked: "10 a level above 11 .. at a place that would be done", "11 fewer free records than
 -- the whole line needs (.. insertions D × tree size)"; else the answer is `text` and the state s'.

@@ -12,7 +12,7 @@ use rights::path::Read;
 use rights::path::after_slash;
 use rights::path::read_test;
 use rights::policy::is_name;
-use rights::record::put_record;
+use rights::record::put_name;
 ghost use mathlib.Core.Path.{_≡_};
 ghost use mathlib.Core.Bool.{true};
 ghost use mathlib.Core.List.{[], _∷_};
@@ -138,7 +138,7 @@ pub fn add_subject(policy: &mut [u8], s: &[u8], at: usize, n: usize)
 {
     let count = policy[0];
     let a = SUBJECTS_AT + wide(count) * RECORD_BYTES;
-    put_record(policy, a, 0, s, at, n);
+    put_name(policy, a, 0, s, at, n);
     policy[0] = count + 1;
 }
 
@@ -165,7 +165,7 @@ fn put_steps(policy: &mut [u8], at: usize, path: &[u8]) -> usize
         let axis = axis_byte(path, i);
         let k = after_slash(path, i);
         let e = test_end(path, k);
-        put_record(policy, at + n * RECORD_BYTES, axis, path, k, e - k);
+        put_name(policy, at + n * RECORD_BYTES, axis, path, k, e - k);
         n += 1;
         i = e;
     }

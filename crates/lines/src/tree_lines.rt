@@ -10,7 +10,7 @@ use rights::limits::LABEL_AT;
 use rights::limits::LABEL_MAX;
 use rights::limits::RECORD_BYTES;
 use rights::limits::RECORDS_MAX;
-use rights::record::put_record;
+use rights::record::put_node;
 use rights::table::capacity_of;
 use views::insert::Place;
 use views::insert::has_room;
@@ -86,7 +86,7 @@ pub fn root(state: &mut [u8], table: &mut [u8], label: &[u8], area: &mut [u8]) -
     if area.len() < need {
         return Answer::Refused(12);
     }
-    put_record(table, COUNT_BYTES, 0, label, 0, label.len());
+    put_node(table, COUNT_BYTES, 0, label, 0, label.len());
     put_count(table, 1);
     state[0] = STAGE_C;
     Answer::Accepted(need)

@@ -8,9 +8,9 @@ use borrow.Author.Tests.{leb-true, le-leb, lt-leb, lt-ltb, leb-false}
 use lib.Dec.{leb, ltb}
 use lib.ListN.{length, take, drop, replicate, length-append, length-drop, length-take, length-replicate}
 use lib.Seq.{take-at, length-take-le}
-use Rattle.rights.specs.Record.{recordOf, pasted}
+use Rattle.rights.specs.Record.{nodeRecord, pasted}
 use Rattle.rights.proofs.Lists.{byCase}
-use Rattle.rights.proofs.RecordLaws.{length-record}
+use Rattle.rights.proofs.RecordMade.{length-node}
 use Rattle.views.specs.declared.done.Change.the-variants as change
 use Rattle.views.specs.declared.insert.Place.the-variants as place
 use Rattle.forms.specs.declared.form.Part.{Part}
@@ -46,15 +46,15 @@ label-short x w e = rw e (w .good .1)
 records-append : (ns ms : List Node) → recordsOf (ns ++ ms) ≡ recordsOf ns ++ recordsOf ms
 unfolding recordsOf
 records-append [] ms = refl
-records-append (node l x ∷ ns) ms = ap (λ r. recordOf (held l) x ++ r) (records-append ns ms) ∙ sym (append-assoc (recordOf (held l) x) (recordsOf ns) (recordsOf ms))
+records-append (node l x ∷ ns) ms = ap (λ r. nodeRecord (held l) x ++ r) (records-append ns ms) ∙ sym (append-assoc (nodeRecord (held l) x) (recordsOf ns) (recordsOf ms))
 
 mutual
   unfolding GoodTrees GoodTree nodesIn nodesOf recordsOf
 
   tree-records : (t : text.Tree) (k : ℕ) → GoodTree t → length (recordsOf (nodesOf k t)) ≡ length (nodesOf k t) * 32
   tree-records (text.tree l ts) k g =
-      length-append (recordOf (held k) l) (recordsOf (nodesIn (suc k) ts))
-      ∙ omega (arith, length-record (held k) l (g .0 .1), trees-records ts (suc k) (g .1))
+      length-append (nodeRecord (held k) l) (recordsOf (nodesIn (suc k) ts))
+      ∙ omega (arith, length-node (held k) l (g .0 .1), trees-records ts (suc k) (g .1))
 
   trees-records : (ts : text.Trees) (k : ℕ) → GoodTrees ts → length (recordsOf (nodesIn k ts)) ≡ length (nodesIn k ts) * 32
   trees-records text.none k g = refl

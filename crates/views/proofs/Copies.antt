@@ -1,4 +1,4 @@
--- Laws of bytes that are moved, copied, shifted and cleared in place. Assumes nothing.
+-- Laws of bytes that are moved, shifted and cleared in place. Assumes nothing.
 use Prim.Native.Nat.{ℕ, zero, suc, _+_, _-_, _≤_, _<_}
 use mathlib.Core.Path.{_≡_, sym, ap, _∙_}
 use mathlib.Core.List.{List, [], _∷_, _++_, append-assoc, append-nil}
@@ -6,7 +6,7 @@ use native.Mathlib.Omega.{arith}
 use native.Mathlib.Nat.{add-zero, sub-self}
 use native.Mathlib.Numerals.{add-one}
 use lib.ListN.{length, getD, take, drop, set, replicate, length-drop, replicate-append-replicate, take-append-drop, List·getD-append}
-use lib.Seq.{take-suc-set, take-suc, drop-set-lt, getD-drop, take-all, drop-drop, paste, paste-suc, length-take-le, append-snoc, getD-take, set-at, drop-cons}
+use lib.Seq.{take-suc-set, take-suc, drop-set-lt, getD-drop, take-all, drop-drop, length-take-le, append-snoc, getD-take, set-at, drop-cons}
 use Rattle.views.specs.Pass.{shifted}
 
 -- one more zero
@@ -60,13 +60,6 @@ module _ (t t₀ : List ℕ) (from to j : ℕ) (below : to ≤ from) (inside : f
   move-back d =
       let i : to + j < from + (j + 1) = omega arith in
       rw (drop-set-lt (from + (j + 1)) t (to + j) _ i) (drop-more (from + j) 1 t t₀ (from + (j + 1)) (omega arith) d)
-
--- one more byte of a copy
-pub copy-more : (d d₀ s : List ℕ) (to from j n : ℕ) → j < n → to + n ≤ length d₀ → from + n ≤ length s → d ≡ paste d₀ to (drop from s) j
-    → set d (to + j) (getD s (from + j) 0) ≡ paste d₀ to (drop from s) (j + 1)
-copy-more d d₀ s to from j n l isDone hs e =
-    let k : j < length (drop from s) = rw length-drop (omega arith) in
-    rw (e, ← getD-drop from s j 0, add-one j) (paste-suc d₀ to (drop from s) j 0 (omega arith) k)
 
 -- nothing moved up yet
 pub shift-none : (t : List ℕ) (end by : ℕ) → t ≡ shifted t end end by

@@ -1,47 +1,67 @@
 -- Laws of a renaming. Assumes nothing.
 use mathlib.Core.Path.{_≡_, ap, sym, _∙_}
-use mathlib.Core.List.{List, _++_, append-assoc, append-nil}
+use mathlib.Core.List.{List, [], _∷_, _++_, append-assoc, append-nil}
 use mathlib.Core.Bool.{true, cond, not}
 use Prim.Native.Nat.{ℕ, _+_, _-_, _*_, _≤_, _<_}
 use native.Mathlib.Omega.{arith}
 use native.Mathlib.Nat.{zero-add}
+use native.Mathlib.Numerals.{add-one}
 use lib.ListN.{length, getD, take, drop, replicate, take-append-drop, length-append, length-drop}
-use lib.Seq.{take-take, drop-drop, take-at, drop-at, length-take-le, take-append-le}
+use lib.Seq.{take-take, take-suc, drop-drop, take-at, drop-at, length-take-le, take-append-le, drop-append-le}
 use lib.Dec.{eqb}
 use borrow.Author.Tests.{eq-eqb, ne-eqb}
 use Rattle.views.proofs.Chunks.{join-chunks}
 use Rattle.views.proofs.Copies.{drop-more}
 use Rattle.views.proofs.RecordBytes.{rest-cons, rest-same, rest-none}
 use Rattle.views.proofs.Chunks.{level-first, one-more, marks-drop}
-use Rattle.rights.specs.Table.{level, count, tableOk}
-use Rattle.rights.specs.Record.{recordOf}
-use Rattle.rights.proofs.RecordLaws.{length-record}
+use Rattle.rights.specs.Table.{level, label, spare, count, tableOk}
+use Rattle.rights.specs.Record.{labelBytes, recordOf, pasted}
+use Rattle.rights.proofs.RecordLaws.{length-padded, length-record}
+use Rattle.rights.proofs.RecordMade.{level-made, label-made}
 use Rattle.views.proofs.TableFacts.{facts, count-bytes, zero-replicate}
 use Rattle.views.proofs.Waiting.{length-rename}
 use Rattle.views.specs.Change.{rename, chunks, relabel, renamed, changed}
 use Rattle.views.specs.Marks.{marksOf}
 use Rattle.views.specs.Pass.{rest}
 
--- a label stored in a record
-module _ (t p s : List ℕ) (i : ℕ) (room : 4 + i * 32 + 32 ≤ length t) (short : length s ≤ 24)
-    (e : p ≡ take (4 + i * 32) t ++ (recordOf (getD t (4 + i * 32) 0) s ++ drop (4 + i * 32 + 32) t)) where
-  new : List ℕ
-  new = recordOf (getD t (4 + i * 32) 0) s
+-- what is read of a record that is renamed
+pub level-relabel : (s r : List ℕ) → level (relabel s r) ≡ level r
+level-relabel s r = level-made (level r) s (spare r)
 
-  length-new : length (take (4 + i * 32) t ++ new) ≡ 4 + i * 32 + 32
-  unfolding new
-  length-new = rw (length-append, length-take-le (4 + i * 32) t (omega arith), length-record (getD t (4 + i * 32) 0) s short)
+pub label-relabel : (s r : List ℕ) → label (relabel s r) ≡ s
+label-relabel s r = label-made (level r) s (spare r)
 
-  parts : p ≡ (take (4 + i * 32) t ++ new) ++ drop (4 + i * 32 + 32) t
-  unfolding new
-  parts = e ∙ sym (append-assoc (take (4 + i * 32) t) (recordOf (getD t (4 + i * 32) 0) s) (drop (4 + i * 32 + 32) t))
+pub length-relabel : (s r : List ℕ) → length s ≤ 24 → length r ≡ 32 → length (relabel s r) ≡ 32
+length-relabel s r h e = length-record (level r) s (spare r) h (length-drop 26 r ∙ ap (λ (n : ℕ). n - 26) e)
 
-  pub label-front : take (4 + i * 32 + 32) p ≡ take (4 + i * 32) t ++ relabel s (take 32 (drop (4 + i * 32) t))
-  unfolding new
-  label-front = rw (level-first (4 + i * 32) t) (ap (take (4 + i * 32 + 32)) parts ∙ take-at (take (4 + i * 32) t ++ new) (drop (4 + i * 32 + 32) t) (4 + i * 32 + 32) length-new)
+-- a label stored in the record at byte `at`
+module _ (t p s : List ℕ) (at : ℕ) (room : at + 32 ≤ length t) (short : length s ≤ 24) (e : p ≡ pasted t (at + 1) (labelBytes s)) where
+  old : List ℕ
+  old = take 32 (drop at t)
 
-  pub label-back : drop (4 + i * 32 + 32) p ≡ drop (4 + i * 32 + 32) t
-  label-back = ap (drop (4 + i * 32 + 32)) parts ∙ drop-at (take (4 + i * 32) t ++ new) (drop (4 + i * 32 + 32) t) (4 + i * 32 + 32) length-new
+  full : length old ≡ 32
+  unfolding old
+  full = length-take-le 32 (drop at t) (rw (length-drop at t) (omega arith))
+
+  parts : p ≡ (take at t ++ relabel s old) ++ drop (at + 32) t
+  unfolding old recordOf
+  parts =
+      let n : at + 1 + length (labelBytes s) ≡ at + 26 = omega (arith, length-padded s short) in
+      let a : take (at + 1) t ≡ take at t ++ (level old ∷ []) = rw (add-one at, level-first at t) (take-suc t at 0 (omega arith)) in
+      let b : drop (at + 26) t ≡ spare old ++ drop (at + 32) t =
+      sym (drop-drop 26 at t) ∙ ap (drop 26) (sym (take-append-drop 32 (drop at t)))
+      ∙ drop-append-le 26 old (drop 32 (drop at t)) (omega (arith, full)) ∙ ap (λ (z : List ℕ). spare old ++ z) (drop-drop 32 at t) in
+      e ∙ rw (n, a, b) (simp append-assoc)
+
+  length-front : length (take at t ++ relabel s old) ≡ at + 32
+  length-front = rw (length-append, length-take-le at t (omega arith), length-relabel s old short full)
+
+  pub label-front : take (at + 32) p ≡ take at t ++ relabel s (take 32 (drop at t))
+  unfolding old
+  label-front = ap (take (at + 32)) parts ∙ take-at (take at t ++ relabel s old) (drop (at + 32) t) (at + 32) length-front
+
+  pub label-back : drop (at + 32) p ≡ drop (at + 32) t
+  label-back = ap (drop (at + 32)) parts ∙ drop-at (take at t ++ relabel s old) (drop (at + 32) t) (at + 32) length-front
 
 pub new-label : (b : ℕ) (x y z w : List ℕ) → (b ≡ 0 → ⊥) → x ≡ y ++ z → x ≡ y ++ cond (not (eqb b 0)) z w
 new-label b x y z w n e = rw (ne-eqb b 0 n) e

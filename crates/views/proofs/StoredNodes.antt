@@ -14,7 +14,7 @@ use Rattle.rights.specs.Table.{recordAt, recordsFrom, records, level, recordOk,
 use Rattle.rights.proofs.Records.{records-step, records-end}
 use Rattle.rights.specs.PolicyBytes.{Text}
 use Rattle.rights.proofs.Texts.{byte-at}
-use Rattle.rights.proofs.Facts.{Sound, all-sound, both}
+use Rattle.rights.proofs.Facts.{Sound, all-sound, both, record-levels}
 use Rattle.views.specs.Shown.{Stored, storedFrom, stored, storedLevel, grants, granted, depthAfter, isShownAt, shown, shownFrom, keep, numberOf, shownNumbers, numbersFrom}
 use Rattle.views.proofs.Fill.{put-take, put-drop, put-length, put-next, filled, filled-length}
 use Rattle.views.proofs.ShownDepth.{Steps, shown-by-depth}
@@ -74,12 +74,12 @@ pub rest-whole : (t ss : List ℕ) (n : ℕ) → rest t ss n 0 ≡ storedFrom 0 
 rest-whole t ss n = rw (sub-zero n)
 
 pub stored-steps : (low high i : ℕ) (rs : List (List ℕ)) (ss : List ℕ) → recordsOk low high rs ≡ true → Steps storedLevel granted high (storedFrom i rs ss)
-unfolding recordsOk recordOk storedFrom
+unfolding recordsOk storedFrom
 stored-steps low high i [] ss e = tt
 stored-steps low high i (r ∷ rs) [] e = tt
 stored-steps low high i (r ∷ rs) (s ∷ ss) e =
     let w = both (recordOk low high r) (recordsOk 1 (level r + 1) rs) e in
-    (leb-true _ _ ((simp and-eq-true-iff at (w .0)) .1 .0), stored-steps 1 (level r + 1) (suc i) rs ss (w .1))
+    (record-levels low high r (w .0) .1, stored-steps 1 (level r + 1) (suc i) rs ss (w .1))
 
 -- the shown nodes of a table, by one number
 pub table-by-depth : (t ss : List ℕ) → tableOk t ≡ true → shown (stored t ss) ≡ shownFrom storedLevel granted 0 (stored t ss)

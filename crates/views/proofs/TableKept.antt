@@ -11,13 +11,11 @@ use lib.Dec.{leb}
 use lib.ListN.{length, getD, drop, replicate, length-append, length-replicate, length-drop}
 use lib.Seq.{take-at, drop-at, drop-drop, length-take-le, getD-drop}
 use Rattle.rights.specs.Bytes.{all, isZero}
-use Rattle.rights.specs.Labels.{labelByte, sameLabel, restricted}
-use Rattle.rights.specs.Table.{recordOk, recordsOk, level, label, tableOk, count, capacity, records}
-use Rattle.rights.proofs.Facts.{both}
+use Rattle.rights.specs.Table.{labelPartOk, spareOk, recordOk, recordsOk, level, spare, tableOk, count, capacity, records}
+use Rattle.rights.proofs.Facts.{both, record-levels, record-parts}
 use Rattle.rights.proofs.Lists.{byCase}
-use Rattle.rights.proofs.Records.{table-yes}
-use Rattle.rights.proofs.RecordLaws.{length-record}
-use Rattle.rights.proofs.RecordMade.{zeros-zero, made-ok, level-made}
+use Rattle.rights.proofs.Records.{table-yes, record-yes}
+use Rattle.rights.proofs.RecordMade.{zeros-zero, made-ok, spare-made}
 use Rattle.views.specs.declared.insert.Place.{Place}
 use Rattle.views.specs.declared.insert.Place.the-variants.{Append, After, Before}
 use Rattle.views.specs.Change.{isDone, later, dropBelow, putBehind, remove, insertBehind, insertInFront, rename, chunks, raise, lower, placed, removed, relabel, renamed, join, changed, deepest, tooDeep, hasRoom}
@@ -27,6 +25,7 @@ use Rattle.views.specs.Nodes.{All, Nested, TreeOk, LabelOk}
 use Rattle.views.proofs.Chunks.{all-chunks, length-chunks, level-first}
 use Rattle.views.proofs.TableFacts.{facts}
 use Rattle.views.proofs.Waiting.{length-rename}
+use Rattle.views.proofs.Relabelled.{level-relabel, length-relabel}
 use Rattle.views.proofs.RecordBytes.{length-raised, above-raise}
 use Rattle.views.proofs.Whole.{placed-length}
 use Rattle.views.proofs.Depth.{shallow-places}
@@ -77,39 +76,23 @@ module _ (t : List ℕ) (rs : List (List ℕ)) (head : 4 ≤ length t) (room : l
   pub changed-ok : recordsOk 0 0 rs ≡ true → tableOk (changed t rs) ≡ true
   changed-ok e = table-yes (changed t rs) (rw length-changed head) (rw (length-changed, count-changed) room) (rw records-changed e) ∙ clear
 
--- a record apart from its level
-abbrev named : List ℕ → Bool
-named r =
-    leb 1 (getD r 1 0) && (leb (getD r 1 0) 24 && (all labelByte (label r) && (not (sameLabel (label r) restricted) && all isZero (drop (2 + getD r 1 0) r))))
+-- a record with other bounds for its level
+pub tighten : (low high : ℕ) (r : List ℕ) → low ≤ level r → level r ≤ high → (l h : ℕ) → recordOk l h r ≡ true → recordOk low high r ≡ true
+tighten low high r a b l h e =
+    let g = record-parts l h r e in
+    record-yes low high r a b (record-levels l h r e .2) ∙ rw (g .0, g .1)
 
 pub loosen : (low high : ℕ) (r : List ℕ) → recordOk low high r ≡ true → (low ≤ level r) × (level r ≤ high) × (recordOk 0 11 r ≡ true)
-unfolding recordOk
 loosen low high r e =
-    let f = both (leb low (level r)) (leb (level r) high && (leb (level r) 11 && named r)) e in
-    let g = both (leb (level r) high) (leb (level r) 11 && named r) (f .1) in
-    let h = both (leb (level r) 11) (named r) (g .1) in
-    (leb-true _ _ (f .0), leb-true _ _ (g .0), rw (le-leb 0 (level r) (omega arith), h .0) (h .1))
-
-parts : (r : List ℕ) → recordOk 0 11 r ≡ true → (leb (level r) 11 ≡ true) × (named r ≡ true)
-unfolding recordOk
-parts r e =
-    let f = both (leb 0 (level r)) (leb (level r) 11 && (leb (level r) 11 && named r)) e in
-    let g = both (leb (level r) 11) (leb (level r) 11 && named r) (f .1) in
-    both (leb (level r) 11) (named r) (g .1)
-
-pub tighten : (low high : ℕ) (r : List ℕ) → low ≤ level r → level r ≤ high → recordOk 0 11 r ≡ true → recordOk low high r ≡ true
-unfolding recordOk
-tighten low high r a b e =
-    let h = parts r e in
-    rw (le-leb low (level r) a, le-leb (level r) high b, h .0) (h .1)
+    let f = record-levels low high r e in
+    (f .0, f .1, tighten 0 11 r (omega arith) (f .2) low high e)
 
 -- a record with another level
 pub relevel : (l : ℕ) (xs : List ℕ) → l ≤ 11 → recordOk 0 11 (0 ∷ xs) ≡ true → recordOk 0 11 (l ∷ xs) ≡ true
-unfolding recordOk
+unfolding labelPartOk spareOk
 relevel l xs h e =
-    let z : 2 + getD xs 0 0 ≡ suc (suc (getD xs 0 0)) = omega arith in
-    let k = rw z at (parts (0 ∷ xs) e .1) in
-    rw (le-leb 0 l (omega arith), le-leb l 11 h, z) k
+    let g = record-parts 0 11 (0 ∷ xs) e in
+    record-yes 0 11 (l ∷ xs) (omega arith) h h ∙ rw (g .0, g .1)
 
 -- a record below the root
 abbrev pub Good : List ℕ → Type 0
@@ -135,7 +118,7 @@ inner-nodes n (r ∷ rs) e a =
 nodes-inner : (n : ℕ) (rs : List (List ℕ)) → Nested level n rs → All Good rs → recordsOk 1 n rs ≡ true
 unfolding recordsOk
 nodes-inner n [] w a = refl
-nodes-inner n (r ∷ rs) w a = rw (tighten 1 n r (a .0 .0) (w .0) (a .0 .2), add-one (level r)) (nodes-inner (suc (level r)) rs (w .1) (a .1))
+nodes-inner n (r ∷ rs) w a = rw (tighten 1 n r (a .0 .0) (w .0) 0 11 (a .0 .2), add-one (level r)) (nodes-inner (suc (level r)) rs (w .1) (a .1))
 
 -- the root and what is below it
 root-split : (r : List ℕ) (rs : List (List ℕ)) → recordsOk 0 0 (r ∷ rs) ≡ true → All Full rs
@@ -149,7 +132,7 @@ root-split r rs e a =
 
 root-join : (r : List ℕ) (rs : List (List ℕ)) → level r ≡ 0 → recordOk 0 11 r ≡ true → Nested level (suc (level r)) rs → All Good rs → recordsOk 0 0 (r ∷ rs) ≡ true
 unfolding recordsOk
-root-join r rs z e w a = rw (tighten 0 0 r (omega arith) (omega (arith, z)) e, add-one (level r)) (nodes-inner (suc (level r)) rs w a)
+root-join r rs z e w a = rw (tighten 0 0 r (omega arith) (omega (arith, z)) 0 11 e, add-one (level r)) (nodes-inner (suc (level r)) rs w a)
 
 -- the records after a change
 abbrev pub Ok : List (List ℕ) → Type 0
@@ -200,19 +183,23 @@ rename-kept s l ms [] q = (refl, tt)
 rename-kept s l ms (r ∷ rs) q =
     let p = root-split r rs (q .0) (q .1 .1) in
     let u = rename level (relabel s) (later ms) rs in
-    let w = nested-rename level (relabel s) (λ x. level-made (level x) s) (suc (level r)) (later ms) rs (p .2) in
+    let w = nested-rename level (relabel s) (level-relabel s) (suc (level r)) (later ms) rs (p .2) in
     let g = all-rename level Good (relabel s) good (later ms) rs (p .3) in
     byCase (isDone ms)
-    (λ d. rw d (root-join (relabel s r) u (level-made (level r) s ∙ p .0) (made (omega (arith, p .0))) (rw (level-made (level r) s) w) g, (length-record (level r) s (l .short), good-full u g)))
+    (λ d. rw d (root-join (relabel s r) u (level-relabel s r ∙ p .0) (made r (p .1)) (rw (level-relabel s r) w) g, (length-relabel s r (l .short) (q .1 .0), good-full u g)))
     (λ d. rw d (root-join r u (p .0) (p .1) w g, (q .1 .0, good-full u g)))
   where
-    made : level r ≤ 11 → recordOk 0 11 (relabel s r) ≡ true
-    made h = made-ok 0 11 (level r) s (omega arith) h h (l .some) (l .short) (l .bytes) (l .free)
+    -- the spare bytes stay
+    spared : (x : List ℕ) → spareOk x ≡ true → spareOk (relabel s x) ≡ true
+    spared x e = unfold spareOk in rw (spare-made (level x) s (spare x) (l .short)) e
+
+    made : (x : List ℕ) → recordOk 0 11 x ≡ true → recordOk 0 11 (relabel s x) ≡ true
+    made x e =
+        let h = record-levels 0 11 x e .2 in
+        made-ok 0 11 (level x) s (spare x) (omega arith) h h (l .some) (l .short) (l .bytes) (l .free) (spared x (record-parts 0 11 x e .1))
 
     good : (x : List ℕ) → Good x → Good (relabel s x)
-    good x h =
-        let e = leb-true (level x) 11 (parts x (h .2) .0) in
-        (rw (level-made (level x) s) (h .0), length-record (level x) s (l .short), made-ok 0 11 (level x) s (omega arith) e e (l .some) (l .short) (l .bytes) (l .free))
+    good x h = (rw (level-relabel s x) (h .0), length-relabel s x (l .short) (h .1), made x (h .2))
 
 -- a tree at its place
 nested-raise : (k n : ℕ) (tree : List (List ℕ)) → Nested level n tree → Nested level (k + n) (raise k tree)

@@ -14,7 +14,7 @@ use Rattle.rights.specs.Policy.{read}
 use Rattle.rights.specs.PolicyBytes.{Text}
 use Rattle.rights.specs.Rights.{holds}
 use Rattle.rights.specs.Nodes.{Node, node, Nodes, levelOf, levelAt, Nested, recordPlace, seen, viewOf, Fits}
-use Rattle.rights.proofs.Facts.{both}
+use Rattle.rights.proofs.Facts.{both, record-levels}
 use Rattle.rights.proofs.Lists.{byCase}
 use Rattle.views.specs.Shown.{Stored, storedFrom, stored, storedLevel, granted, isShownAt, depthAfter, shownFrom, shown, keep, carried, numberOf, view, shownNumbers, numbersFrom}
 use Rattle.views.proofs.StoredNodes.{good, record-text, table-by-depth}
@@ -130,11 +130,11 @@ abbrev viewFrom : ℕ → List Stored → Nodes
 viewFrom d xs = map (λ x. node (storedLevel x) (carried x)) (keep (shownFrom storedLevel granted d xs) xs)
 
 levels : (low high : ℕ) (r : List ℕ) (rs : List (List ℕ)) → recordsOk low high (r ∷ rs) ≡ true → (low ≤ level r) × (level r ≤ high) × (recordsOk 1 (level r + 1) rs ≡ true)
-unfolding recordsOk recordOk
+unfolding recordsOk
 levels low high r rs e =
     let w = both (recordOk low high r) (recordsOk 1 (level r + 1) rs) e in
-    let f = simp and-eq-true-iff at (w .0) in
-    (leb-true _ _ (f .0), leb-true _ _ (f .1 .0), w .1)
+    let f = record-levels low high r (w .0) in
+    (f .0, f .1, w .1)
 
 linked-from : (l d high i : ℕ) (rs : List (List ℕ)) (ss : List ℕ) → d ≤ suc l → recordsOk 1 high rs ≡ true → Linked l (viewFrom d (storedFrom i rs ss))
 unfolding storedFrom shownFrom keep

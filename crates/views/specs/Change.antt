@@ -5,7 +5,7 @@ use mathlib.Core.Bool.{Bool, true, false, cond, not, _&&_, _||_}
 use mathlib.Core.List.{List, [], _∷_, _++_}
 use lib.Dec.{eqb, leb, ltb}
 use lib.ListN.{length, take, drop, replicate}
-use Rattle.rights.specs.Table.{count, capacity, level, records}
+use Rattle.rights.specs.Table.{count, capacity, level, spare, records}
 use Rattle.rights.specs.Record.{recordOf}
 use Rattle.views.specs.Marks.{marksOf, marked}
 use Rattle.views.specs.declared.insert.Place.{Place}
@@ -90,9 +90,9 @@ placed Before m tree ms rs = insertBefore level (λ l. raise l (chunks m tree)) 
 abbrev pub removed : List ℕ → List (List ℕ) → List (List ℕ)
 removed ms rs = remove level (marksOf ms) rs
 
--- the records after a renaming to the label s
+-- the records after a renaming to the label s: level and spare bytes stay
 abbrev pub relabel : List ℕ → List ℕ → List ℕ
-relabel s r = recordOf (level r) s
+relabel s r = recordOf (level r) s (spare r)
 
 abbrev pub renamed : List ℕ → List ℕ → List (List ℕ) → List (List ℕ)
 renamed s ms rs = rename level (relabel s) (marksOf ms) rs

@@ -2,10 +2,10 @@
 // by functions of their own, before anything is written.
 use crate::marks::count_marks;
 use crate::store::clear_from;
-use crate::store::copy;
 use crate::store::move_record;
 use crate::store::put_count;
 use crate::store::shift_up;
+use rights::bytes::copy;
 use rights::bytes::wide;
 use rights::limits::COUNT_BYTES;
 use rights::limits::LEVEL_MAX;

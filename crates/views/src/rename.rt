@@ -1,7 +1,7 @@
 // rename (document 01, "Changes"): the records that are done get another label; in place, in one pass.
 use rights::limits::COUNT_BYTES;
 use rights::limits::RECORD_BYTES;
-use rights::record::put_record;
+use rights::record::put_label;
 use rights::table::count_of;
 ghost use mathlib.Core.Path.{_≡_};
 ghost use mathlib.Core.List.{_++_};
@@ -21,8 +21,7 @@ fn rename_one(t: &mut [u8], marks: &[u8], s: &[u8], from: usize, to: usize, i: u
 {
     if marks[i] != 0 {
         let at = COUNT_BYTES + i * RECORD_BYTES;
-        let level = t[at];
-        put_record(t, at, level, s, from, to - from);
+        put_label(t, at, s, from, to - from);
     }
 }
 

@@ -4,9 +4,7 @@ ghost use mathlib.Core.Path.{_≡_};
 ghost use mathlib.Core.List.{_++_};
 ghost use Prim.Native.Nat.{_+_, _-_, _^_, _≤_, _<_};
 ghost use lib.ListN.{length, take, drop, replicate};
-ghost use lib.Seq.{paste};
 ghost use Rattle.views.specs.Change.{le4};
-ghost use Rattle.views.specs.Marks.{marked};
 ghost use Rattle.views.specs.Pass.{shifted};
 
 // Stores the count.
@@ -42,18 +40,6 @@ pub fn clear_from(t: &mut [u8], from: usize)
     while i < t.len() {
         t[i] = 0;
         i += 1;
-    }
-}
-
-// Copies n bytes of s from `from` on into d at `to`.
-pub fn copy(d: &mut [u8], to: usize, s: &[u8], from: usize, n: usize)
-    requires { ⌜ (to + n ≤ length (now d)) × (from + n ≤ length (now s)) ⌝ }
-    ensures { λ _. ⌜ now (d .exit) ≡ paste (now (d .entry)) to (drop from (now (s .entry))) n ⌝ }
-{
-    let mut j = 0;
-    while j < n {
-        d[to + j] = s[from + j];
-        j += 1;
     }
 }
 

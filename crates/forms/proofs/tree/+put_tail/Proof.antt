@@ -5,7 +5,7 @@ use mathlib.Core.List.{List}
 use native.Mathlib.Omega.{arith}
 use borrow.Author.Needs.{needs}
 use lib.ListN.{length, take, drop}
-use Rattle.rights.specs.Record.{recordOf, pasted}
+use Rattle.rights.specs.Record.{nodeRecord, pasted}
 use Rattle.rights.proofs.Lists.{rest-of}
 use Rattle.forms.proofs.TreeLaws.{rest-length, opened, nodes-none, nodes-last, nodes-other, nodes-unopened, put-none, put-close, put-open}
 use Prim.Native.Nat.{ℕ, _<_}
@@ -16,7 +16,7 @@ use Rattle.forms.proofs.tree.put_tail.Kinds as put-tail-kinds
 use Rattle.forms.proofs.tree.+put_tail.Lts-put_tail as put-tail-lts
 use Rattle.forms.proofs.tree.level_byte.Reads as level-byte-reads
 use Rattle.forms.proofs.tree.open_end.Reads as open-end-reads
-use Rattle.rights.proofs.record.put_record.Reads as put-record-reads
+use Rattle.rights.proofs.record.put_node.Reads as put-node-reads
 use Rattle.forms.proofs.tree.+put_tail.{statement}
 use Rattle.forms.proofs.tree.+put_tail.Tie.{close}
 
@@ -31,7 +31,7 @@ put-tail-below t =
     and 2 put-tail-kinds.ps (falls 2 put-tail-kinds.ps _<_ μ-put-tail t) put-tail.Pre
 
 abbrev put-tail-claims : ℕ → put-tail-lts.Claims
-put-tail-claims t = (put-tail-below t, put-tail.Post, open-end-reads.Asked, open-end-reads.Learnt, level-byte-reads.Asked, level-byte-reads.Learnt, put-record-reads.Asked, put-record-reads.Learnt)
+put-tail-claims t = (put-tail-below t, put-tail.Post, open-end-reads.Asked, open-end-reads.Learnt, level-byte-reads.Asked, level-byte-reads.Learnt, put-node-reads.Asked, put-node-reads.Learnt)
 
 put-tail-returns : (t : ℕ) → put-tail-lts.Need-returns (put-tail-claims t) (put-tail-at t) put-tail.Post
 put-tail-returns t c =
@@ -109,20 +109,20 @@ put-tail-returns-5 t c =
     let tree : List ℕ = c .before .before .before .before .before .before .before .before .before .args .tree .now in
     put-none s depth n tree (nodes-unopened s depth (c .before .before .before .if4 .left) (sym (c .before .before .open-end .ensures .is) ∙ c .enum-told .given .1))
 
-put-tail-mul-put-record : (t : ℕ) → put-tail-lts.Need-mul-put-record (put-tail-claims t) (put-tail-at t) put-tail.Post
-put-tail-mul-put-record t c = search needs
+put-tail-mul-put-node : (t : ℕ) → put-tail-lts.Need-mul-put-node (put-tail-claims t) (put-tail-at t) put-tail.Post
+put-tail-mul-put-node t c = search needs
 
 put-tail-level-byte-requires : (t : ℕ) → put-tail-lts.Need-level-byte-requires (put-tail-claims t) (put-tail-at t) put-tail.Post
 put-tail-level-byte-requires t c κs = search needs
 
-put-tail-sub-put-record : (t : ℕ) → put-tail-lts.Need-sub-put-record (put-tail-claims t) (put-tail-at t) put-tail.Post
-put-tail-sub-put-record t c =
+put-tail-sub-put-node : (t : ℕ) → put-tail-lts.Need-sub-put-node (put-tail-claims t) (put-tail-at t) put-tail.Post
+put-tail-sub-put-node t c =
     let e : ℕ = c .before .before .before .e .given .0 .0 in
     let hi = c .before .before .before .before .before .open-end .ensures .on e (c .before .before .before .e .given .1) in
     omega arith
 
-put-tail-put-record-requires : (t : ℕ) → put-tail-lts.Need-put-record-requires (put-tail-claims t) (put-tail-at t) put-tail.Post
-put-tail-put-record-requires t c κs =
+put-tail-put-node-requires : (t : ℕ) → put-tail-lts.Need-put-node-requires (put-tail-claims t) (put-tail-at t) put-tail.Post
+put-tail-put-node-requires t c κs =
     let s : List ℕ = c .before .before .before .before .before .before .before .before .before .before .before .before .args .s .now in
     let depth : ℕ = c .before .before .before .before .before .before .before .before .before .before .before .before .args .depth in
     let n : ℕ = c .before .before .before .before .before .before .before .before .before .before .before .before .args .n in
@@ -163,7 +163,7 @@ put-tail-put-tail-requires-2 t c κs =
     let hi = c .before .before .before .before .before .before .before .before .before .before .open-end .ensures .on e (c .before .before .before .before .before .before .before .before .e .given .1) in
     let o = opened s 1 e (sym (c .before .before .before .before .before .before .before .before .before .before .open-end .ensures .is) ∙ c .before .before .before .before .before .before .before .before .e .given .1) in
     let len = rest-length s e in
-    let kept = c .before .before .before .before .put-record .kept .0 in
+    let kept = c .before .before .before .before .put-node .kept .0 in
     (omega arith, omega arith)
 
 put-tail-same-length-2 : (t : ℕ) → put-tail-lts.Need-same-length-2 (put-tail-claims t) (put-tail-at t) put-tail.Post
@@ -178,8 +178,8 @@ put-tail-returns-6 t c =
     let e : ℕ = c .before .before .before .before .before .before .before .before .before .before .before .e .given .0 .0 in
     let hi = c .before .before .before .before .before .before .before .before .before .before .before .before .before .open-end .ensures .on e (c .before .before .before .before .before .before .before .before .before .before .before .e .given .1) in
     let o = opened s 1 e (sym (c .before .before .before .before .before .before .before .before .before .before .before .before .before .open-end .ensures .is) ∙ c .before .before .before .before .before .before .before .before .before .before .before .e .given .1) in
-    put-open s depth n tree (c .before .before .before .before .before .before .before .put-record .last .0) _ _ _ e (c .before .before .before .before .before .before .before .before .before .before .before .before .before .before .if4 .left) (sym (c .before .before .before .before .before .before .before .before .before .before .before .before .before .open-end .ensures .is) ∙ c .before .before .before .before .before .before .before .before .before .before .before .e .given .1) (omega arith) (omega arith) (omega arith) (omega arith)
-    (c .before .before .before .before .before .before .before .put-record .ensures ∙ ap (λ (l : ℕ). pasted tree (32 * n) (recordOf l (take (e - 2) (drop 2 s)))) (c .before .before .before .before .before .before .before .before .level-byte .ensures))
+    put-open s depth n tree (c .before .before .before .before .before .before .before .put-node .last .0) _ _ _ e (c .before .before .before .before .before .before .before .before .before .before .before .before .before .before .if4 .left) (sym (c .before .before .before .before .before .before .before .before .before .before .before .before .before .open-end .ensures .is) ∙ c .before .before .before .before .before .before .before .before .before .before .before .e .given .1) (omega arith) (omega arith) (omega arith) (omega arith)
+    (c .before .before .before .before .before .before .before .put-node .ensures ∙ ap (λ (l : ℕ). pasted tree (32 * n) (nodeRecord l (take (e - 2) (drop 2 s)))) (c .before .before .before .before .before .before .before .before .level-byte .ensures))
     (rest-of s e) (c .before .before .put-tail2 .ensures)
 
 pub +put-tail-spec : {M : Type 1} → statement M
@@ -201,10 +201,10 @@ pub +put-tail-spec : {M : Type 1} → statement M
     (put-tail-enum-known-e t)
     (put-tail-enum-told t)
     (put-tail-returns-5 t)
-    (put-tail-mul-put-record t)
+    (put-tail-mul-put-node t)
     (put-tail-level-byte-requires t)
-    (put-tail-sub-put-record t)
-    (put-tail-put-record-requires t)
+    (put-tail-sub-put-node t)
+    (put-tail-put-node-requires t)
     (put-tail-sub-put-tail-3 t)
     (put-tail-part-put-tail-start-2 t)
     (put-tail-part-put-tail-end-2 t)

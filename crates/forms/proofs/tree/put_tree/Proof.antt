@@ -22,14 +22,14 @@ add-a c =
     let hi = c .before .before .before .open-end .ensures .on e (c .before .e .given .1) in
     omega arith
 
-sub-put-record : tie.Need-sub-put-record
-sub-put-record c =
+sub-put-node : tie.Need-sub-put-node
+sub-put-node c =
     let e : ℕ = c .before .before .e .given .0 .0 in
     let hi = c .before .before .before .before .open-end .ensures .on e (c .before .before .e .given .1) in
     omega arith
 
-put-record-requires : tie.Need-put-record-requires
-put-record-requires c κs =
+put-node-requires : tie.Need-put-node-requires
+put-node-requires c κs =
     let s : List ℕ = c .before .before .before .before .before .before .before .args .s .now in
     let at : ℕ = c .before .before .before .before .before .before .before .args .at in
     let tree : List ℕ = c .before .before .before .before .before .before .before .args .tree .now in
@@ -59,7 +59,7 @@ put-tail-requires c κs =
     let hi = c .before .before .before .before .before .before .before .before .before .open-end .ensures .on e (c .before .before .before .before .before .before .before .e .given .1) in
     let o = opened s at e (sym (c .before .before .before .before .before .before .before .before .before .open-end .ensures .is) ∙ c .before .before .before .before .before .before .before .e .given .1) in
     let len = rest-length s e in
-    let kept = c .before .before .before .before .put-record .kept .0 in
+    let kept = c .before .before .before .before .put-node .kept .0 in
     omega arith
 
 returns-2 : tie.Need-returns-2
@@ -70,11 +70,11 @@ returns-2 c =
     let e : ℕ = c .before .before .before .before .before .before .before .before .before .before .e .given .0 .0 in
     let hi = c .before .before .before .before .before .before .before .before .before .before .before .before .open-end .ensures .on e (c .before .before .before .before .before .before .before .before .before .before .e .given .1) in
     let o = opened s at e (sym (c .before .before .before .before .before .before .before .before .before .before .before .before .open-end .ensures .is) ∙ c .before .before .before .before .before .before .before .before .before .before .e .given .1) in
-    put-tree-some s at tree (c .before .before .before .before .before .before .before .put-record .last .0) _ _ _ e (sym (c .before .before .before .before .before .before .before .before .before .before .before .before .open-end .ensures .is) ∙ c .before .before .before .before .before .before .before .before .before .before .e .given .1) (omega arith) (omega arith) (omega arith) (omega arith) (c .before .before .before .before .before .before .before .put-record .ensures) (rest-of s e) (c .before .before .put-tail .ensures)
+    put-tree-some s at tree (c .before .before .before .before .before .before .before .put-node .last .0) _ _ _ e (sym (c .before .before .before .before .before .before .before .before .before .before .before .before .open-end .ensures .is) ∙ c .before .before .before .before .before .before .before .before .before .before .e .given .1) (omega arith) (omega arith) (omega arith) (omega arith) (c .before .before .before .before .before .before .before .put-node .ensures) (rest-of s e) (c .before .before .put-tail .ensures)
 
 pub put-tree-spec : {M : Type 1} → statement M
 put-tree-spec =
     tie.close
-    (tie.spec (λ c κs. search needs) (λ c. search needs) (λ c. search needs) returns add-a sub-put-record
-    put-record-requires sub-put-tail part-put-tail-start (λ c. search needs) put-tail-requires (λ c. search needs)
+    (tie.spec (λ c κs. search needs) (λ c. search needs) (λ c. search needs) returns add-a sub-put-node
+    put-node-requires sub-put-tail part-put-tail-start (λ c. search needs) put-tail-requires (λ c. search needs)
     returns-2)

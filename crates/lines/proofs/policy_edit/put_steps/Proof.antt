@@ -21,17 +21,17 @@ loop-holds c =
 test-end-requires : tie.Need-test-end-requires Inv-loop μ-loop
 test-end-requires c κs = c .after-slash .ensures .2
 
-mul-put-record : tie.Need-mul-put-record Inv-loop μ-loop
-mul-put-record c = omega (arith, c .before .before .before .before .before .loop .inv .2 .room)
+mul-put-name : tie.Need-mul-put-name Inv-loop μ-loop
+mul-put-name c = omega (arith, c .before .before .before .before .before .loop .inv .2 .room)
 
-add-put-record : tie.Need-add-put-record Inv-loop μ-loop
-add-put-record c = omega (arith, c .before .before .before .before .before .loop .inv .2 .room, c .before .before .before .before .before .before .before .before .pre .1)
+add-put-name : tie.Need-add-put-name Inv-loop μ-loop
+add-put-name c = omega (arith, c .before .before .before .before .before .loop .inv .2 .room, c .before .before .before .before .before .before .before .before .pre .1)
 
-sub-put-record : tie.Need-sub-put-record Inv-loop μ-loop
-sub-put-record c = omega (arith, c .before .test-end .ensures .from)
+sub-put-name : tie.Need-sub-put-name Inv-loop μ-loop
+sub-put-name c = omega (arith, c .before .test-end .ensures .from)
 
-put-record-requires : tie.Need-put-record-requires Inv-loop μ-loop
-put-record-requires c κs =
+put-name-requires : tie.Need-put-name-requires Inv-loop μ-loop
+put-name-requires c κs =
     let a = c .before .before .before .before .before .before .before .before .args in
     let l = c .before .before .before .before .before .loop in
     let w = put-asks (a .policy .now) (a .at) (a .path .now) (l .policy) (l .n) (l .i) (c .before .before .after-slash .result) (c .before .test-end .result) (l .inv .2) (c .before .before .before .before .before .before .before .before .pre .0) (c .before .before .before .before .loop-test .taken) (c .before .before .after-slash .ensures .0) (c .before .test-end .ensures) in
@@ -47,7 +47,7 @@ loop-again : tie.Need-loop-again Inv-loop μ-loop
 loop-again c =
     let a = c .before .before .before .before .before .before .before .before .before .before .before .args in
     let l = c .before .before .before .before .before .before .before .before .loop in
-    let r = c .before .before .put-record in
+    let r = c .before .before .put-name in
     (c .before .before .before .before .test-end .ensures .to, omega (arith, l .inv .1), put-more (a .policy .now) (a .at) (a .path .now) (l .policy) (l .n) (l .i) (c .before .before .before .before .before .after-slash .result) (c .before .before .before .before .test-end .result) (l .inv .2) (c .before .before .before .before .before .before .before .before .before .before .before .pre .0) (c .before .before .before .before .before .before .before .loop-test .taken) (c .before .before .before .before .before .after-slash .ensures .0) (c .before .before .before .before .test-end .ensures) (r .last .0) (c .before .before .before .before .before .before .axis-byte .result) (c .before .before .before .before .before .before .before .before .before .before .before .pre .1) (c .before .before .before .before .before .before .axis-byte .ensures) (r .ensures))
 
 same-length : tie.Need-same-length Inv-loop μ-loop
@@ -62,5 +62,5 @@ returns c =
 pub put-steps-spec : {M : Type 1} → statement M
 put-steps-spec =
     tie.close
-    (tie.spec Inv-loop μ-loop loop-holds (λ c κs. omega arith) (λ c κs. omega arith) test-end-requires mul-put-record
-    add-put-record sub-put-record put-record-requires add-n loop-less loop-again same-length returns)
+    (tie.spec Inv-loop μ-loop loop-holds (λ c κs. omega arith) (λ c κs. omega arith) test-end-requires mul-put-name
+    add-put-name sub-put-name put-name-requires add-n loop-less loop-again same-length returns)

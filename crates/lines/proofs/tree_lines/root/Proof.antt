@@ -6,7 +6,7 @@ use native.Mathlib.Omega.{arith}
 use lib.ListN.{length}
 use lib.Seq.{take-length}
 use Rattle.rights.specs.Labels.{sameLabel, restricted}
-use Rattle.rights.specs.Record.{recordOf}
+use Rattle.rights.specs.Record.{nodeRecord}
 use Rattle.rights.specs.Table.{capacity}
 use Rattle.views.specs.Change.{changed}
 use Rattle.views.proofs.TableFacts.{facts}
@@ -38,7 +38,7 @@ returns-3 c = let g = c .before .before .before .before .before .before .before 
     let l = c .before .before .before .before .before .before .before .before .before .before .before .before .before .args .label .now in
     let e : sameLabel l restricted ≡ false = ap (λ x. sameLabel x restricted) (sym (take-length l)) ∙ sym (c .before .before .before .before .before .before .before .before .is-restricted .ensures) ∙ c .before .before .before .before .before .before .before .if1 .left in
     made-at (root-new s t _ l e (no-records s t (g .0) (g .1)) (omega (arith, c .before .before .before .before .before .before .capacity-of .ensures, c .before .before .before .before .before .if2 .left)))
-    (made-kept okText _ _ s t (withStage 2 s) (changed t (recordOf 0 l ∷ [])) _ (c .before .before .before .answer-ok .ensures) (c .if3 .taken))
+    (made-kept okText _ _ s t (withStage 2 s) (changed t (nodeRecord 0 l ∷ [])) _ (c .before .before .before .answer-ok .ensures) (c .if3 .taken))
 
 slice-write-state : tie.Need-slice-write-state
 slice-write-state c = omega (arith, store-held _ _ (c .before .before .before .before .before .before .before .before .before .before .before .before .before .before .before .before .before .before .before .before .before .pre .0) .size)
@@ -53,8 +53,8 @@ returns-4 c = let g = c .before .before .before .before .before .before .before 
     let e : sameLabel l restricted ≡ false = ap (λ x. sameLabel x restricted) (sym (take-length l)) ∙ sym (c .before .before .before .before .before .before .before .before .before .before .before .before .before .before .before .before .is-restricted .ensures) ∙ c .before .before .before .before .before .before .before .before .before .before .before .before .before .before .before .if1 .left in
     let f : 1 ≤ capacity (length t) = omega (arith, c .before .before .before .before .before .before .before .before .before .before .before .before .before .before .capacity-of .ensures, c .before .before .before .before .before .before .before .before .before .before .before .before .before .if2 .left) in
     made-at (root-new s t _ l e n f)
-    (rw (stage-put s 2 (omega (arith, h .size)), root-put t l _ _ (h .table) n f (g .2) (c .before .before .before .before .before .before .put-record .ensures) (c .before .before .put-count .ensures))
-    (made-changed okText _ _ s t (withStage 2 s) (changed t (recordOf 0 l ∷ [])) _ (c .before .before .before .before .before .before .before .before .before .before .before .answer-ok .ensures) (c .before .before .before .before .before .before .before .before .if3 .left)))
+    (rw (stage-put s 2 (omega (arith, h .size)), root-put t l _ _ (h .table) n f (g .2) (c .before .before .before .before .before .before .put-node .ensures) (c .before .before .put-count .ensures))
+    (made-changed okText _ _ s t (withStage 2 s) (changed t (nodeRecord 0 l ∷ [])) _ (c .before .before .before .before .before .before .before .before .before .before .before .answer-ok .ensures) (c .before .before .before .before .before .before .before .before .if3 .left)))
 
 pub root-spec : {M : Type 1} → statement M
 root-spec =

@@ -1,4 +1,4 @@
--- The label bytes counted and those left are the record's; the bits gathered and those left behind the label are those behind it.
+-- The label bytes counted and those left are those of the 24 bytes; the bits gathered and those left behind the label are those behind it.
 use Prim.Native.Nat.{ℕ, _+_, _-_, _≤_}
 use mathlib.Core.Bool.{Bool, and-false, and-true}
 use mathlib.Core.Path.{_≡_, sym, ap, _∙_}
@@ -11,8 +11,7 @@ use lib.Dec.{eqb}
 use lib.ListN.{length, take, drop, getD}
 use Rattle.rights.specs.Bytes.{all, isZero, orAll}
 use Rattle.rights.specs.Labels.{sameLabel, restricted}
-use Rattle.rights.specs.Table.{label}
-use Rattle.rights.proofs.LabelLaws.{labelCount, count-step, count-end, count-record}
+use Rattle.rights.proofs.LabelLaws.{labelCount, count-step, count-end, count-label}
 use Rattle.rights.proofs.Lists.{or-end, or-all-zero}
 use Rattle.rights.proofs.Records.{behind-step}
 use Rattle.rights.proofs.table.label_ok.Statement.{statement}
@@ -20,19 +19,19 @@ use Rattle.rights.proofs.table.label_ok.Tie as tie
 
 abbrev Inv-loop : tie.InvT-loop
 Inv-loop r n labels₀ bits₀ side₀ i₀ labels bits side i =
-    (i ≤ 32)
-    × (side + i ≡ 127 + (2 + n))
+    (i ≤ 24)
+    × (side + i ≡ 127 + n)
     × (labels ≤ i)
     × (labelCount r ≡ labels + labelCount (drop i r))
-    × (orAll 0 (drop (2 + n) r) ≡ orAll bits (drop (2 + n - i + i) r))
+    × (orAll 0 (drop n r) ≡ orAll bits (drop (n - i + i) r))
 
 abbrev μ-loop : tie.MeasureT-loop
-μ-loop r n labels₀ bits₀ side₀ i₀ labels bits side i = 32 - i
+μ-loop r n labels₀ bits₀ side₀ i₀ labels bits side i = 24 - i
 
 loop-holds : tie.Need-loop-holds Inv-loop μ-loop
 loop-holds c =
     let n = c .before .args .n in
-    let e : 2 + n - 0 + 0 ≡ 2 + n = omega arith in
+    let e : n - 0 + 0 ≡ n = omega arith in
     (omega arith, omega arith, omega arith, sym (zero-add _), rw e)
 
 add-labels : tie.Need-add-labels Inv-loop μ-loop
@@ -41,8 +40,8 @@ add-labels c = omega (arith, c .label-bit .ensures .1)
 loop-again : tie.Need-loop-again Inv-loop μ-loop
 loop-again c =
     let at = c .before .before .before .before .loop in
-    let r = c .before .before .before .before .before .before .args .r .now in
-    let e = 2 + c .before .before .before .before .before .before .args .n in
+    let r = c .before .before .before .before .before .before .args .field .now in
+    let e = c .before .before .before .before .before .before .args .n in
     let bit = c .before .label-bit .ensures in (
       omega arith,
       omega arith,
@@ -52,37 +51,35 @@ loop-again c =
     )
 
 -- the bits gathered are those behind the label
-module _ (r : List ℕ) (n i bits : ℕ) (h : length r ≤ i) (e : orAll 0 (drop (2 + n) r) ≡ orAll bits (drop (2 + n - i + i) r)) where
-  zeros-told : eqb bits 0 ≡ all isZero (drop (2 + n) r)
-  zeros-told = rw (← or-end bits r (2 + n - i + i) (omega arith), ← e) (or-all-zero 0 (drop (2 + n) r))
+module _ (r : List ℕ) (n i bits : ℕ) (h : length r ≤ i) (e : orAll 0 (drop n r) ≡ orAll bits (drop (n - i + i) r)) where
+  zeros-told : eqb bits 0 ≡ all isZero (drop n r)
+  zeros-told = rw (← or-end bits r (n - i + i) (omega arith), ← e) (or-all-zero 0 (drop n r))
 
-banned-told : (r : List ℕ) (n : ℕ) (v : Bool) → n ≡ getD r 1 0 → v ≡ sameLabel (take n (drop 2 r)) restricted → v ≡ sameLabel (label r) restricted
-banned-told r n v e h = h ∙ ap (λ k. sameLabel (take k (drop 2 r)) restricted) e
+banned-told : (r : List ℕ) (n m : ℕ) (v : Bool) → m ≡ n → v ≡ sameLabel (take m r) restricted → v ≡ sameLabel (take n r) restricted
+banned-told r n m v e h = h ∙ ap (λ k. sameLabel (take k r) restricted) e
 
 returns : tie.Need-returns Inv-loop μ-loop
 returns c =
     let at = c .before .before .loop in
     let a = c .before .before .before .before .args in
-    let zero = sym (zeros-told (a .r .now) (a .n) (at .i) (at .bits) (omega arith) (at .inv .4)) ∙ ne-eqb (at .bits) 0 (c .if1 .taken) in
+    let zero = sym (zeros-told (a .field .now) (a .n) (at .i) (at .bits) (omega arith) (at .inv .4)) ∙ ne-eqb (at .bits) 0 (c .if1 .taken) in
     simp (zero, and-false)
 
 returns-2 : tie.Need-returns-2 Inv-loop μ-loop
 returns-2 c =
-    let r = c .before .before .before .before .before .before .before .args .r .now in
-    let same = sym (banned-told r (c .before .before .wide .result) (c .before .is-restricted .result) (omega arith) (c .before .is-restricted .ensures)) ∙ c .if2 .taken in
+    let a = c .before .before .before .before .before .before .before .args in
+    let same = sym (banned-told (a .field .now) (a .n) (c .before .before .wide .result) (c .before .is-restricted .result) (omega arith) (c .before .is-restricted .ensures)) ∙ c .if2 .taken in
     simp (same, and-false)
 
 returns-3 : tie.Need-returns-3 Inv-loop μ-loop
 returns-3 c =
     let at = c .before .before .before .before .before .loop in
     let a = c .before .before .before .before .before .before .before .args in
-    let r = a .r .now in
+    let r = a .field .now in
     let zero = sym (zeros-told r (a .n) (at .i) (at .bits) (omega arith) (at .inv .4)) ∙ eq-eqb (at .bits) 0 (c .before .before .before .if1 .left) in
-    let same = sym (banned-told r (c .before .before .wide .result) (c .before .is-restricted .result) (omega arith) (c .before .is-restricted .ensures)) ∙ c .if2 .left in
+    let same = sym (banned-told r (a .n) (c .before .before .wide .result) (c .before .is-restricted .result) (omega arith) (c .before .is-restricted .ensures)) ∙ c .if2 .left in
     let labels : labelCount r ≡ at .labels = at .inv .3 ∙ rw (count-end r (at .i) (omega arith)) (omega arith) in
-    let count = count-record r (a .n) (omega arith) (omega arith) (omega arith) (omega arith) zero in
-    let n : getD r 1 0 ≡ a .n = omega arith in
-    rw (zero, same, n, ← count, labels) (sym (and-true _))
+    rw (zero, same, ← count-label r (a .n) (omega arith) zero, labels) (sym (and-true _))
 
 pub label-ok-spec : {M : Type 1} → statement M
 label-ok-spec =

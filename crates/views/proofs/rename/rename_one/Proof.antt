@@ -2,9 +2,7 @@ use mathlib.Core.Path.{refl}
 use Prim.Native.Nat.{_+_, _*_, _-_}
 use lib.ListN.{getD, take, drop}
 use Rattle.views.specs.Change.{relabel}
-use mathlib.Core.Path.{_∙_}
 use Rattle.rights.proofs.RecordLaws.{label-length}
-use Rattle.rights.proofs.RecordMade.{pasted-record}
 use Rattle.views.proofs.Relabelled.{label-front, label-back, new-label, old-label}
 use native.Mathlib.Omega.{arith}
 use borrow.Author.Needs.{needs}
@@ -13,14 +11,14 @@ use Rattle.views.proofs.rename.rename_one.Tie as tie
 
 returns : tie.Need-returns
 returns c =
-    let a = c .before .before .before .before .before .before .before .before .before .before .args in
-    let e = c .before .before .put-record in
-    let l = label-length 0 (a .s .now) (a .from) (a .to - a .from) (omega arith) (omega arith) in
-    let p = e .ensures ∙ pasted-record (a .t .now) (4 + a .i * 32) _ (take (a .to - a .from) (drop (a .from) (a .s .now))) (omega (arith, l)) in (
+    let a = c .before .before .before .before .before .before .before .before .before .args in
+    let e = c .before .before .put-label in
+    let lab = take (a .to - a .from) (drop (a .from) (a .s .now)) in
+    let l = label-length (a .s .now) (a .from) (a .to - a .from) (omega arith) in (
       new-label (getD (a .marks .now) (a .i) 0) (take (4 + a .i * 32 + 32) (e .last .0)) (take (4 + a .i * 32) (a .t .now))
-          (relabel (take (a .to - a .from) (drop (a .from) (a .s .now))) (take 32 (drop (4 + a .i * 32) (a .t .now)))) (take 32 (drop (4 + a .i * 32) (a .t .now))) (c .before .before .before .before .before .if1 .taken)
-          (label-front (a .t .now) (e .last .0) (take (a .to - a .from) (drop (a .from) (a .s .now))) (a .i) (omega arith) (omega (arith, l)) p),
-      label-back (a .t .now) (e .last .0) (take (a .to - a .from) (drop (a .from) (a .s .now))) (a .i) (omega arith) (omega (arith, l)) p,
+          (relabel lab (take 32 (drop (4 + a .i * 32) (a .t .now)))) (take 32 (drop (4 + a .i * 32) (a .t .now))) (c .before .before .before .before .if1 .taken)
+          (label-front (a .t .now) (e .last .0) lab (4 + a .i * 32) (omega arith) (omega (arith, l)) (e .ensures)),
+      label-back (a .t .now) (e .last .0) lab (4 + a .i * 32) (omega arith) (omega (arith, l)) (e .ensures),
     )
 
 returns-2 : tie.Need-returns-2
@@ -31,5 +29,5 @@ returns-2 c =
 pub rename-one-spec : {M : Type 1} → statement M
 rename-one-spec =
     tie.close
-    (tie.spec (λ c. search needs) (λ c. search needs) (λ c. search needs) (λ c. search needs) (λ c. search needs)
-    (λ c κs. search needs) (λ c. search needs) returns returns-2)
+    (tie.spec (λ c. search needs) (λ c. search needs) (λ c. search needs) (λ c. search needs) (λ c κs. search needs)
+    (λ c. search needs) returns returns-2)

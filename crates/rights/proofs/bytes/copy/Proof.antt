@@ -2,11 +2,11 @@ use Prim.Native.Nat.{_≤_, _-_}
 use mathlib.Core.Path.{_≡_, refl}
 use lib.ListN.{length, drop, length-set}
 use lib.Seq.{paste, paste-zero}
-use Rattle.views.proofs.Copies.{copy-more}
+use Rattle.rights.proofs.Lists.{copy-more}
 use borrow.Author.Needs.{needs}
 use native.Mathlib.Omega.{arith}
-use Rattle.views.proofs.store.copy.Statement.{statement}
-use Rattle.views.proofs.store.copy.Tie as tie
+use Rattle.rights.proofs.bytes.copy.Statement.{statement}
+use Rattle.rights.proofs.bytes.copy.Tie as tie
 
 abbrev Inv-loop : tie.InvT-loop
 Inv-loop d₀ to s from n j₀ d j = (j ≤ n) × (length d ≡ length d₀) × (d ≡ paste d₀ to (drop from s) j)
