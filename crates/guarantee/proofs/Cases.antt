@@ -11,11 +11,12 @@ use Rattle.rights.specs.Labels.{labelByte, folded, sameLabel}
 use Rattle.rights.specs.Path.{passes}
 use Rattle.rights.specs.PathReader.{readTest, numberOf, isPosition, readPosition, closes, readBrackets, readSteps, brackets, steps, pathOf}
 use Rattle.rights.specs.PathText.{decimal, writeTest}
-use Rattle.rights.specs.Policy.{some, passesOwn, policyWord}
+use Rattle.rights.specs.Policy.{some, policyWord}
+use Rattle.rights.specs.Isa.{isBy, standsFor, subjectsWhere, passesOwn}
 use Rattle.rights.specs.PolicyBytes.{testOf, namesFrom, isaFrom, stepsFrom, rulesFrom, policyOf}
 use Rattle.rights.specs.PolicyCheck.{subjectsOk, isasOk, rulesOk, policyOk}
 use Rattle.rights.specs.Record.{padded, recordOf}
-use Rattle.rights.specs.Rights.{isBy, finds as findsIn, decide, rightsBy, chains}
+use Rattle.rights.specs.Rights.{finds as findsIn, decide, rightsBy, chains}
 use Rattle.rights.specs.Nodes.{levelAt, labelAt}
 use Rattle.rights.specs.Selection.{someFrom, before, above, finds, keeps, selects, selected, marksOf}
 use Rattle.rights.specs.Table.{recordsFrom, recordsOk, tableOk}
@@ -66,7 +67,7 @@ small-passes = refl
 
 -- what the lines of a row give from a new store, where 13 is not computed
 unfoldable given : Choice → Case → List Reply
-unfolding bytes passedReplies passed digitByte run all labelByte folded sameLabel passes readTest numberOf isPosition readPosition closes readBrackets readSteps brackets steps pathOf decimal writeTest some passesOwn policyWord testOf namesFrom isaFrom stepsFrom rulesFrom policyOf recordOf isBy findsIn decide rightsBy chains levelAt labelAt someFrom before above finds keeps selects selected marksOf recordsFrom storedFrom atParent nearestFirst shownAfter keep eachFrom dropBelow putBehind remove insertBehind rename chunks raise join changed deepest tooDeep inTable hitsOf hitLines childLines viewText sameText among wordAt signAt rightAt pathByte labelEnd pathEnd signEnd rightEnd openEnd tailEnd treeEnd tailNodes treeNodes recordsOf onePart partsOf endsIn readForm treeIn subjectFrom subjectNamed isaHeld hasBracket stepList stepsIn pathRestricted stepRecords withLine lineByte lineOk stepView stepQuery stepUser stepSubject stepIsa stepRule treeRestricted stepRoot stepChild stepRename stepInsert stepRemove stepForm stepRead padded
+unfolding bytes passedReplies passed digitByte run all labelByte folded sameLabel passes readTest numberOf isPosition readPosition closes readBrackets readSteps brackets steps pathOf decimal writeTest some passesOwn policyWord testOf namesFrom isaFrom stepsFrom rulesFrom policyOf recordOf isBy findsIn decide rightsBy chains levelAt labelAt someFrom before above finds keeps selects selected marksOf recordsFrom storedFrom atParent nearestFirst shownAfter keep eachFrom dropBelow putBehind remove insertBehind rename chunks raise join changed deepest tooDeep inTable hitsOf hitLines childLines viewText sameText among wordAt signAt rightAt pathByte labelEnd pathEnd signEnd rightEnd openEnd tailEnd treeEnd tailNodes treeNodes recordsOf onePart partsOf endsIn readForm treeIn subjectFrom subjectNamed isaHeld hasBracket stepList stepsIn pathRestricted stepRecords withLine lineByte lineOk stepView stepQuery stepUser stepSubject stepIsa stepRule treeRestricted stepRoot stepChild stepRename stepInsert stepRemove stepForm stepRead padded standsFor subjectsWhere
 given choice c = passedReplies choice newState (newTable (c .capacity)) (map input (c .turns))
 
 abbrev Gives : Choice → Case → Type 0

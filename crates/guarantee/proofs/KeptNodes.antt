@@ -74,7 +74,7 @@ module _ (P : Policy) (u : ℕ) (declared : u < length (P .names)) where
   rights-cells c (n ∷ ns) =
       let d : List (List ℕ) = take (taggedLevel n) c ++ (label (n .0) ∷ []) in
       ap₂ (λ x r. put (kept (n, x)) r)
-      (rights-by-keys P u d declared ∙ ap (rightsByKeys P u) (chain-keys c n))
+      (rights-by-keys P u d ∙ ap (rightsByKeys P u) (chain-keys c n))
       (rights-cells d ns ∙ ap (λ k. tags held (cells taggedLevel keyed k ns)) (chain-keys c n))
 
   -- the kept nodes with their rights are the kept nodes with what their keys give

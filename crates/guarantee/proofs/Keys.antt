@@ -10,10 +10,12 @@ use lib.ListN.{length, getD}
 use Rattle.rights.specs.Labels.{foldedLabel, sameLabel}
 use Rattle.rights.specs.Path.{Test, label, any, own, isDescendant, passes}
 use Rattle.rights.specs.declared.path.Axis.{Axis}
-use Rattle.rights.specs.Policy.{Rule, Policy, passesOwn, some as anyOf, uses, policyWord}
-use Rattle.rights.specs.Rights.{is, stepFor, finds, withRule, decide, rightsBy}
+use Rattle.rights.specs.Policy.{Rule, Policy, some as anyOf, uses, policyWord}
+use Rattle.rights.specs.Isa.{is, passesOwn}
+use Rattle.rights.specs.Rights.{stepFor, finds, withRule, decide, rightsBy}
 use Rattle.rights.proofs.LabelLaws.{same-left, folded-like}
 use Rattle.rights.proofs.Lists.{byCase}
+use Rattle.rights.proofs.OwnNames.{own-named}
 use Rattle.rights.proofs.PolicyWords.{own-same}
 use Rattle.rights.proofs.XPathLists.{or-right}
 
@@ -61,7 +63,7 @@ some-at f (x ∷ xs) zero h e = or-left (f x) (anyOf f xs) e
 some-at f (x ∷ xs) (suc i) h e = or-right (f x) (anyOf f xs) (some-at f xs i (omega arith) e)
 
 module _ (P : Policy) (u : ℕ) where
-  -- what uses a label, or `$` where the label is u's name, makes the label a policy word
+  -- what uses a label, or `$` where the label passes it, makes the label a policy word
   pub record Covers (named owned : List ℕ → Bool) : Type 0 where
     pub by-name : (x : List ℕ) → named x ≡ true → policyWord P x ≡ true
     pub by-own : (x : List ℕ) → owned x ≡ true → passesOwn P u x ≡ true → policyWord P x ≡ true
@@ -118,16 +120,17 @@ module _ (P : Policy) (u : ℕ) where
       (decide-keys c rs _ (others (λ y. anyOf (uses false y) (r .path)) (λ y. anyOf (uses true y) (r .path)) _ _ v))
 
   -- the rules of a policy make policy words of all that they use
-  rules-cover : u < length (P .names) → CoversRules (P .rules)
-  unfolding policyWord passesOwn
-  rules-cover h = record {
+  rules-cover : CoversRules (P .rules)
+  unfolding policyWord
+  rules-cover = record {
     by-name = λ x e. or-left _ _ e;
     by-own = λ x e q.
-        let z : anyOf (λ (r : Rule). anyOf (uses true x) (r .path)) (P .rules) && anyOf (sameLabel x) (P .names) ≡ true = rw e (some-at (sameLabel x) (P .names) u h q) in
+        let k = own-named P u x q in
+        let z : anyOf (λ (r : Rule). anyOf (uses true x) (r .path)) (P .rules) && anyOf (sameLabel x) (P .names) ≡ true = rw e (some-at (sameLabel x) (P .names) (k .0) (k .1) (k .2)) in
         or-right (anyOf (λ (r : Rule). anyOf (uses false x) (r .path)) (P .rules)) _ z;
   }
 
-  -- What a declared subject may do on a node depends on the keys of the labels from the root to it.
-  pub rights-by-keys : (c : List (List ℕ)) → u < length (P .names) → rightsBy P u c ≡ rightsByKeys P u (map (keyOf P) c)
+  -- What a subject may do on a node depends on the keys of the labels from the root to it.
+  pub rights-by-keys : (c : List (List ℕ)) → rightsBy P u c ≡ rightsByKeys P u (map (keyOf P) c)
   unfolding rightsBy rightsByKeys
-  rights-by-keys c h = decide-keys c (P .rules) 0 (rules-cover h)
+  rights-by-keys c = decide-keys c (P .rules) 0 rules-cover

@@ -9,7 +9,8 @@ use native.Mathlib.Numerals.{add-one}
 use lib.Dec.{ltb}
 use lib.ListN.{length, getD, drop}
 use Rattle.rights.specs.Labels.{restricted}
-use Rattle.rights.specs.Policy.{Policy, read, update, policyWord, passesOwn}
+use Rattle.rights.specs.Policy.{Policy, read, update, policyWord}
+use Rattle.rights.specs.Isa.{passesOwn}
 use Rattle.rights.specs.Rights.{holds, rightsOn}
 use Rattle.rights.specs.Selection.{selection}
 use Rattle.rights.specs.Table.{records, level, label, count, recordsOk, recordOk, tableOk}

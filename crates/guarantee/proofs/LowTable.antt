@@ -156,7 +156,7 @@ module _ (P : Policy) (u : ℕ) where
 
   module _ (declared : u < length (P .names)) where
     set-keys : (c : List (List ℕ)) (r : List ℕ) → rightsBy P u (take (level r) c ++ (label r ∷ [])) ≡ rightsByKeys P u (chain level keyIn (map (keyOf P) c) r)
-    set-keys c r = rights-by-keys P u (take (level r) c ++ (label r ∷ [])) declared ∙ ap (rightsByKeys P u) (chain-keys c r)
+    set-keys c r = rights-by-keys P u (take (level r) c ++ (label r ∷ [])) ∙ ap (rightsByKeys P u) (chain-keys c r)
 
     -- the stored nodes and the nodes with their key chains: shown alike, and the same records with the same rights
     shown-cells-by : (i : ℕ) (before : List (ℕ × Bool)) (c : List (List ℕ)) (k : List Key) (rs : List (List ℕ)) → map (keyOf P) c ≡ k

@@ -4,11 +4,12 @@ use mathlib.Core.Path.{_≡_, refl, ap, sym, _∙_}
 use mathlib.Core.Bool.{Bool, true, false, _&&_, _||_, false≢true}
 use mathlib.Core.List.{List, [], _∷_, map}
 use lib.Dec.{eqb}
-use lib.ListN.{getD}
+use lib.ListN.{length, getD}
 use borrow.Author.Tests.{eq-eqb, eqb-true}
 use Rattle.rights.specs.Labels.{sameLabel}
-use Rattle.rights.specs.Policy.{Policy, Rule, some, uses, passesOwn, policyWord}
-use Rattle.rights.specs.Rights.{isBy, is, decide, rightsBy, chains, rightsOn}
+use Rattle.rights.specs.Policy.{Policy, Rule, some, uses, policyWord}
+use Rattle.rights.specs.Isa.{isBy, is, standsFor, subjectsWhere, passesOwn}
+use Rattle.rights.specs.Rights.{decide, rightsBy, chains, rightsOn}
 use Rattle.rights.proofs.Facts.{both}
 use Rattle.rights.proofs.Lists.{byCase}
 use Rattle.rights.proofs.XPathLists.{or-right}
@@ -65,9 +66,13 @@ module _ (P Q : Policy) (same : SamePolicy P Q) where
   unfolding isaHeld
   same-is u k = is-same (P .isa) (Q .isa) (same .isa) 64 u k
 
+  same-stands : (u : ℕ) → standsFor P u ≡ standsFor Q u
+  unfolding standsFor
+  same-stands u = refl
+
   pub same-own : (u : ℕ) → passesOwn P u ≡ passesOwn Q u
   unfolding passesOwn
-  same-own u = λ i x. sameLabel x (getD (same .names i) u [])
+  same-own u = λ i x. some (λ k. sameLabel x (getD (same .names i) k [])) (subjectsWhere (same-stands u i) (length (same .names i)))
 
   pub same-named : (x : List ℕ) → subjectNamed P x ≡ subjectNamed Q x
   unfolding subjectNamed

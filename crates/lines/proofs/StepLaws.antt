@@ -24,7 +24,7 @@ use Rattle.rights.proofs.Lists.{rest-of}
 use borrow.Rule.Slice.PartMut.{putMid, postOf}
 use lib.Seq.{take-at, take-length, getD-drop, length-take-le}
 use Rattle.rights.specs.Nodes.{Nodes, Fits, viewOf}
-use Rattle.rights.specs.Policy.{passesOwn}
+use Rattle.rights.specs.Isa.{passesOwn}
 use Rattle.rights.specs.Selection.{selection, Selects}
 use Rattle.rights.proofs.PassLaws.{marks-length, view-length}
 use Rattle.rights.proofs.Sounds.{policy-sound}

@@ -8,7 +8,7 @@ use lib.ListN.{length, drop}
 use Rattle.rights.specs.Path.{Path}
 use Rattle.rights.specs.PathReader.{Got, got, bad, pathOf}
 use Rattle.rights.specs.Nodes.{Node, Nodes}
-use Rattle.rights.specs.Policy.{passesOwn}
+use Rattle.rights.specs.Isa.{passesOwn}
 use Rattle.rights.specs.Rights.{rightsOn}
 use Rattle.rights.specs.Selection.{selection}
 use Rattle.rights.specs.Table.{records}

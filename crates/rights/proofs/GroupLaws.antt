@@ -14,12 +14,13 @@ use lib.Dec.{lit<, eqb, ltb, eqb·suc-suc, eqb·zero-suc, eqb·suc-zero}
 use lib.Pow.{pow-mono, pow-lt, split}
 use lib.ListN.{length, take, getD, replicate, length-append, length-replicate, getD-replicate, List·getD-eq-default, List·getD-append}
 use lib.Seq.{getD-append-add}
-use Rattle.rights.specs.Policy.{passesOwn, Right, position, read, insert, update, delete, bitOf}
+use Rattle.rights.specs.Policy.{Right, position, read, insert, update, delete, bitOf}
 use Rattle.rights.specs.Rights.{Step, stepFor, finds, withRule}
 use Rattle.rights.specs.Automaton.{value, meet, deeps, passedBy, moved, states, stepsFor, rulePath, chainTo, chainOf}
+use Rattle.rights.specs.Roles.{nameAmong}
 use Rattle.rights.specs.Groups.{has, Lane, laneAt, never, cat, stepsOf, firstOf, laid, firsts, endAt, Agrees, ruled, settled, Packed, Grouped, General}
 use Rattle.rights.specs.PolicyCheck.{bitOk}
-use Rattle.rights.specs.PolicyBytes.{policyOf, accepts, stepCount, stepsAt, stepOf}
+use Rattle.rights.specs.PolicyBytes.{accepts, stepCount, stepsAt, stepOf}
 use Rattle.rights.specs.Table.{recAt, recordAt, level, label}
 use Rattle.rights.proofs.RightsLaws.{right-of}
 use Rattle.rights.proofs.Lists.{byCase}
@@ -430,24 +431,24 @@ module _ (q : ℕ → Lane) (i : ℕ) where
 
 -- One rule of a policy more
 
-module _ (number : List ℕ → ℕ) (p : List ℕ) (u : ℕ) (roles : List ℕ) (b : ℕ) (fair : bitOk b ≡ true) where
+module _ (number : List ℕ → ℕ) (p own roles : List ℕ) (b : ℕ) (fair : bitOk b ≡ true) where
   abbrev lane : ℕ → Lane
-  lane = laneAt p u roles b
+  lane = laneAt p own roles b
 
   pub lane-added : (i n k : ℕ) → i + n ≡ k → lane k .on ≡ true → (deep every start yes noes used deep' every' start' yes' noes' used' : ℕ) (rows rows' : List ℕ)
       → Grouped number lane b i n deep every start yes noes used rows
-      → ((ss : List Step) → length ss ≡ used → Packed number ss deep every rows → Packed number (ss ++ rulePath p u k) deep' every' rows')
+      → ((ss : List Step) → length ss ≡ used → Packed number ss deep every rows → Packed number (ss ++ rulePath p own k) deep' every' rows')
       → start' ≡ bitOr start (2 ^ used)
       → yes' ≡ cond (accepts p k) (bitOr yes (2 ^ (used + stepCount p k))) yes
       → noes' ≡ cond (not (accepts p k)) (bitOr noes (2 ^ (used + stepCount p k))) noes
       → used' ≡ used + stepCount p k + 1
       → Grouped number lane b i (suc n) deep' every' start' yes' noes' used' rows'
   lane-added i n k z o deep every start y0 noes used deep' every' start' y1 noes' used' rows rows' g f es ey en eu =
-      let kp : Packed number (laid lane i n ++ rulePath p u (i + n)) deep' every' rows' =
-      subst (λ (m : ℕ). Packed number (laid lane i n ++ rulePath p u m) deep' every' rows') (sym z) (f (laid lane i n) (sym (g .used-is)) (g .packed)) in
+      let kp : Packed number (laid lane i n ++ rulePath p own (i + n)) deep' every' rows' =
+      subst (λ (m : ℕ). Packed number (laid lane i n ++ rulePath p own m) deep' every' rows') (sym z) (f (laid lane i n) (sym (g .used-is)) (g .packed)) in
       rw (es, ey, en, eu, ← z)
       (group-more number lane b i n deep every start y0 noes used rows g fair (ap (λ (m : ℕ). lane m .on) z ∙ o) deep' every' rows' kp
-      (stepCount p (i + n)) (sym (length-steps (passesOwn (policyOf p) u) p (stepsAt (i + n)) (stepCount p (i + n)) 0)))
+      (stepCount p (i + n)) (sym (length-steps (nameAmong p own) p (stepsAt (i + n)) (stepCount p (i + n)) 0)))
 
 pub not-not : (b : Bool) → not (not b) ≡ b
 not-not true = refl
@@ -488,7 +489,7 @@ module _ (b : ℕ) (fair : bitOk b ≡ true) where
   unfolding ruled
   general-decides q c w k x h g =
       let z : 0 + k ≡ k = omega arith in
-      rw (add-one k, z, g .counts, g .all c w) (sym (ruled-last q (c ++ (w ∷ [])) x h (q k .accept) 0 k .1))
+      rw (add-one k, z, g .on, g .all c w) (sym (ruled-last q (c ++ (w ∷ [])) x h (q k .accept) 0 k .1))
 
   pub general-at : (q : ℕ → Lane) (t : List ℕ) (i k x : ℕ) → x < 256 → 0 < k → General (q (k - 1)) → withRule x b (q (k - 1) .accept) ≡ ruled q b (chainOf t i) 0 k x
   unfolding chainTo
@@ -507,12 +508,12 @@ one-step : (mine : List ℕ → Bool) (p : List ℕ) (b n : ℕ) → n ≡ 1 →
 unfolding stepsFor
 one-step mine p b n e = let z : b + 0 * 32 ≡ b = omega arith in rw (e, z)
 
-pub general-path : (p : List ℕ) (u k : ℕ) → stepCount p k ≡ 1 → (getD p (stepsAt k) 0 ≡ 0 → ⊥) → getD (label (recAt p (stepsAt k))) 0 0 ≡ 42
-    → (c : List (List ℕ)) (x : List ℕ) → finds (rulePath p u k) (c ++ (x ∷ [])) ≡ true
-general-path p u k one far-off any c x =
-    let s = stepFor (passesOwn (policyOf p) u) (stepOf (recAt p (stepsAt k))) in
-    rw (one-step (passesOwn (policyOf p) u) p (stepsAt k) (stepCount p k) one)
-    (all-found s (sym (step-deep p u (stepsAt k) true (rw (ne-eqb _ _ far-off)))) (step-every p u (stepsAt k) any) c x)
+pub general-path : (p own : List ℕ) (k : ℕ) → stepCount p k ≡ 1 → (getD p (stepsAt k) 0 ≡ 0 → ⊥) → getD (label (recAt p (stepsAt k))) 0 0 ≡ 42
+    → (c : List (List ℕ)) (x : List ℕ) → finds (rulePath p own k) (c ++ (x ∷ [])) ≡ true
+general-path p own k one far-off any c x =
+    let s = stepFor (nameAmong p own) (stepOf (recAt p (stepsAt k))) in
+    rw (one-step (nameAmong p own) p (stepsAt k) (stepCount p k) one)
+    (all-found s (sym (step-deep p own (stepsAt k) true (rw (ne-eqb _ _ far-off)))) (step-every p own (stepsAt k) any) c x)
 
 pub above-zero : (k : ℕ) → (k ≡ 0 → ⊥) → 0 < k
 above-zero zero h = absurd (h refl)

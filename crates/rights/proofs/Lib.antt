@@ -5,6 +5,7 @@ pub mod LabelLaws
 pub mod Records
 pub mod Texts
 pub mod Held
+pub mod OwnNames
 pub mod Runs
 pub mod PathLaws
 pub mod PathTexts

@@ -1,12 +1,12 @@
 -- A group's steps in numbers: none, one step more, and the end of a path. Assumes nothing.
 use Prim.Native.Nat.{ℕ, suc, zero, _+_, _*_, _^_, _<_}
-use mathlib.Core.Bool.{Bool, true, false, _&&_, _||_, cond, and-false, or-true}
+use mathlib.Core.Bool.{Bool, true, false, _&&_, _||_, cond, and-false, or-false, or-true}
 use mathlib.Core.Path.{_≡_, refl, sym, ap, ap₂, _∙_}
 use mathlib.Core.List.{List, [], _∷_, _++_, append-assoc}
 use native.Mathlib.Nat.{add-zero, zero-add, add-suc, suc-add}
 use native.Mathlib.Numerals.{add-one}
 use native.Mathlib.Omega.{arith}
-use borrow.Author.Tests.{eq-eqb, ne-eqb, eqb-true, eqb-false, ltb-true}
+use borrow.Author.Tests.{eqb-true, eqb-false, ltb-true}
 use lib.Bits.{bitOr}
 use lib.Dec.{eqb, eqb·suc-suc, eqb·zero-suc, eqb·suc-zero}
 use lib.ListN.{length, getD, set, length-append, length-set}
@@ -15,12 +15,13 @@ use Rattle.rights.specs.Labels.{sameLabel}
 use Rattle.rights.specs.Path.{isDescendant}
 use Rattle.rights.specs.Rights.{Step, stepFor}
 use Rattle.rights.specs.Table.{recAt, label}
-use Rattle.rights.specs.Policy.{Rule, passesOwn, some, uses}
-use Rattle.rights.specs.PolicyBytes.{policyOf, nameAt, stepOf, axisOf, ruleCount, stepCount, stepsAt, pathOf, Subject}
+use Rattle.rights.specs.Policy.{Rule, some, uses}
+use Rattle.rights.specs.PolicyBytes.{nameAt, stepOf, axisOf, ruleCount, stepCount, stepsAt, pathOf}
+use Rattle.rights.specs.Roles.{nameAmong}
 use Rattle.rights.specs.Automaton.{deeps, passedBy, stepsFor}
-use Rattle.rights.specs.Groups.{has, noted, never, Packed, Noted}
+use Rattle.rights.specs.Groups.{has, never, Packed, Noted, Known}
 use Rattle.rights.specs.Vocabulary.{wordAt, numberIn, Sorted}
-use Rattle.rights.proofs.Held.{own-held}
+use Rattle.rights.proofs.OwnNames.{some-at}
 use Rattle.rights.proofs.LabelLaws.{same-self}
 use Rattle.rights.proofs.PolicyWords.{step-found, rule-found, uses-label}
 use Rattle.rights.proofs.Lanes.{length-steps}
@@ -109,42 +110,67 @@ module _ (number : List ℕ → ℕ) (ss : List Step) (deep every : ℕ) (rows :
         go false false true = refl
         go false false false = refl
 
-    -- a step that the labels with one number pass
-    module _ (h : ℕ) (room : h < 2113) (f : (x : List ℕ) → s .passed x ≡ eqb (number x) h) where
-      abbrev rows' : List ℕ
-      rows' = set rows h (bitOr (getD rows h 0) (2 ^ j))
+    -- a step that the labels of some rows pass
+    pub packed-noted : (rows' : List ℕ) (f : List ℕ → Bool) → Noted number rows rows' j f → ((x : List ℕ) → s .passed x ≡ f x)
+        → (d : Bool) → d ≡ s .deep → Packed number (ss ++ (s ∷ [])) (cond d (bitOr deep (2 ^ j)) deep) every rows'
+    packed-noted rows' f w same d e = record {
+      long = w .long ∙ k .long;
+      deep-bits = deep-more d e;
+      row = λ x i. passed-new x i
+          ∙ ap (λ (b : Bool). (has every i || has (getD rows (number x) 0) i) || (eqb i j && b)) (same x)
+          ∙ go (has every i) (has (getD rows (number x) 0) i) (eqb i j) (f x)
+          ∙ ap (λ (b : Bool). has every i || b) (sym (w .row x i));
+    }
+      where
+        go : (a r b n : Bool) → (a || r) || (b && n) ≡ a || (r || (n && b))
+        go true r b n = refl
+        go false true b n = refl
+        go false false true true = refl
+        go false false true false = refl
+        go false false false true = refl
+        go false false false false = refl
 
-      rows-more : (g i : ℕ) → has (getD rows' g 0) i ≡ has (getD rows g 0) i || (eqb g h && eqb i j)
-      rows-more g i =
+-- Rows with bit j noted for no label, for one more test, and for the label of one word
+
+module _ (number : List ℕ → ℕ) (rows : List ℕ) (j : ℕ) where
+  pub noted-none : (f : List ℕ → Bool) → ((x : List ℕ) → f x ≡ false) → Noted number rows rows j f
+  noted-none f e = record { long = refl; row = λ x i. rw (e x) (sym (or-false (has (getD rows (number x) 0) i))) }
+
+  pub noted-alike : (rows' : List ℕ) (f g : List ℕ → Bool) → ((x : List ℕ) → f x ≡ g x) → Noted number rows rows' j f → Noted number rows rows' j g
+  noted-alike rows' f g e a = record { long = a .long; row = λ x i. a .row x i ∙ ap (λ (v : Bool). has (getD rows (number x) 0) i || (v && eqb i j)) (e x) }
+
+  pub noted-then : (rows' rows'' : List ℕ) (f g h : List ℕ → Bool) → ((x : List ℕ) → h x ≡ f x || g x)
+      → Noted number rows rows' j f → Noted number rows' rows'' j g → Noted number rows rows'' j h
+  noted-then rows' rows'' f g h e a b = record {
+    long = b .long ∙ a .long;
+    row = λ x i. b .row x i ∙ ap (λ (v : Bool). v || (g x && eqb i j)) (a .row x i)
+        ∙ go (has (getD rows (number x) 0) i) (f x) (g x) (eqb i j) ∙ ap (λ (v : Bool). has (getD rows (number x) 0) i || (v && eqb i j)) (sym (e x));
+  }
+    where
+      go : (r a b n : Bool) → (r || (a && n)) || (b && n) ≡ r || ((a || b) && n)
+      go true a b n = refl
+      go false true b true = refl
+      go false true true false = refl
+      go false true false false = refl
+      go false false b n = refl
+
+module _ (p ws : List ℕ) (n : ℕ) (w rows : List ℕ) (h j : ℕ) (room : h < length rows) (e : h ≡ numberIn p ws n w) (word : 0 < numberIn p ws n w) where
+  pub noted-label : Noted (numberIn p ws n) rows (set rows h (bitOr (getD rows h 0) (2 ^ j))) j (λ x. sameLabel x w)
+  noted-label = record {
+    long = length-set rows h _;
+    row = λ x i. more (numberIn p ws n x) i
+        ∙ ap (λ (b : Bool). has (getD rows (numberIn p ws n x) 0) i || (b && eqb i j)) (ap (eqb (numberIn p ws n x)) e ∙ number-decides (wordAt p ws) n x w word);
+  }
+    where
+      more : (g i : ℕ) → has (getD (set rows h (bitOr (getD rows h 0) (2 ^ j))) g 0) i ≡ has (getD rows g 0) i || (eqb g h && eqb i j)
+      more g i =
           byCase (eqb g h)
-          (λ e. ap (λ (n : ℕ). has (getD rows' n 0) i) (eqb-true g h e)
-          ∙ ap (λ (n : ℕ). has n i) (getD-set-same rows h _ 0 (omega (arith, k .long)))
+          (λ q. ap (λ (z : ℕ). has (getD (set rows h (bitOr (getD rows h 0) (2 ^ j))) z 0) i) (eqb-true g h q)
+          ∙ ap (λ (z : ℕ). has z i) (getD-set-same rows h _ 0 room)
           ∙ has-or (getD rows h 0) (2 ^ j) i
-          ∙ ap₂ (λ (n : ℕ) (b : Bool). has (getD rows n 0) i || b) (sym (eqb-true g h e)) (has-one j i)
-          ∙ rw e)
-          (λ e. ap (λ (n : ℕ). has n i) (getD-set-other rows h g _ 0 (eqb-false g h e)) ∙ last (has (getD rows g 0) i) ∙ rw e)
-        where
-          last : (b : Bool) → b ≡ b || false
-          last true = refl
-          last false = refl
-
-      pub packed-row : (d : Bool) → d ≡ s .deep → Packed number (ss ++ (s ∷ [])) (cond d (bitOr deep (2 ^ j)) deep) every rows'
-      packed-row d e = record {
-        long = length-set rows h _ ∙ k .long;
-        deep-bits = deep-more d e;
-        row = λ x i. passed-new x i
-            ∙ ap (λ (b : Bool). (has every i || has (getD rows (number x) 0) i) || (eqb i j && b)) (f x)
-            ∙ go (has every i) (has (getD rows (number x) 0) i) (eqb i j) (eqb (number x) h)
-            ∙ ap (λ (b : Bool). has every i || b) (sym (rows-more (number x) i));
-      }
-        where
-          go : (a r b n : Bool) → (a || r) || (b && n) ≡ a || (r || (n && b))
-          go true r b n = refl
-          go false true b n = refl
-          go false false true true = refl
-          go false false true false = refl
-          go false false false true = refl
-          go false false false false = refl
+          ∙ ap₂ (λ (z : ℕ) (b : Bool). has (getD rows z 0) i || b) (sym (eqb-true g h q)) (has-one j i)
+          ∙ rw q)
+          (λ q. ap (λ (z : ℕ). has z i) (getD-set-other rows h g _ 0 (eqb-false g h q)) ∙ sym (or-false (has (getD rows g 0) i)) ∙ rw q)
 
 -- the steps of a path, one more at the end
 pub steps-more : (mine : List ℕ → Bool) (p : List ℕ) (b n i : ℕ) → stepsFor mine p b (suc n) i ≡ stepsFor mine p b n i ++ (stepFor mine (stepOf (recAt p (b + (i + n) * 32))) ∷ [])
@@ -154,50 +180,40 @@ steps-more mine p b (suc n) i =
     ap (λ (r : List Step). stepFor mine (stepOf (recAt p (b + i * 32))) ∷ r)
     (steps-more mine p b n (suc i) ∙ ap (λ (k : ℕ). stepsFor mine p b n (suc i) ++ (stepFor mine (stepOf (recAt p (b + k * 32))) ∷ [])) (suc-add i n ∙ sym (add-suc i n)))
 
--- the words for a subject's rights have its name, and the label of each step that names one
-module _ (p : List ℕ) (u : ℕ) (ws : List ℕ) (n : ℕ) (k : Sorted p u ws n) where
-  pub sorted-name : 0 < numberIn p ws n (nameAt p u)
-  sorted-name = ltb-true 0 _ (k .holds (nameAt p u) ∙ rw (same-self (nameAt p u)))
+-- the words for a subject's rights have the name of each subject for which `$` stands, and the label of each step that names one
+module _ (p own ws : List ℕ) (n : ℕ) (k : Sorted p own ws n) where
+  pub sorted-name : (i : ℕ) → i < length own → 0 < numberIn p ws n (nameAt p (getD own i 0))
+  sorted-name i h =
+      let x = nameAt p (getD own i 0) in
+      let e : nameAmong p own x ≡ true = some-at (λ u. sameLabel x (nameAt p u)) own i h (same-self x) in
+      ltb-true 0 _ (k .holds x ∙ rw e)
 
-  pub sorted-step : (r j : ℕ) → r < ruleCount p → j < stepCount p r → Noted p ws n (stepsAt r + j * 32)
-  sorted-step r j h l any own =
+  pub sorted-step : (r j : ℕ) → r < ruleCount p → j < stepCount p r → Known p ws n (stepsAt r + j * 32)
+  sorted-step r j h l any own-sign =
       let rec = recAt p (stepsAt r + j * 32) in
       let x = label rec in
-      let one : some (uses false x) (pathOf p r) ≡ true = step-found p (uses false x) (stepsAt r) (stepCount p r) j l (uses-label x rec false any own refl ∙ same-self x) in
-      ltb-true 0 _ (k .holds x ∙ rw (rule-found p (λ (q : Rule). some (uses false x) (q .path)) (ruleCount p) r h one) (or-true (sameLabel x (nameAt p u))))
+      let one : some (uses false x) (pathOf p r) ≡ true = step-found p (uses false x) (stepsAt r) (stepCount p r) j l (uses-label x rec false any own-sign refl ∙ same-self x) in
+      ltb-true 0 _ (k .holds x ∙ rw (rule-found p (λ (q : Rule). some (uses false x) (q .path)) (ruleCount p) r h one) (or-true (nameAmong p own x)))
 
 -- a step of a policy: whether it goes to all descendants, and which labels pass it
-module _ (p : List ℕ) (u at : ℕ) where
+module _ (p own : List ℕ) (at : ℕ) where
+  abbrev mine : List ℕ → Bool
+  mine = nameAmong p own
+
   abbrev s : Step
-  s = stepFor (passesOwn (policyOf p) u) (stepOf (recAt p at))
+  s = stepFor mine (stepOf (recAt p at))
 
   pub step-deep : (d : Bool) → d ≡ isDescendant (axisOf (getD p at 0)) → d ≡ s .deep
   step-deep d e = e ∙ ap (λ (z : ℕ). isDescendant (axisOf z)) (sym (first-at p at))
 
   pub step-every : getD (label (recAt p at)) 0 0 ≡ 42 → (x : List ℕ) → s .passed x ≡ true
-  step-every e x = passes-any (passesOwn (policyOf p) u) (label (recAt p at)) x e
+  step-every e x = passes-any mine (label (recAt p at)) x e
 
-  -- by the number of its text, or of the subject's name for `$`
-  pub step-row : Subject p u → (ws : List ℕ) (n : ℕ) → Sorted p u ws n → Noted p ws n at → (getD (label (recAt p at)) 0 0 ≡ 42 → ⊥)
-      → (h : ℕ) → h ≡ numberIn p ws n (noted (nameAt p u) (label (recAt p at))) → (x : List ℕ) → s .passed x ≡ eqb (numberIn p ws n x) h
-  step-row sub ws n k text other h e x =
-      let w = label (recAt p at) in
-      let mine = passesOwn (policyOf p) u in
-      byCase (eqb (getD w 0 0) 36)
-      (λ d. passes-mine mine w x other (eqb-true _ _ d)
-      ∙ own-held p u (sub .declared) x
-      ∙ sym (number-decides (wordAt p ws) n x (nameAt p u) (sorted-name p u ws n k))
-      ∙ ap (eqb (numberIn p ws n x)) (sym (e ∙ rw d)))
-      (λ d. passes-label mine w x other (eqb-false _ _ d)
-      ∙ sym (number-decides (wordAt p ws) n x w (text other (eqb-false _ _ d)))
-      ∙ ap (eqb (numberIn p ws n x)) (sym (e ∙ rw d)))
+  pub step-own : (getD (label (recAt p at)) 0 0 ≡ 42 → ⊥) → getD (label (recAt p at)) 0 0 ≡ 36 → (x : List ℕ) → s .passed x ≡ nameAmong p own x
+  step-own other e x = passes-mine mine (label (recAt p at)) x other e
 
-module _ (name w : List ℕ) where
-  pub noted-name : getD w 0 0 ≡ 36 → noted name w ≡ name
-  noted-name e = rw (eq-eqb _ _ e)
-
-  pub noted-text : (getD w 0 0 ≡ 36 → ⊥) → noted name w ≡ w
-  noted-text h = rw (ne-eqb _ _ h)
+  pub step-label : (getD (label (recAt p at)) 0 0 ≡ 42 → ⊥) → (getD (label (recAt p at)) 0 0 ≡ 36 → ⊥) → (x : List ℕ) → s .passed x ≡ sameLabel x (label (recAt p at))
+  step-label other e x = passes-label mine (label (recAt p at)) x other e
 
 -- one step of a path more behind other steps
 module _ (mine : List ℕ → Bool) (p : List ℕ) (b j : ℕ) (ss : List Step) where

@@ -7,7 +7,8 @@ use mathlib.Core.List.{List, [], _∷_, _++_}
 use lib.Bits.{bitAnd}
 use lib.Dec.{eqb, ltb}
 use lib.ListN.{length, getD, replicate}
-use Rattle.rights.specs.PolicyBytes.{ruleCount, rightBit, whose, accepts, Subject}
+use Rattle.rights.specs.PolicyBytes.{ruleCount, rightBit, whose, accepts}
+use Rattle.rights.specs.Roles.{Subjects}
 use Rattle.rights.specs.Policy.{Right, position, read, insert, update, delete, bitOf}
 use Rattle.rights.specs.Rights.{Step, withRule, tried, finds, holds}
 use Rattle.rights.specs.Automaton.{value, deeps, passedBy, rulePath, Sound}
@@ -18,9 +19,10 @@ use Rattle.rights.specs.Vocabulary.{numberIn, Sorted}
 abbrev pub has : ℕ → ℕ → Bool
 has m j = eqb (m / 2 ^ j % 2) 1
 
--- the label by whose number a step with the text w is noted: `$` by the subject's name
-abbrev pub noted : List ℕ → List ℕ → List ℕ
-noted name w = cond (eqb (getD w 0 0) 36) name w
+-- bit j is set in the rows of the labels that f passes; nothing else is changed
+pub record Noted (number : List ℕ → ℕ) (rows rows' : List ℕ) (j : ℕ) (f : List ℕ → Bool) : Type 0 where
+  pub long : length rows' ≡ length rows
+  pub row : (x : List ℕ) (i : ℕ) → has (getD rows' (number x) 0) i ≡ has (getD rows (number x) 0) i || (f x && eqb i j)
 
 -- a rule: whether it counts, its path, and what it says
 pub record Lane : Type 0 where
@@ -28,11 +30,15 @@ pub record Lane : Type 0 where
   pub path : List Step
   pub accept : Bool
 
--- rule k, for subject u with these roles and the right with bit b
-abbrev pub laneAt : List ℕ → ℕ → List ℕ → ℕ → ℕ → Lane
-laneAt p u roles b k = record {
-  on = eqb (rightBit p k) b && not (eqb (getD roles (whose p k) 0) 0);
-  path = rulePath p u k;
+-- rule k counts for the right with bit b and a subject with these roles
+abbrev pub counts : List ℕ → List ℕ → ℕ → ℕ → Bool
+counts p roles b k = eqb (rightBit p k) b && not (eqb (getD roles (whose p k) 0) 0)
+
+-- rule k, for a subject with these roles, where `$` stands for the subjects own, and the right with bit b
+abbrev pub laneAt : List ℕ → List ℕ → List ℕ → ℕ → ℕ → Lane
+laneAt p own roles b k = record {
+  on = counts p roles b k;
+  path = rulePath p own k;
   accept = accepts p k;
 }
 
@@ -73,19 +79,19 @@ ruled q b c i (suc n) x = cond (q (i + n) .on) (tried (q (i + n) .path) c b (q (
 
 -- a rule that counts and finds every node
 pub record General (l : Lane) : Type 0 where
-  pub counts : l .on ≡ true
+  pub on : l .on ≡ true
   pub all : (c : List (List ℕ)) (x : List ℕ) → finds (l .path) (c ++ (x ∷ [])) ≡ true
 
 -- all rules of one right, if it is asked, and of the five rights in turn
-abbrev pub byRight : List ℕ → ℕ → List ℕ → List (List ℕ) → ℕ → ℕ → ℕ
-byRight p u roles c b x = ruled (laneAt p u roles b) b c 0 (ruleCount p) x
+abbrev pub byRight : List ℕ → List ℕ → List ℕ → List (List ℕ) → ℕ → ℕ → ℕ
+byRight p own roles c b x = ruled (laneAt p own roles b) b c 0 (ruleCount p) x
 
-abbrev pub byAsked : List ℕ → ℕ → List ℕ → List (List ℕ) → ℕ → Right → ℕ → ℕ
-byAsked p u roles c asked w x = cond (holds w asked) (byRight p u roles c (bitOf w) x) x
+abbrev pub byAsked : List ℕ → List ℕ → List ℕ → List (List ℕ) → ℕ → Right → ℕ → ℕ
+byAsked p own roles c asked w x = cond (holds w asked) (byRight p own roles c (bitOf w) x) x
 
-abbrev pub byFive : List ℕ → ℕ → List ℕ → List (List ℕ) → ℕ → ℕ → ℕ
-byFive p u roles c asked x =
-    byAsked p u roles c asked delete (byAsked p u roles c asked update (byAsked p u roles c asked insert (byAsked p u roles c asked read (byAsked p u roles c asked position x))))
+abbrev pub byFive : List ℕ → List ℕ → List ℕ → List (List ℕ) → ℕ → ℕ → ℕ
+byFive p own roles c asked x =
+    let by = byAsked p own roles c asked in by delete (by update (by insert (by read (by position x))))
 
 -- the later rule has the higher bit: the higher of the two numbers wins
 abbrev pub settled : ℕ → ℕ → ℕ → ℕ → ℕ
@@ -107,15 +113,15 @@ pub record Grouped (number : List ℕ → ℕ) (q : ℕ → Lane) (b i n : ℕ) 
   pub says : (m x : ℕ) (c : List (List ℕ)) → x < 256 → Agrees q i n c m → ruled q b c i n x ≡ settled b (bitAnd m yes) (bitAnd m noes) x
 
 -- the text of a step at a place is among the words, if it is a label
-abbrev pub Noted : List ℕ → List ℕ → ℕ → ℕ → Type 0
-Noted p ws n at =
+abbrev pub Known : List ℕ → List ℕ → ℕ → ℕ → Type 0
+Known p ws n at =
     (getD (label (recAt p at)) 0 0 ≡ 42 → ⊥) → (getD (label (recAt p at)) 0 0 ≡ 36 → ⊥) → 0 < numberIn p ws n (label (recAt p at))
 
--- what the work on a policy's groups asks: a sound policy, a subject of it, and its words
-pub record Ready (p : List ℕ) (u : ℕ) (ws : List ℕ) (n : ℕ) : Type 0 where
+-- what the work on a policy's groups asks: a sound policy, the subjects of it for which `$` stands, and the words
+pub record Ready (p own ws : List ℕ) (n : ℕ) : Type 0 where
   pub sound : Sound p
-  pub subject : Subject p u
-  pub sorted : Sorted p u ws n
+  pub subjects : Subjects p own
+  pub sorted : Sorted p own ws n
 
 -- the first n records of the table t with the numbers of their labels
 pub record Numbered (p ws : List ℕ) (count : ℕ) (t : List ℕ) (n : ℕ) (numbers : List ℕ) : Type 0 where

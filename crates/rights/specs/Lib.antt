@@ -3,7 +3,9 @@ pub mod Labels
 pub mod Table
 pub mod Path
 pub mod Policy
+pub mod Isa
 pub mod PolicyBytes
+pub mod Roles
 pub mod PathReader
 pub mod PathText
 pub mod Rights

@@ -11,7 +11,8 @@ use Rattle.rights.specs.declared.vocabulary.Spot.the-variants.{Found, Mi
 use Rattle.rights.specs.Labels.{sameLabel, foldedLabel}
 use Rattle.rights.specs.Table.{recAt, label}
 use Rattle.rights.specs.Policy.{Rule, some, uses, policyWord}
-use Rattle.rights.specs.PolicyBytes.{policyOf, ruleCount, rulesFrom, nameAt, Text}
+use Rattle.rights.specs.PolicyBytes.{policyOf, ruleCount, rulesFrom, Text}
+use Rattle.rights.specs.Roles.{nameAmong}
 
 -- Which of two lists stands first, by the first place where they differ: 0 for the first list, 2 for the second, 1 where they are equal.
 unfoldable pub order : List ℕ → List ℕ → ℕ
@@ -69,10 +70,10 @@ pub record Added (p ws : List ℕ) (n : ℕ) (ws' : List ℕ) (n' : ℕ) (f : Li
 abbrev pub named : List ℕ → List ℕ → Bool
 named p x = some (λ (r : Rule). some (uses false x) (r .path)) (rulesFrom p (ruleCount p) 0)
 
--- The words for the rights of subject u: its name, and the labels that the rules name.
-pub record Sorted (p : List ℕ) (u : ℕ) (ws : List ℕ) (n : ℕ) : Type 0 where
+-- The words for a subject's rights: the names of the subjects for which `$` stands, and the labels that the rules name.
+pub record Sorted (p own ws : List ℕ) (n : ℕ) : Type 0 where
   pub words : Words p ws n
-  pub holds : (x : List ℕ) → isWord p ws n x ≡ sameLabel x (nameAt p u) || named p x
+  pub holds : (x : List ℕ) → isWord p ws n x ≡ nameAmong p own x || named p x
 
 -- The policy words, sorted (document 01, "Rights").
 pub record PolicyWords (p ws : List ℕ) (n : ℕ) : Type 0 where

@@ -24,14 +24,15 @@ ghost use lib.Bits.{bitOr};
 ghost use lib.Dec.{eqb};
 ghost use lib.ListN.{length, getD};
 ghost use Rattle.rights.specs.Path.{isDescendant};
-ghost use Rattle.rights.specs.Policy.{passesOwn};
+ghost use Rattle.rights.specs.Labels.{sameLabel};
+ghost use Rattle.rights.specs.Roles.{nameAmong};
 ghost use Rattle.rights.specs.Table.{recAt, label};
-ghost use Rattle.rights.specs.PolicyBytes.{policyOf, ruleCount, stepCount, stepOf, nameAt, accepts, axisOf, Text, Subject};
+ghost use Rattle.rights.specs.PolicyBytes.{ruleCount, stepCount, stepOf, accepts, axisOf, Text};
 ghost use Rattle.rights.specs.PolicyCheck.{bitOk};
 ghost use Rattle.rights.specs.Rights.{Step, stepFor, withRule};
 ghost use Rattle.rights.specs.Automaton.{value, moved, stepsFor, rulePath, chainOf, Each, Steps, Sound};
 ghost use Rattle.rights.specs.Vocabulary.{numberIn, Words};
-ghost use Rattle.rights.specs.Groups.{noted, laneAt, laid, ruled, byRight, byFive, settled, Packed, Grouped, Ready, Numbered, Noted, General};
+ghost use Rattle.rights.specs.Groups.{counts, laneAt, laid, ruled, byRight, byFive, settled, Packed, Grouped, Ready, Numbered, Noted, Known, General};
 
 // The bit at a place.
 fn one_at(j: usize) -> u64
@@ -63,15 +64,26 @@ fn is_deep(policy: &[u8], step: usize) -> bool
     true
 }
 
-// The number of the label by which the step at byte `step` is noted: its text, or the subject's name for `$`.
-fn row_of(policy: &[u8], u: usize, words: &[u32], n: usize, step: usize) -> usize
-    requires { ⌜ Words (now policy) (now words) n × Text (now policy) step × Subject (now policy) u ⌝ }
-    ensures { λ r. ⌜ (r ≡ numberIn (now (policy .entry)) (now (words .entry)) n (noted (nameAt (now (policy .entry)) u) (label (recAt (now (policy .entry)) step)))) × (r ≤ n) ⌝ }
+// Sets bit j in the row of the label of the record at byte `at`.
+fn note_label(policy: &[u8], words: &[u32], n: usize, at: usize, j: usize, rows: &mut [u64])
+    requires { ⌜ Words (now policy) (now words) n × Text (now policy) at × (0 < numberIn (now policy) (now words) n (label (recAt (now policy) at))) × (j ≤ 63) × (length (now rows) ≡ 2113) ⌝ }
+    ensures { λ _. ⌜ Noted (numberIn (now (policy .entry)) (now (words .entry)) n) (now (rows .entry)) (now (rows .exit)) j (λ (x : List ℕ). sameLabel x (label (recAt (now (policy .entry)) at))) ⌝ }
 {
-    if policy[step + LABEL_AT] == b'$' {
-        return number_of(policy, words, n, policy, SUBJECTS_AT + u * RECORD_BYTES);
+    let h = number_of(policy, words, n, policy, at);
+    rows[h] = rows[h] | one_at(j);
+}
+
+// Sets bit j in the rows of the names of these subjects.
+fn note_names(policy: &[u8], own: &[u8], words: &[u32], n: usize, j: usize, rows: &mut [u64])
+    requires { ⌜ Ready (now policy) (now own) (now words) n × (j ≤ 63) × (length (now rows) ≡ 2113) ⌝ }
+    ensures { λ _. ⌜ Noted (numberIn (now (policy .entry)) (now (words .entry)) n) (now (rows .entry)) (now (rows .exit)) j (nameAmong (now (policy .entry)) (now (own .entry))) ⌝ }
+{
+    let mut i = 0;
+    while i < own.len() {
+        let u = wide(own[i]);
+        note_label(policy, words, n, SUBJECTS_AT + u * RECORD_BYTES, j, rows);
+        i += 1;
     }
-    number_of(policy, words, n, policy, step)
 }
 
 // Steps in numbers: those that go to all descendants, and those that all labels pass.
@@ -83,7 +95,7 @@ struct Marks {
 // The marks with the step at byte `step` as that of bit j.
 fn with_step(
     policy: &[u8],
-    u: usize,
+    own: &[u8],
     words: &[u32],
     n: usize,
     step: usize,
@@ -91,18 +103,25 @@ fn with_step(
     m: Marks,
     rows: &mut [u64],
 ) -> Marks
-    requires { ⌜ Ready (now policy) u (now words) n × Text (now policy) step × Noted (now policy) (now words) n step × (j ≤ 63) × (length (now rows) ≡ 2113) ⌝ }
-    ensures { λ r. ⌜ ((ss : List Step) → length ss ≡ j → Packed (numberIn (now (policy .entry)) (now (words .entry)) n) ss (m .deep) (m .every) (now (rows .entry)) → Packed (numberIn (now (policy .entry)) (now (words .entry)) n) (ss ++ (stepFor (passesOwn (policyOf (now (policy .entry))) u) (stepOf (recAt (now (policy .entry)) step)) ∷ [])) (r .deep) (r .every) (now (rows .exit))) × (length (now (rows .exit)) ≡ 2113) ⌝ }
+    requires { ⌜ Ready (now policy) (now own) (now words) n × Text (now policy) step × Known (now policy) (now words) n step × (j ≤ 63) × (length (now rows) ≡ 2113) ⌝ }
+    ensures { λ r. ⌜ ((ss : List Step) → length ss ≡ j → Packed (numberIn (now (policy .entry)) (now (words .entry)) n) ss (m .deep) (m .every) (now (rows .entry)) → Packed (numberIn (now (policy .entry)) (now (words .entry)) n) (ss ++ (stepFor (nameAmong (now (policy .entry)) (now (own .entry))) (stepOf (recAt (now (policy .entry)) step)) ∷ [])) (r .deep) (r .every) (now (rows .exit))) × (length (now (rows .exit)) ≡ 2113) ⌝ }
 {
     let deep = mark_if(is_deep(policy, step), m.deep, j);
-    if policy[step + LABEL_AT] == b'*' {
+    let first = policy[step + LABEL_AT];
+    if first == b'*' {
         return Marks {
             deep,
             every: m.every | one_at(j),
         };
     }
-    let h = row_of(policy, u, words, n, step);
-    rows[h] = rows[h] | one_at(j);
+    if first == b'$' {
+        note_names(policy, own, words, n, j, rows);
+        return Marks {
+            deep,
+            every: m.every,
+        };
+    }
+    note_label(policy, words, n, step, j, rows);
     Marks {
         deep,
         every: m.every,
@@ -112,7 +131,7 @@ fn with_step(
 // The marks with the count steps at byte b, from bit `used` on.
 fn with_path(
     policy: &[u8],
-    u: usize,
+    own: &[u8],
     words: &[u32],
     n: usize,
     b: usize,
@@ -121,22 +140,31 @@ fn with_path(
     before: Marks,
     rows: &mut [u64],
 ) -> Marks
-    requires { ⌜ Ready (now policy) u (now words) n × Steps (now policy) b count × ((j : ℕ) → j < count → Noted (now policy) (now words) n (b + j * 32)) × (used + count ≤ 62) × (length (now rows) ≡ 2113) ⌝ }
-    ensures { λ r. ⌜ ((ss : List Step) → length ss ≡ used → Packed (numberIn (now (policy .entry)) (now (words .entry)) n) ss (before .deep) (before .every) (now (rows .entry)) → Packed (numberIn (now (policy .entry)) (now (words .entry)) n) (ss ++ stepsFor (passesOwn (policyOf (now (policy .entry))) u) (now (policy .entry)) b count 0) (r .deep) (r .every) (now (rows .exit))) × (length (now (rows .exit)) ≡ 2113) ⌝ }
+    requires { ⌜ Ready (now policy) (now own) (now words) n × Steps (now policy) b count × ((j : ℕ) → j < count → Known (now policy) (now words) n (b + j * 32)) × (used + count ≤ 62) × (length (now rows) ≡ 2113) ⌝ }
+    ensures { λ r. ⌜ ((ss : List Step) → length ss ≡ used → Packed (numberIn (now (policy .entry)) (now (words .entry)) n) ss (before .deep) (before .every) (now (rows .entry)) → Packed (numberIn (now (policy .entry)) (now (words .entry)) n) (ss ++ stepsFor (nameAmong (now (policy .entry)) (now (own .entry))) (now (policy .entry)) b count 0) (r .deep) (r .every) (now (rows .exit))) × (length (now (rows .exit)) ≡ 2113) ⌝ }
 {
     let mut m = before;
     let mut j = 0;
     while j < count {
-        m = with_step(policy, u, words, n, b + j * RECORD_BYTES, used + j, m, rows);
+        m = with_step(
+            policy,
+            own,
+            words,
+            n,
+            b + j * RECORD_BYTES,
+            used + j,
+            m,
+            rows,
+        );
         j += 1;
     }
     m
 }
 
 // Whether rule k counts: it is for this right, and for one of these roles.
-fn counts(policy: &[u8], u: usize, roles: &[u8; 64], right: u8, k: usize) -> bool
+fn counts(policy: &[u8], roles: &[u8; 64], right: u8, k: usize) -> bool
     requires { ⌜ Sound (now policy) × (k < ruleCount (now policy)) ⌝ }
-    ensures { λ r. ⌜ r ≡ laneAt (now (policy .entry)) u (now (roles .entry)) right k .on ⌝ }
+    ensures { λ r. ⌜ r ≡ counts (now (policy .entry)) (now (roles .entry)) right k ⌝ }
 {
     let a = RULES_AT + k * RULE_BYTES;
     if policy[a + 1] != right {
@@ -147,32 +175,25 @@ fn counts(policy: &[u8], u: usize, roles: &[u8; 64], right: u8, k: usize) -> boo
 }
 
 // The bits that rule k takes: one a step and one for the end, and none where it does not count.
-fn size_of(policy: &[u8], u: usize, roles: &[u8; 64], right: u8, k: usize) -> usize
+fn size_of(policy: &[u8], roles: &[u8; 64], right: u8, k: usize) -> usize
     requires { ⌜ Sound (now policy) × (k < ruleCount (now policy)) ⌝ }
-    ensures { λ r. ⌜ (r ≡ cond (laneAt (now (policy .entry)) u (now (roles .entry)) right k .on) (suc (stepCount (now (policy .entry)) k)) 0) × (r ≤ 17) ⌝ }
+    ensures { λ r. ⌜ (r ≡ cond (counts (now (policy .entry)) (now (roles .entry)) right k) (suc (stepCount (now (policy .entry)) k)) 0) × (r ≤ 17) ⌝ }
 {
-    if counts(policy, u, roles, right, k) {
+    if counts(policy, roles, right, k) {
         return wide(policy[RULES_AT + k * RULE_BYTES + 3]) + 1;
     }
     0
 }
 
 // The end of a group that starts at rule `from`: as many rules as fit into 63 bits.
-fn group_end(
-    policy: &[u8],
-    u: usize,
-    roles: &[u8; 64],
-    right: u8,
-    from: usize,
-    count: usize,
-) -> usize
+fn group_end(policy: &[u8], roles: &[u8; 64], right: u8, from: usize, count: usize) -> usize
     requires { ⌜ Sound (now policy) × (count ≡ ruleCount (now policy)) × (from < count) ⌝ }
-    ensures { λ r. ⌜ (from < r) × (r ≤ count) × (length (laid (laneAt (now (policy .entry)) u (now (roles .entry)) right) from (r - from)) ≤ 63) ⌝ }
+    ensures { λ r. ⌜ (from < r) × (r ≤ count) × ((own : List ℕ) → length (laid (laneAt (now (policy .entry)) own (now (roles .entry)) right) from (r - from)) ≤ 63) ⌝ }
 {
     let mut used = 0;
     let mut k = from;
     while k < count {
-        let size = size_of(policy, u, roles, right, k);
+        let size = size_of(policy, roles, right, k);
         if 63 < used + size {
             return k;
         }
@@ -195,15 +216,15 @@ struct Group {
 // The group with rule k.
 fn with_rule(
     policy: &[u8],
-    u: usize,
+    own: &[u8],
     words: &[u32],
     n: usize,
     k: usize,
     g: Group,
     rows: &mut [u64],
 ) -> Group
-    requires { ⌜ Ready (now policy) u (now words) n × (k < ruleCount (now policy)) × (g .used + stepCount (now policy) k ≤ 62) × (length (now rows) ≡ 2113) ⌝ }
-    ensures { λ r. ⌜ ((ss : List Step) → length ss ≡ g .used → Packed (numberIn (now (policy .entry)) (now (words .entry)) n) ss (g .deep) (g .every) (now (rows .entry)) → Packed (numberIn (now (policy .entry)) (now (words .entry)) n) (ss ++ rulePath (now (policy .entry)) u k) (r .deep) (r .every) (now (rows .exit))) × (r .start ≡ bitOr (g .start) (2 ^ g .used)) × (r .yes ≡ cond (accepts (now (policy .entry)) k) (bitOr (g .yes) (2 ^ (g .used + stepCount (now (policy .entry)) k))) (g .yes)) × (r .noes ≡ cond (not (accepts (now (policy .entry)) k)) (bitOr (g .noes) (2 ^ (g .used + stepCount (now (policy .entry)) k))) (g .noes)) × (r .used ≡ g .used + stepCount (now (policy .entry)) k + 1) × (length (now (rows .exit)) ≡ 2113) ⌝ }
+    requires { ⌜ Ready (now policy) (now own) (now words) n × (k < ruleCount (now policy)) × (g .used + stepCount (now policy) k ≤ 62) × (length (now rows) ≡ 2113) ⌝ }
+    ensures { λ r. ⌜ ((ss : List Step) → length ss ≡ g .used → Packed (numberIn (now (policy .entry)) (now (words .entry)) n) ss (g .deep) (g .every) (now (rows .entry)) → Packed (numberIn (now (policy .entry)) (now (words .entry)) n) (ss ++ rulePath (now (policy .entry)) (now (own .entry)) k) (r .deep) (r .every) (now (rows .exit))) × (r .start ≡ bitOr (g .start) (2 ^ g .used)) × (r .yes ≡ cond (accepts (now (policy .entry)) k) (bitOr (g .yes) (2 ^ (g .used + stepCount (now (policy .entry)) k))) (g .yes)) × (r .noes ≡ cond (not (accepts (now (policy .entry)) k)) (bitOr (g .noes) (2 ^ (g .used + stepCount (now (policy .entry)) k))) (g .noes)) × (r .used ≡ g .used + stepCount (now (policy .entry)) k + 1) × (length (now (rows .exit)) ≡ 2113) ⌝ }
 {
     let a = RULES_AT + k * RULE_BYTES;
     let count = wide(policy[a + 3]);
@@ -212,7 +233,17 @@ fn with_rule(
         deep: g.deep,
         every: g.every,
     };
-    let m = with_path(policy, u, words, n, a + STEPS_AT, count, used, before, rows);
+    let m = with_path(
+        policy,
+        own,
+        words,
+        n,
+        a + STEPS_AT,
+        count,
+        used,
+        before,
+        rows,
+    );
     let last = used + count;
     let yes = mark_if(policy[a] != 0, g.yes, last);
     let noes = mark_if(policy[a] == 0, g.noes, last);
@@ -230,7 +261,7 @@ fn with_rule(
 // The group with rule k, if it counts.
 fn with_lane(
     policy: &[u8],
-    u: usize,
+    own: &[u8],
     words: &[u32],
     n: usize,
     roles: &[u8; 64],
@@ -239,11 +270,11 @@ fn with_lane(
     g: Group,
     rows: &mut [u64],
 ) -> Group
-    requires { ⌜ Ready (now policy) u (now words) n × (k < ruleCount (now policy)) × (bitOk right ≡ true) × (g .used + cond (laneAt (now policy) u (now roles) right k .on) (suc (stepCount (now policy) k)) 0 ≤ 63) × (length (now rows) ≡ 2113) ⌝ }
-    ensures { λ r. ⌜ ((i size : ℕ) → i + size ≡ k → Grouped (numberIn (now (policy .entry)) (now (words .entry)) n) (laneAt (now (policy .entry)) u (now (roles .entry)) right) right i size (g .deep) (g .every) (g .start) (g .yes) (g .noes) (g .used) (now (rows .entry)) → Grouped (numberIn (now (policy .entry)) (now (words .entry)) n) (laneAt (now (policy .entry)) u (now (roles .entry)) right) right i (suc size) (r .deep) (r .every) (r .start) (r .yes) (r .noes) (r .used) (now (rows .exit))) × (length (now (rows .exit)) ≡ 2113) ⌝ }
+    requires { ⌜ Ready (now policy) (now own) (now words) n × (k < ruleCount (now policy)) × (bitOk right ≡ true) × (g .used + cond (counts (now policy) (now roles) right k) (suc (stepCount (now policy) k)) 0 ≤ 63) × (length (now rows) ≡ 2113) ⌝ }
+    ensures { λ r. ⌜ ((i size : ℕ) → i + size ≡ k → Grouped (numberIn (now (policy .entry)) (now (words .entry)) n) (laneAt (now (policy .entry)) (now (own .entry)) (now (roles .entry)) right) right i size (g .deep) (g .every) (g .start) (g .yes) (g .noes) (g .used) (now (rows .entry)) → Grouped (numberIn (now (policy .entry)) (now (words .entry)) n) (laneAt (now (policy .entry)) (now (own .entry)) (now (roles .entry)) right) right i (suc size) (r .deep) (r .every) (r .start) (r .yes) (r .noes) (r .used) (now (rows .exit))) × (length (now (rows .exit)) ≡ 2113) ⌝ }
 {
-    if counts(policy, u, roles, right, k) {
-        return with_rule(policy, u, words, n, k, g, rows);
+    if counts(policy, roles, right, k) {
+        return with_rule(policy, own, words, n, k, g, rows);
     }
     g
 }
@@ -263,7 +294,7 @@ fn clear_rows(rows: &mut [u64], n: usize)
 // The rules from `from` to `to` in numbers.
 fn make_group(
     policy: &[u8],
-    u: usize,
+    own: &[u8],
     words: &[u32],
     n: usize,
     roles: &[u8; 64],
@@ -272,8 +303,8 @@ fn make_group(
     to: usize,
     rows: &mut [u64],
 ) -> Group
-    requires { ⌜ Ready (now policy) u (now words) n × (from ≤ to) × (to ≤ ruleCount (now policy)) × (bitOk right ≡ true) × (length (laid (laneAt (now policy) u (now roles) right) from (to - from)) ≤ 63) × (length (now rows) ≡ 2113) ⌝ }
-    ensures { λ r. ⌜ Grouped (numberIn (now (policy .entry)) (now (words .entry)) n) (laneAt (now (policy .entry)) u (now (roles .entry)) right) right from (to - from) (r .deep) (r .every) (r .start) (r .yes) (r .noes) (r .used) (now (rows .exit)) ⌝ }
+    requires { ⌜ Ready (now policy) (now own) (now words) n × (from ≤ to) × (to ≤ ruleCount (now policy)) × (bitOk right ≡ true) × (length (laid (laneAt (now policy) (now own) (now roles) right) from (to - from)) ≤ 63) × (length (now rows) ≡ 2113) ⌝ }
+    ensures { λ r. ⌜ Grouped (numberIn (now (policy .entry)) (now (words .entry)) n) (laneAt (now (policy .entry)) (now (own .entry)) (now (roles .entry)) right) right from (to - from) (r .deep) (r .every) (r .start) (r .yes) (r .noes) (r .used) (now (rows .exit)) ⌝ }
 {
     clear_rows(rows, n + 1);
     let mut g = Group {
@@ -286,7 +317,7 @@ fn make_group(
     };
     let mut k = from;
     while k < to {
-        g = with_lane(policy, u, words, n, roles, right, k, g, rows);
+        g = with_lane(policy, own, words, n, roles, right, k, g, rows);
         k += 1;
     }
     g
@@ -325,7 +356,7 @@ fn settle(set: u8, right: u8, yes: u64, noes: u64) -> u8
 // Tries the rules from `from` to `to` on the first n nodes.
 fn try_group(
     policy: &[u8],
-    u: usize,
+    own: &[u8],
     words: &[u32],
     count: usize,
     roles: &[u8; 64],
@@ -338,10 +369,10 @@ fn try_group(
     rows: &mut [u64],
     out: &mut [u8],
 )
-    requires { ⌜ Ready (now policy) u (now words) count × (from ≤ to) × (to ≤ ruleCount (now policy)) × (bitOk right ≡ true) × (length (laid (laneAt (now policy) u (now roles) right) from (to - from)) ≤ 63) × (length (now rows) ≡ 2113) × Numbered (now policy) (now words) count (now t) n (now numbers) × (n ≤ length (now out)) ⌝ }
-    ensures { λ _. ⌜ (length (now (rows .exit)) ≡ 2113) × Each n (now (out .entry)) (now (out .exit)) (λ (i x : ℕ). ruled (laneAt (now (policy .entry)) u (now (roles .entry)) right) right (chainOf (now (t .entry)) i) from (to - from) x) ⌝ }
+    requires { ⌜ Ready (now policy) (now own) (now words) count × (from ≤ to) × (to ≤ ruleCount (now policy)) × (bitOk right ≡ true) × (length (laid (laneAt (now policy) (now own) (now roles) right) from (to - from)) ≤ 63) × (length (now rows) ≡ 2113) × Numbered (now policy) (now words) count (now t) n (now numbers) × (n ≤ length (now out)) ⌝ }
+    ensures { λ _. ⌜ (length (now (rows .exit)) ≡ 2113) × Each n (now (out .entry)) (now (out .exit)) (λ (i x : ℕ). ruled (laneAt (now (policy .entry)) (now (own .entry)) (now (roles .entry)) right) right (chainOf (now (t .entry)) i) from (to - from) x) ⌝ }
 {
-    let g = make_group(policy, u, words, count, roles, right, from, to, rows);
+    let g = make_group(policy, own, words, count, roles, right, from, to, rows);
     if g.used == 0 {
         return;
     }
@@ -363,9 +394,9 @@ fn try_group(
 }
 
 // Whether rule k counts and is for all nodes: its path is `//*`.
-fn is_general(policy: &[u8], u: usize, roles: &[u8; 64], right: u8, k: usize) -> bool
+fn is_general(policy: &[u8], roles: &[u8; 64], right: u8, k: usize) -> bool
     requires { ⌜ Sound (now policy) × (k < ruleCount (now policy)) ⌝ }
-    ensures { λ r. ⌜ (r ≡ true → General (laneAt (now (policy .entry)) u (now (roles .entry)) right k)) ⌝ }
+    ensures { λ r. ⌜ (r ≡ true → (own : List ℕ) → General (laneAt (now (policy .entry)) own (now (roles .entry)) right k)) ⌝ }
 {
     let a = RULES_AT + k * RULE_BYTES;
     if policy[a + 3] != 1 {
@@ -377,17 +408,17 @@ fn is_general(policy: &[u8], u: usize, roles: &[u8; 64], right: u8, k: usize) ->
     if policy[a + STEPS_AT + LABEL_AT] != b'*' {
         return false;
     }
-    counts(policy, u, roles, right, k)
+    counts(policy, roles, right, k)
 }
 
 // One past the last rule that is for all nodes, or 0: what the rules before it say of the right is overridden.
-fn general_end(policy: &[u8], u: usize, roles: &[u8; 64], right: u8, count: usize) -> usize
+fn general_end(policy: &[u8], roles: &[u8; 64], right: u8, count: usize) -> usize
     requires { ⌜ Sound (now policy) × (count ≡ ruleCount (now policy)) ⌝ }
-    ensures { λ r. ⌜ (r ≤ count) × (0 < r → General (laneAt (now (policy .entry)) u (now (roles .entry)) right (r - 1))) ⌝ }
+    ensures { λ r. ⌜ (r ≤ count) × (0 < r → (own : List ℕ) → General (laneAt (now (policy .entry)) own (now (roles .entry)) right (r - 1))) ⌝ }
 {
     let mut k = count;
     while 0 < k {
-        if is_general(policy, u, roles, right, k - 1) {
+        if is_general(policy, roles, right, k - 1) {
             return k;
         }
         k -= 1;
@@ -410,7 +441,6 @@ fn rule_all(right: u8, accept: bool, n: usize, out: &mut [u8])
 // Tries the rules before rule k, the last of which is for all nodes, on the first n nodes.
 fn try_general(
     policy: &[u8],
-    u: usize,
     roles: &[u8; 64],
     right: u8,
     k: usize,
@@ -418,8 +448,8 @@ fn try_general(
     n: usize,
     out: &mut [u8],
 )
-    requires { ⌜ Sound (now policy) × (bitOk right ≡ true) × (k ≤ ruleCount (now policy)) × (0 < k → General (laneAt (now policy) u (now roles) right (k - 1))) × (n ≤ length (now out)) ⌝ }
-    ensures { λ _. ⌜ Each n (now (out .entry)) (now (out .exit)) (λ (i x : ℕ). ruled (laneAt (now (policy .entry)) u (now (roles .entry)) right) right (chainOf (now (t .entry)) i) 0 k x) ⌝ }
+    requires { ⌜ Sound (now policy) × (bitOk right ≡ true) × (k ≤ ruleCount (now policy)) × (0 < k → (own : List ℕ) → General (laneAt (now policy) own (now roles) right (k - 1))) × (n ≤ length (now out)) ⌝ }
+    ensures { λ _. ⌜ ((own : List ℕ) → Each n (now (out .entry)) (now (out .exit)) (λ (i x : ℕ). ruled (laneAt (now (policy .entry)) own (now (roles .entry)) right) right (chainOf (now (t .entry)) i) 0 k x)) ⌝ }
 {
     if k == 0 {
         return;
@@ -431,7 +461,7 @@ fn try_general(
 // Tries all rules of one right on the first n nodes.
 fn try_right(
     policy: &[u8],
-    u: usize,
+    own: &[u8],
     words: &[u32],
     count: usize,
     roles: &[u8; 64],
@@ -442,17 +472,17 @@ fn try_right(
     rows: &mut [u64],
     out: &mut [u8],
 )
-    requires { ⌜ Ready (now policy) u (now words) count × (bitOk right ≡ true) × (length (now rows) ≡ 2113) × Numbered (now policy) (now words) count (now t) n (now numbers) × (n ≤ length (now out)) ⌝ }
-    ensures { λ _. ⌜ (length (now (rows .exit)) ≡ 2113) × Each n (now (out .entry)) (now (out .exit)) (λ (i x : ℕ). ruled (laneAt (now (policy .entry)) u (now (roles .entry)) right) right (chainOf (now (t .entry)) i) 0 (ruleCount (now (policy .entry))) x) ⌝ }
+    requires { ⌜ Ready (now policy) (now own) (now words) count × (bitOk right ≡ true) × (length (now rows) ≡ 2113) × Numbered (now policy) (now words) count (now t) n (now numbers) × (n ≤ length (now out)) ⌝ }
+    ensures { λ _. ⌜ (length (now (rows .exit)) ≡ 2113) × Each n (now (out .entry)) (now (out .exit)) (λ (i x : ℕ). ruled (laneAt (now (policy .entry)) (now (own .entry)) (now (roles .entry)) right) right (chainOf (now (t .entry)) i) 0 (ruleCount (now (policy .entry))) x) ⌝ }
 {
     let rules = wide(policy[2]);
-    let mut k = general_end(policy, u, roles, right, rules);
-    try_general(policy, u, roles, right, k, t, n, out);
+    let mut k = general_end(policy, roles, right, rules);
+    try_general(policy, roles, right, k, t, n, out);
     while k < rules {
-        let to = group_end(policy, u, roles, right, k, rules);
+        let to = group_end(policy, roles, right, k, rules);
         try_group(
             policy,
-            u,
+            own,
             words,
             count,
             roles,
@@ -473,7 +503,7 @@ fn try_right(
 fn try_asked(
     asked: u8,
     policy: &[u8],
-    u: usize,
+    own: &[u8],
     words: &[u32],
     count: usize,
     roles: &[u8; 64],
@@ -484,13 +514,13 @@ fn try_asked(
     rows: &mut [u64],
     out: &mut [u8],
 )
-    requires { ⌜ Ready (now policy) u (now words) count × (bitOk right ≡ true) × (length (now rows) ≡ 2113) × Numbered (now policy) (now words) count (now t) n (now numbers) × (n ≤ length (now out)) ⌝ }
-    ensures { λ _. ⌜ (length (now (rows .exit)) ≡ 2113) × Each n (now (out .entry)) (now (out .exit)) (λ (i x : ℕ). cond (eqb (asked / right % 2) 1) (byRight (now (policy .entry)) u (now (roles .entry)) (chainOf (now (t .entry)) i) right x) x) ⌝ }
+    requires { ⌜ Ready (now policy) (now own) (now words) count × (bitOk right ≡ true) × (length (now rows) ≡ 2113) × Numbered (now policy) (now words) count (now t) n (now numbers) × (n ≤ length (now out)) ⌝ }
+    ensures { λ _. ⌜ (length (now (rows .exit)) ≡ 2113) × Each n (now (out .entry)) (now (out .exit)) (λ (i x : ℕ). cond (eqb (asked / right % 2) 1) (byRight (now (policy .entry)) (now (own .entry)) (now (roles .entry)) (chainOf (now (t .entry)) i) right x) x) ⌝ }
 {
     if holds_right(asked, right) {
         try_right(
             policy,
-            u,
+            own,
             words,
             count,
             roles,
@@ -508,7 +538,7 @@ fn try_asked(
 pub fn try_rights(
     asked: u8,
     policy: &[u8],
-    u: usize,
+    own: &[u8],
     words: &[u32],
     count: usize,
     roles: &[u8; 64],
@@ -518,13 +548,13 @@ pub fn try_rights(
     rows: &mut [u64],
     out: &mut [u8],
 )
-    requires { ⌜ Ready (now policy) u (now words) count × (length (now rows) ≡ 2113) × Numbered (now policy) (now words) count (now t) n (now numbers) × (n ≤ length (now out)) ⌝ }
-    ensures { λ _. ⌜ Each n (now (out .entry)) (now (out .exit)) (λ (i x : ℕ). byFive (now (policy .entry)) u (now (roles .entry)) (chainOf (now (t .entry)) i) asked x) ⌝ }
+    requires { ⌜ Ready (now policy) (now own) (now words) count × (length (now rows) ≡ 2113) × Numbered (now policy) (now words) count (now t) n (now numbers) × (n ≤ length (now out)) ⌝ }
+    ensures { λ _. ⌜ Each n (now (out .entry)) (now (out .exit)) (λ (i x : ℕ). byFive (now (policy .entry)) (now (own .entry)) (now (roles .entry)) (chainOf (now (t .entry)) i) asked x) ⌝ }
 {
     try_asked(
         asked,
         policy,
-        u,
+        own,
         words,
         count,
         roles,
@@ -538,7 +568,7 @@ pub fn try_rights(
     try_asked(
         asked,
         policy,
-        u,
+        own,
         words,
         count,
         roles,
@@ -552,7 +582,7 @@ pub fn try_rights(
     try_asked(
         asked,
         policy,
-        u,
+        own,
         words,
         count,
         roles,
@@ -566,7 +596,7 @@ pub fn try_rights(
     try_asked(
         asked,
         policy,
-        u,
+        own,
         words,
         count,
         roles,
@@ -580,7 +610,7 @@ pub fn try_rights(
     try_asked(
         asked,
         policy,
-        u,
+        own,
         words,
         count,
         roles,

@@ -1,6 +1,7 @@
 // The lower crate: labels, tables, paths, policies and rights (document 01). It knows nothing of commands.
 pub mod bytes;
 mod groups;
+pub mod isa;
 pub mod labels;
 pub mod limits;
 pub mod nodes;

@@ -20,7 +20,8 @@ ghost use lib.ListN.{length, getD};
 ghost use Rattle.rights.specs.Table.{recAt, recordAt, recordsFrom, recordsOk, label};
 ghost use Rattle.rights.specs.Labels.{sameLabel};
 ghost use Rattle.rights.specs.Policy.{some, uses};
-ghost use Rattle.rights.specs.PolicyBytes.{ruleCount, stepOf, stepsFrom, pathOf, Text, Subject};
+ghost use Rattle.rights.specs.PolicyBytes.{ruleCount, stepOf, stepsFrom, pathOf, Text};
+ghost use Rattle.rights.specs.Roles.{Subjects, nameAmong};
 ghost use Rattle.rights.specs.Automaton.{Each, Steps, Sound};
 ghost use Rattle.rights.specs.Vocabulary.{labelOrder, wordAt, numberIn, named, Words, Stands, Inserted, Added, Sorted};
 
@@ -165,7 +166,7 @@ fn add_rule(policy: &[u8], k: usize, words: &mut [u32], n: usize) -> usize
 
 // Adds the labels that the rules name.
 pub fn add_rules(policy: &[u8], words: &mut [u32], n: usize) -> usize
-    requires { ⌜ Sound (now policy) × Words (now policy) (now words) n × (n ≤ 1) ⌝ }
+    requires { ⌜ Sound (now policy) × Words (now policy) (now words) n × (n ≤ 64) ⌝ }
     ensures { λ r. ⌜ Added (now (policy .entry)) (now (words .entry)) n (now (words .exit)) r (named (now (policy .entry))) × (r ≤ n + 2048) ⌝ }
 {
     let count = wide(policy[2]);
@@ -178,12 +179,27 @@ pub fn add_rules(policy: &[u8], words: &mut [u32], n: usize) -> usize
     next
 }
 
-// Sorts the words for the rights of subject u, and returns how many they are.
-pub fn sort_words(policy: &[u8], u: usize, words: &mut [u32]) -> usize
-    requires { ⌜ Sound (now policy) × Subject (now policy) u × (length (now words) ≡ 2112) ⌝ }
-    ensures { λ r. ⌜ Sorted (now (policy .entry)) u (now (words .exit)) r ⌝ }
+// Adds the names of these subjects.
+fn add_own(policy: &[u8], own: &[u8], words: &mut [u32], n: usize) -> usize
+    requires { ⌜ Sound (now policy) × Subjects (now policy) (now own) × Words (now policy) (now words) n × (n + 64 ≤ 2112) ⌝ }
+    ensures { λ r. ⌜ Added (now (policy .entry)) (now (words .entry)) n (now (words .exit)) r (nameAmong (now (policy .entry)) (now (own .entry))) × (r ≤ n + 64) ⌝ }
 {
-    let n = add_word(policy, words, 0, SUBJECTS_AT + u * RECORD_BYTES);
+    let mut next = n;
+    let mut i = 0;
+    while i < own.len() {
+        let u = wide(own[i]);
+        next = add_word(policy, words, next, SUBJECTS_AT + u * RECORD_BYTES);
+        i += 1;
+    }
+    next
+}
+
+// Sorts the words for the rights of a subject for which `$` stands for these subjects, and returns how many they are.
+pub fn sort_words(policy: &[u8], own: &[u8], words: &mut [u32]) -> usize
+    requires { ⌜ Sound (now policy) × Subjects (now policy) (now own) × (length (now words) ≡ 2112) ⌝ }
+    ensures { λ r. ⌜ Sorted (now (policy .entry)) (now (own .entry)) (now (words .exit)) r ⌝ }
+{
+    let n = add_own(policy, own, words, 0);
     add_rules(policy, words, n)
 }
 

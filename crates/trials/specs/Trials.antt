@@ -10,7 +10,8 @@ use Rattle.rights.specs.Bytes.{all}
 use Rattle.rights.specs.Nodes.{viewOf}
 use Rattle.rights.specs.Path.{Path}
 use Rattle.rights.specs.PathReader.{Got, got, bad, pathOf}
-use Rattle.rights.specs.Policy.{passesOwn, policyWord}
+use Rattle.rights.specs.Isa.{passesOwn}
+use Rattle.rights.specs.Policy.{policyWord}
 use Rattle.rights.specs.PolicyBytes.{policyOf, subjectCount}
 use Rattle.rights.specs.PolicyCheck.{policyOk}
 use Rattle.rights.specs.Rights.{rightsOn}

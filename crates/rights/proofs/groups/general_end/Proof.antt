@@ -4,10 +4,10 @@ use Rattle.rights.proofs.groups.general_end.Statement.{statement}
 use Rattle.rights.proofs.groups.general_end.Tie as tie
 
 abbrev Inv-loop : tie.InvT-loop
-Inv-loop policy u roles right count k₀ k = k ≤ count
+Inv-loop policy roles right count k₀ k = k ≤ count
 
 abbrev μ-loop : tie.MeasureT-loop
-μ-loop policy u roles right count k₀ k = k
+μ-loop policy roles right count k₀ k = k
 
 is-general-requires : tie.Need-is-general-requires Inv-loop μ-loop
 is-general-requires c κs = (c .before .before .before .pre .0, omega (arith, c .before .before .before .pre .1))
@@ -16,7 +16,7 @@ returns : tie.Need-returns Inv-loop μ-loop
 returns c = (c .before .before .before .loop .inv, λ h. c .before .is-general .ensures (c .if1 .taken))
 
 returns-2 : tie.Need-returns-2 Inv-loop μ-loop
-returns-2 c = (omega arith, λ h. absurd (omega arith))
+returns-2 c = (omega arith, λ h own. absurd (omega arith))
 
 pub general-end-spec : {M : Type 1} → statement M
 general-end-spec =

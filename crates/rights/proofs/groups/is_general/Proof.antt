@@ -10,13 +10,13 @@ use Rattle.rights.proofs.groups.is_general.Statement.{statement}
 use Rattle.rights.proofs.groups.is_general.Tie as tie
 
 returns : tie.Need-returns
-returns c = λ e. absurd (false≢true e)
+returns c = λ e own. absurd (false≢true e)
 
 returns-2 : tie.Need-returns-2
-returns-2 c = λ e. absurd (false≢true e)
+returns-2 c = λ e own. absurd (false≢true e)
 
 returns-3 : tie.Need-returns-3
-returns-3 c = λ e. absurd (false≢true e)
+returns-3 c = λ e own. absurd (false≢true e)
 
 returns-4 : tie.Need-returns-4
 returns-4 c =
@@ -26,9 +26,9 @@ returns-4 c =
     let one : stepCount p (a .k) ≡ 1 = c .before .before .before .before .before .if1 .left in
     let z : stepsAt (a .k) + 0 * 32 ≡ stepsAt (a .k) = omega arith in
     let text = subst (Text p) z (g .0 .paths (a .k) (g .1) .texts 0 (omega (arith, one))) in
-    λ e. record {
-      counts = sym (c .counts .ensures) ∙ e;
-      all = general-path p (a .u) (a .k) one (c .before .before .before .if2 .left) (text-first p (stepsAt (a .k)) text ∙ c .before .if3 .left);
+    λ e own. record {
+      on = sym (c .counts .ensures) ∙ e;
+      all = general-path p own (a .k) one (c .before .before .before .if2 .left) (text-first p (stepsAt (a .k)) text ∙ c .before .if3 .left);
     }
 
 pub is-general-spec : {M : Type 1} → statement M

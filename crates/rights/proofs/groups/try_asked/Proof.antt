@@ -4,13 +4,13 @@ use Rattle.rights.proofs.groups.try_asked.Statement.{statement}
 use Rattle.rights.proofs.groups.try_asked.Tie as tie
 
 holds-right-requires : tie.Need-holds-right-requires
-holds-right-requires c κs = bit-above (c .before .before .before .before .before .before .args .right) (c .before .before .before .before .before .before .pre .1)
+holds-right-requires c κs = bit-above (c .before .before .before .before .before .before .before .args .right) (c .before .before .before .before .before .before .before .pre .1)
 
 try-right-requires : tie.Need-try-right-requires
-try-right-requires c κs = c .before .before .before .before .before .before .before .before .before .before .pre
+try-right-requires c κs = c .before .before .before .before .before .before .before .before .before .before .before .pre
 
 same-length : tie.Need-same-length
-same-length c = c .before .before .before .before .try-right .ensures .0 ∙ sym (c .before .before .before .before .before .before .before .before .before .before .before .before .before .before .before .pre .2)
+same-length c = c .before .before .before .before .try-right .ensures .0 ∙ sym (c .before .before .before .before .before .before .before .before .before .before .before .before .before .before .before .before .pre .2)
 
 same-length-2 : tie.Need-same-length-2
 same-length-2 c = c .before .before .before .before .try-right .ensures .1 .long
@@ -24,7 +24,7 @@ returns c =
 returns-2 : tie.Need-returns-2
 returns-2 c =
     let e = sym (c .before .holds-right .ensures) ∙ c .if1 .left in
-    (c .before .before .before .before .before .before .before .before .pre .2, record { long = refl; at = λ i h. rw e refl; rest = refl })
+    (c .before .before .before .before .before .before .before .before .before .pre .2, record { long = refl; at = λ i h. rw e refl; rest = refl })
 
 pub try-asked-spec : {M : Type 1} → statement M
 try-asked-spec =

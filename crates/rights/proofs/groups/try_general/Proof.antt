@@ -11,15 +11,15 @@ use Rattle.rights.proofs.groups.try_general.Tie as tie
 returns : tie.Need-returns
 returns c =
     let a = c .before .before .before .before .args in
-    record { long = refl; at = λ i h. ruled-zero (laneAt (a .policy .now) (a .u) (a .roles .now) (a .right)) (a .right) (chainOf (a .t .now) i) 0 (a .k) _ (c .if1 .taken); rest = refl }
+    λ own. record { long = refl; at = λ i h. ruled-zero (laneAt (a .policy .now) own (a .roles .now) (a .right)) (a .right) (chainOf (a .t .now) i) 0 (a .k) _ (c .if1 .taken); rest = refl }
 
 returns-2 : tie.Need-returns-2
 returns-2 c =
     let a = c .before .before .before .before .before .before .before .before .before .args in
     let g = c .before .before .before .before .before .before .before .before .before .pre in
-    let q = laneAt (a .policy .now) (a .u) (a .roles .now) (a .right) in
     let r = c .before .before .rule-all .ensures in
-    record { long = r .0 .long; at = λ i h. r .0 .at i h ∙ general-at (a .right) (g .1) q (a .t .now) i (a .k) (getD (a .out .now) i 0) (r .1 i h) (above-zero (a .k) (c .before .before .before .before .before .if1 .left)) (g .3 (above-zero (a .k) (c .before .before .before .before .before .if1 .left))); rest = r .0 .rest }
+    λ own. let q = laneAt (a .policy .now) own (a .roles .now) (a .right) in
+    record { long = r .0 .long; at = λ i h. r .0 .at i h ∙ general-at (a .right) (g .1) q (a .t .now) i (a .k) (getD (a .out .now) i 0) (r .1 i h) (above-zero (a .k) (c .before .before .before .before .before .if1 .left)) (g .3 (above-zero (a .k) (c .before .before .before .before .before .if1 .left)) own); rest = r .0 .rest }
 
 pub try-general-spec : {M : Type 1} → statement M
 try-general-spec =

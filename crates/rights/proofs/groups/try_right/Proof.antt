@@ -11,53 +11,54 @@ use Rattle.rights.proofs.groups.try_right.Statement.{statement}
 use Rattle.rights.proofs.groups.try_right.Tie as tie
 
 abbrev Inv-loop : tie.InvT-loop
-Inv-loop policy u words count roles right t n numbers rows₀ out₀ rules k₀ rows out k =
-    (k₀ ≤ k) × (k ≤ rules) × (length rows ≡ 2113) × Each n out₀ out (λ (i x : ℕ). ruled (laneAt policy u roles right) right (chainOf t i) k₀ (k - k₀) x)
+Inv-loop policy own words count roles right t n numbers rows₀ out₀ rules k₀ rows out k =
+    (k₀ ≤ k) × (k ≤ rules) × (length rows ≡ 2113) × Each n out₀ out (λ (i x : ℕ). ruled (laneAt policy own roles right) right (chainOf t i) k₀ (k - k₀) x)
 
 abbrev μ-loop : tie.MeasureT-loop
-μ-loop policy u words count roles right t n numbers rows₀ out₀ rules k₀ rows out k = rules - k
+μ-loop policy own words count roles right t n numbers rows₀ out₀ rules k₀ rows out k = rules - k
 
 shared-slice-read-wide : tie.Need-shared-slice-read-wide Inv-loop μ-loop
-shared-slice-read-wide c = omega (arith, c .before .before .before .before .before .before .before .pre .0 .sound .size)
+shared-slice-read-wide c = omega (arith, c .before .before .before .before .before .before .before .before .pre .0 .sound .size)
 
 general-end-requires : tie.Need-general-end-requires Inv-loop μ-loop
-general-end-requires c κs = (c .before .before .before .before .before .before .before .before .pre .0 .sound, c .wide .ensures)
+general-end-requires c κs = (c .before .before .before .before .before .before .before .before .before .pre .0 .sound, c .wide .ensures)
 
 try-general-requires : tie.Need-try-general-requires Inv-loop μ-loop
 try-general-requires c κs =
-    let g = c .before .before .before .before .before .before .before .before .before .before .pre in
+    let g = c .before .before .before .before .before .before .before .before .before .before .before .pre in
     let e = c .before .general-end .ensures in
     (g .0 .sound, g .1, omega (arith, e .0, c .before .before .wide .ensures), e .1, g .4)
 
 loop-holds : tie.Need-loop-holds Inv-loop μ-loop
 loop-holds c =
-    let a = c .before .before .before .before .before .before .before .before .before .before .before .before .before .args in
-    let q = laneAt (a .policy .now) (a .u) (a .roles .now) (a .right) in
+    let a = c .before .before .before .before .before .before .before .before .before .before .before .before .before .before .args in
+    let q = laneAt (a .policy .now) (a .own .now) (a .roles .now) (a .right) in
     let k = c .before .before .before .before .general-end .result in
-    (omega arith, c .before .before .before .before .general-end .ensures .0, c .before .before .before .before .before .before .before .before .before .before .before .before .before .pre .2, record { long = refl; at = λ i h. ruled-zero q (a .right) (chainOf (a .t .now) i) k (k - k) _ (omega arith); rest = refl })
+    (omega arith, c .before .before .before .before .general-end .ensures .0, c .before .before .before .before .before .before .before .before .before .before .before .before .before .before .pre .2, record { long = refl; at = λ i h. ruled-zero q (a .right) (chainOf (a .t .now) i) k (k - k) _ (omega arith); rest = refl })
 
 group-end-requires : tie.Need-group-end-requires Inv-loop μ-loop
-group-end-requires c κs = (c .before .before .before .before .before .before .before .before .before .before .before .before .before .before .before .pre .0 .sound, c .before .before .before .before .before .before .before .wide .ensures, omega arith)
+group-end-requires c κs = (c .before .before .before .before .before .before .before .before .before .before .before .before .before .before .before .before .pre .0 .sound, c .before .before .before .before .before .before .before .wide .ensures, omega arith)
 
 try-group-requires : tie.Need-try-group-requires Inv-loop μ-loop
 try-group-requires c κs =
-    let g = c .before .before .before .before .before .before .before .before .before .before .before .before .before .before .before .before .before .before .pre in
+    let own = c .before .before .before .before .before .before .before .before .before .before .before .before .before .before .before .before .before .before .before .args .own .now in
+    let g = c .before .before .before .before .before .before .before .before .before .before .before .before .before .before .before .before .before .before .before .pre in
     let l = c .before .before .before .before .loop in
     let e = c .before .before .group-end .ensures in
-    (g .0, omega (arith, e .0), omega (arith, e .1, c .before .before .before .before .before .before .before .before .before .before .wide .ensures), g .1, e .2, l .inv .2, g .3, omega (arith, l .inv .3 .long, c .before .before .before .before .before .before .before .try-general .ensures .long, g .4))
+    (g .0, omega (arith, e .0), omega (arith, e .1, c .before .before .before .before .before .before .before .before .before .before .wide .ensures), g .1, e .2 own, l .inv .2, g .3, omega (arith, l .inv .3 .long, (c .before .before .before .before .before .before .before .try-general .ensures own) .long, g .4))
 
 loop-less : tie.Need-loop-less Inv-loop μ-loop
 loop-less c = omega (arith, c .before .before .before .before .before .before .before .group-end .ensures .0, c .before .before .before .before .before .before .before .group-end .ensures .1)
 
 loop-again : tie.Need-loop-again Inv-loop μ-loop
 loop-again c =
-    let a = c .before .before .before .before .before .before .before .before .before .before .before .before .before .before .before .before .before .before .before .before .before .before .before .args in
+    let a = c .before .before .before .before .before .before .before .before .before .before .before .before .before .before .before .before .before .before .before .before .before .before .before .before .args in
     let l = c .before .before .before .before .before .before .before .before .before .loop in
     let from = c .before .before .before .before .before .before .before .before .before .before .before .before .before .before .general-end .result in
     let to = c .before .before .before .before .before .before .before .group-end .result in
     let e = c .before .before .before .before .before .before .before .group-end .ensures in
     let r = c .before .before .before .before .try-group .ensures in
-    let q = laneAt (a .policy .now) (a .u) (a .roles .now) (a .right) in (
+    let q = laneAt (a .policy .now) (a .own .now) (a .roles .now) (a .right) in (
       omega (arith, e .0),
       omega (arith, e .1),
       r .0,
@@ -69,24 +70,24 @@ loop-again c =
     )
 
 same-length : tie.Need-same-length Inv-loop μ-loop
-same-length c = c .before .loop .inv .2 ∙ sym (c .before .before .before .before .before .before .before .before .before .before .before .before .before .before .before .pre .2)
+same-length c = c .before .loop .inv .2 ∙ sym (c .before .before .before .before .before .before .before .before .before .before .before .before .before .before .before .before .pre .2)
 
 same-length-2 : tie.Need-same-length-2 Inv-loop μ-loop
-same-length-2 c = c .before .loop .inv .3 .long ∙ c .before .before .before .before .try-general .ensures .long
+same-length-2 c = c .before .loop .inv .3 .long ∙ (c .before .before .before .before .try-general .ensures (c .before .before .before .before .before .before .before .before .before .before .before .before .before .before .before .before .args .own .now)) .long
 
 returns : tie.Need-returns Inv-loop μ-loop
 returns c =
-    let a = c .before .before .before .before .before .before .before .before .before .before .before .before .before .before .before .args in
+    let a = c .before .before .before .before .before .before .before .before .before .before .before .before .before .before .before .before .args in
     let l = c .before .loop in
     let from = c .before .before .before .before .before .before .general-end .result in
-    let q = laneAt (a .policy .now) (a .u) (a .roles .now) (a .right) in
+    let q = laneAt (a .policy .now) (a .own .now) (a .roles .now) (a .right) in
     let e : l .k ≡ ruleCount (a .policy .now) = omega (arith, c .before .before .before .before .before .before .before .wide .ensures) in (
       l .inv .2,
       each-alike (a .n) _ _
           (λ (i x : ℕ). ruled q (a .right) (chainOf (a .t .now) i) from (l .k - from) (ruled q (a .right) (chainOf (a .t .now) i) 0 from x))
           (λ (i x : ℕ). ruled q (a .right) (chainOf (a .t .now) i) 0 (ruleCount (a .policy .now)) x)
           (λ i x. ruled-whole q (a .right) (chainOf (a .t .now) i) from (l .k) x (l .inv .0) ∙ ap (λ (m : ℕ). ruled q (a .right) (chainOf (a .t .now) i) 0 m x) e)
-          (each-then (a .n) _ _ _ _ _ (c .before .before .before .before .try-general .ensures) (l .inv .3)),
+          (each-then (a .n) _ _ _ _ _ ((c .before .before .before .before .try-general .ensures (a .own .now))) (l .inv .3)),
     )
 
 pub try-right-spec : {M : Type 1} → statement M

@@ -13,7 +13,7 @@ counts-requires c κs = search needs
 
 with-rule-requires : tie.Need-with-rule-requires
 with-rule-requires c κs =
-    let g = c .before .before .before .before .before .before .pre in
+    let g = c .before .before .before .before .before .before .before .pre in
     (g .0, g .1, omega (arith, rw (sym (c .before .before .counts .ensures) ∙ c .before .if1 .taken) at (g .3)), g .4)
 
 same-length : tie.Need-same-length
@@ -21,18 +21,18 @@ same-length c = search needs
 
 returns : tie.Need-returns
 returns c =
-    let a = c .before .before .before .before .before .before .before .before .before .args in
+    let a = c .before .before .before .before .before .before .before .before .before .before .args in
     let r = c .before .before .with-rule .ensures in (
-      (λ i size z g. lane-added (numberIn (a .policy .now) (a .words .now) (a .n)) (a .policy .now) (a .u) (a .roles .now) (a .right) (c .before .before .before .before .before .before .before .before .before .pre .2) i size (a .k) z (sym (c .before .before .before .before .before .counts .ensures) ∙ c .before .before .before .before .if1 .taken) _ _ _ _ _ _ _ _ _ _ _ _ _ _ g (r .0) (r .1) (r .2) (r .3) (r .4)),
+      (λ i size z g. lane-added (numberIn (a .policy .now) (a .words .now) (a .n)) (a .policy .now) (a .own .now) (a .roles .now) (a .right) (c .before .before .before .before .before .before .before .before .before .before .pre .2) i size (a .k) z (sym (c .before .before .before .before .before .counts .ensures) ∙ c .before .before .before .before .if1 .taken) _ _ _ _ _ _ _ _ _ _ _ _ _ _ g (r .0) (r .1) (r .2) (r .3) (r .4)),
       r .5,
     )
 
 returns-2 : tie.Need-returns-2
 returns-2 c =
-    let a = c .before .before .before .before .before .args in
-    let q = laneAt (a .policy .now) (a .u) (a .roles .now) (a .right) in (
+    let a = c .before .before .before .before .before .before .args in
+    let q = laneAt (a .policy .now) (a .own .now) (a .roles .now) (a .right) in (
       (λ i size z g. group-skip (numberIn (a .policy .now) (a .words .now) (a .n)) q (a .right) i size _ _ _ _ _ _ _ g (ap (λ (m : ℕ). q m .on) z ∙ sym (c .before .counts .ensures) ∙ c .if1 .left)),
-      c .before .before .before .before .before .pre .4,
+      c .before .before .before .before .before .before .pre .4,
     )
 
 pub with-lane-spec : {M : Type 1} → statement M

@@ -3,8 +3,7 @@ use mathlib.Core.Path.{_≡_, sym, _∙_}
 use mathlib.Core.List.{List, _++_, append-nil}
 use native.Mathlib.Omega.{arith}
 use lib.ListN.{length}
-use Rattle.rights.specs.Policy.{passesOwn}
-use Rattle.rights.specs.PolicyBytes.{policyOf}
+use Rattle.rights.specs.Roles.{nameAmong}
 use Rattle.rights.specs.Rights.{Step}
 use Rattle.rights.specs.Automaton.{stepsFor}
 use Rattle.rights.specs.Vocabulary.{numberIn}
@@ -14,49 +13,49 @@ use Rattle.rights.proofs.groups.with_path.Statement.{statement}
 use Rattle.rights.proofs.groups.with_path.Tie as tie
 
 abbrev Inv-loop : tie.InvT-loop
-Inv-loop policy u words n b count used rows₀ m₀ j₀ rows m j =
+Inv-loop policy own words n b count used rows₀ m₀ j₀ rows m j =
     (j ≤ count)
     × (length rows ≡ 2113)
-    × ((ss : List Step) → length ss ≡ used → Packed (numberIn policy words n) ss (m₀ .deep) (m₀ .every) rows₀ → Packed (numberIn policy words n) (ss ++ stepsFor (passesOwn (policyOf policy) u) policy b j 0) (m .deep) (m .every) rows)
+    × ((ss : List Step) → length ss ≡ used → Packed (numberIn policy words n) ss (m₀ .deep) (m₀ .every) rows₀ → Packed (numberIn policy words n) (ss ++ stepsFor (nameAmong policy own) policy b j 0) (m .deep) (m .every) rows)
 
 abbrev μ-loop : tie.MeasureT-loop
-μ-loop policy u words n b count used rows₀ m₀ j₀ rows m j = count - j
+μ-loop policy own words n b count used rows₀ m₀ j₀ rows m j = count - j
 
 loop-holds : tie.Need-loop-holds Inv-loop μ-loop
-loop-holds c = (omega arith, c .before .before .before .pre .4, λ ss e k. unfold stepsFor in rw (append-nil ss) k)
+loop-holds c = (omega arith, c .before .before .before .before .pre .4, λ ss e k. unfold stepsFor in rw (append-nil ss) k)
 
 mul-with-step : tie.Need-mul-with-step Inv-loop μ-loop
-mul-with-step c = omega (arith, c .before .before .before .before .before .pre .1 .few)
+mul-with-step c = omega (arith, c .before .before .before .before .before .before .pre .1 .few)
 
 add-with-step : tie.Need-add-with-step Inv-loop μ-loop
-add-with-step c = omega (arith, c .before .before .before .before .before .pre .1 .texts (c .before .loop .j) (c .loop-test .taken) .room)
+add-with-step c = omega (arith, c .before .before .before .before .before .before .pre .1 .texts (c .before .loop .j) (c .loop-test .taken) .room)
 
 with-step-requires : tie.Need-with-step-requires Inv-loop μ-loop
 with-step-requires c κs =
-    let g = c .before .before .before .before .before .before .pre in
+    let g = c .before .before .before .before .before .before .before .pre in
     let l = c .before .before .loop in
     let h = c .before .loop-test .taken in
     (g .0, g .1 .texts (l .j) h, g .2 (l .j) h, omega arith, l .inv .1)
 
 loop-again : tie.Need-loop-again Inv-loop μ-loop
 loop-again c =
-    let a = c .before .before .before .before .before .before .before .before .before .args in
+    let a = c .before .before .before .before .before .before .before .before .before .before .args in
     let l = c .before .before .before .before .before .loop in
     let r = c .before .before .with-step .ensures in
     let p = a .policy .now in
-    let mine = passesOwn (policyOf p) (a .u) in (
+    let mine = nameAmong p (a .own .now) in (
       omega arith,
       r .1,
       (λ ss e k. rw (path-more mine p (a .b) (l .j) ss) at (r .0 (ss ++ stepsFor mine p (a .b) (l .j) 0) (path-length mine p (a .b) (l .j) ss (a .used) e) (l .inv .2 ss e k))),
     )
 
 same-length : tie.Need-same-length Inv-loop μ-loop
-same-length c = c .before .loop .inv .1 ∙ sym (c .before .before .before .before .before .pre .4)
+same-length c = c .before .loop .inv .1 ∙ sym (c .before .before .before .before .before .before .pre .4)
 
 returns : tie.Need-returns Inv-loop μ-loop
 returns c =
     let l = c .before .loop in
-    let z : l .j ≡ c .before .before .before .before .before .args .count = omega arith in
+    let z : l .j ≡ c .before .before .before .before .before .before .args .count = omega arith in
     ((λ ss e k. rw z at (l .inv .2 ss e k)), l .inv .1)
 
 pub with-path-spec : {M : Type 1} → statement M

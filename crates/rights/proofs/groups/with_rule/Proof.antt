@@ -14,13 +14,13 @@ use Rattle.rights.proofs.groups.with_rule.Tie as tie
 
 with-path-requires : tie.Need-with-path-requires
 with-path-requires c κs =
-    let a = c .before .before .before .before .before .before .args in
-    let g = c .before .before .before .before .before .before .pre in
-    rw (c .before .wide .ensures) (g .0, g .0 .sound .paths (a .k) (g .1), (λ j h. sorted-step (a .policy .now) (a .u) (a .words .now) (a .n) (g .0 .sorted) (a .k) j (g .1) h), g .2, g .3)
+    let a = c .before .before .before .before .before .before .before .args in
+    let g = c .before .before .before .before .before .before .before .pre in
+    rw (c .before .wide .ensures) (g .0, g .0 .sound .paths (a .k) (g .1), (λ j h. sorted-step (a .policy .now) (a .own .now) (a .words .now) (a .n) (g .0 .sorted) (a .k) j (g .1) h), g .2, g .3)
 
 returns : tie.Need-returns
 returns c =
-    let a = c .before .before .before .before .before .before .before .before .before .before .before .before .before .before .before .args in
+    let a = c .before .before .before .before .before .before .before .before .before .before .before .before .before .before .before .before .args in
     let g = a .g in
     let p = a .policy .now in
     let w = c .before .before .before .before .before .before .before .before .before .before .wide .ensures in

@@ -5,19 +5,22 @@ use Rattle.rights.proofs.Sounds.{policy-sound}
 use Rattle.rights.proofs.rights.asked_on.Statement.{statement}
 use Rattle.rights.proofs.rights.asked_on.Tie as tie
 
+roles-of-requires : tie.Need-roles-of-requires
+roles-of-requires c κs = (c .before .before .before .pre .0, c .before .before .before .pre .1)
+
 count-of-requires : tie.Need-count-of-requires
-count-of-requires c κs = table-long _ (c .before .before .before .pre .2)
+count-of-requires c κs = table-long _ (c .before .before .before .before .pre .2)
 
 rights-of-requires : tie.Need-rights-of-requires
-rights-of-requires c κs = let g = c .before .before .before .before .before .pre in
-    let e = c .before .count-of .ensures in
-    (policy-sound _ (g .0), rule-bit _ (g .0), g .1, rw e (table-room _ (g .2)), rw e (table-records _ (g .2)), rw e (table-few _ (g .2)), rw e (g .3))
+rights-of-requires c κs = let g = c .before .before .before .before .before .before .before .pre in
+    let e = c .before .before .count-of .ensures in
+    (policy-sound _ (g .0), rule-bit _ (g .0), c .before .before .before .roles-of .ensures, rw e (table-room _ (g .2)), rw e (table-records _ (g .2)), rw e (table-few _ (g .2)), rw e (g .3))
 
 same-length : tie.Need-same-length
 same-length c = search needs
 
 returns : tie.Need-returns
-returns c = rw (c .before .before .before .before .count-of .ensures) at (c .before .before .rights-of .ensures)
+returns c = rw (c .before .before .before .before .before .count-of .ensures) at (c .before .before .rights-of .ensures)
 
 pub asked-on-spec : {M : Type 1} → statement M
-asked-on-spec = tie.close (tie.spec count-of-requires rights-of-requires same-length returns)
+asked-on-spec = tie.close (tie.spec roles-of-requires count-of-requires rights-of-requires same-length returns)
