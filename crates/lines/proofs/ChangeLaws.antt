@@ -1,4 +1,4 @@
--- The six changes: what is decided before anything changes, and what is made of them, by the tests that they meet. Assumes nothing.
+-- The six changes: what is decided before anything changes, and what the table becomes. Assumes nothing.
 use Prim.Native.Nat.{ℕ, zero, suc, _+_, _-_, _≤_}
 use mathlib.Core.Bool.{Bool, true, false, _||_}
 use mathlib.Core.Path.{_≡_, refl, sym, ap, _∙_}
@@ -8,7 +8,6 @@ use lib.ListN.{length, take, drop, length-map, length-append}
 use lib.Seq.{take-at, take-length}
 use Rattle.rights.specs.Automaton.{bit}
 use Rattle.rights.specs.Labels.{sameLabel, restricted}
-use Rattle.rights.specs.PathReader.{pathOf}
 use Rattle.rights.specs.Policy.{policyWord}
 use Rattle.rights.specs.PolicyBytes.{policyOf}
 use Rattle.rights.specs.PolicyCheck.{policyOk}
@@ -20,20 +19,17 @@ use Rattle.views.specs.Done.{doneMarks, isNext, byNumbers}
 use Rattle.views.specs.Marks.{marksOf, markCount, marked}
 use Rattle.views.specs.Shown.{shown, shownNumbers}
 use Rattle.views.specs.declared.done.Change.{Change}
-use Rattle.views.specs.declared.done.Change.the-variants as change
 use Rattle.views.specs.declared.insert.Place.{Place}
 use Rattle.views.proofs.DoneLaws.{numbers-in-table, done-length}
 use Rattle.views.proofs.MarkLaws.{marks-bits}
 use Rattle.answers.specs.Answer.{doneText}
 use Rattle.answers.specs.AnswerArea.{Answered, written}
-use Rattle.lines.specs.ChangeRoom.{Selected, Decided}
-use Rattle.lines.specs.State.{policyIn, storeOk}
-use Rattle.lines.specs.Step.{Made, Chosen, refusal, finish, noUser, notPath, rightsIn, storedIn, marksIn}
-use Rattle.lines.specs.StepTree.{treeRestricted, inserting, changeAt, selectedIn, doneIn, countText, stepRename, stepInsert, stepRemove}
-use Rattle.lines.specs.declared.line.Answer.the-variants.{Accepted}
+use Rattle.lines.specs.ChangeRoom.{Chosen, Selected, Decided}
+use Rattle.lines.specs.State.{stage, policyIn, storeOk}
+use Rattle.lines.specs.UserView.{rightsIn, storedIn, marksIn, selectedIn, doneIn}
+use Rattle.lines.specs.Work.{changeAt, countText, insertAt}
 use Rattle.lines.proofs.StateLaws.{store-held}
-use Rattle.lines.proofs.StepLaws.{rights-length, marks-size, marks-part}
-use Rattle.lines.proofs.TreeStepLaws.{made-changed}
+use Rattle.lines.proofs.UserViewLaws.{rights-length, marks-size, marks-part}
 
 -- the part of an area that was written
 pub part-fits : (xs more ys : List ℕ) (n : ℕ) → ys ≡ xs ++ more → length xs ≡ n → n ≤ length ys
@@ -159,24 +155,20 @@ module _ (c : Change) (s t path done done' : List ℕ) (k n : ℕ) (r : Decided 
   pub removed-table : (t' : List ℕ) → t' ≡ changed t (removed (take (n - 0) (drop 0 done')) (records t)) → t' ≡ changed t (removed (doneIn c s t path) (records t))
   removed-table t' q = q ∙ ap (λ x. changed t (removed x (records t))) done-part
 
-  pub insert-parts : (place : Place) → c ≡ changeAt place → (m : ℕ) (tree : List ℕ) (room : ℕ)
-      → inserting place (doneIn (changeAt place) s t path) m tree (countText (changeAt place) s t path) s s t room
-      ≡ inserting place (take (n - 0) (drop 0 done')) m tree (doneText k (marked (count t) (take (n - 0) (drop 0 done')))) s s t room
-  insert-parts place q m tree room =
-      ap (λ x. inserting place (doneIn x s t path) m tree (countText x s t path) s s t room) (sym q)
-      ∙ ap (λ x. inserting place x m tree (countText c s t path) s s t room) (sym done-part)
-      ∙ ap (λ x. inserting place (take (n - 0) (drop 0 done')) m tree x s s t room) (sym done-text)
+  -- an insertion at the places that are done
+  pub insert-parts : (place : Place) → c ≡ changeAt place → (m : ℕ) (tree : List ℕ)
+      → insertAt place (doneIn (changeAt place) s t path) m tree (countText (changeAt place) s t path) (stage s) t
+      ≡ insertAt place (take (n - 0) (drop 0 done')) m tree (doneText k (marked (count t) (take (n - 0) (drop 0 done')))) (stage s) t
+  insert-parts place q m tree =
+      ap (λ x. insertAt place (doneIn x s t path) m tree (countText x s t path) (stage s) t) (sym q)
+      ∙ ap (λ x. insertAt place x m tree (countText c s t path) (stage s) t) (sym done-part)
+      ∙ ap (λ x. insertAt place (take (n - 0) (drop 0 done')) m tree x (stage s) t) (sym done-text)
 
 -- D, counted
 pub answered-count : (t done before after : List ℕ) (k n d need : ℕ) → n ≡ count t → d ≡ marked n done → Answered (doneText k d) before after need
     → Answered (doneText k (marked (count t) done)) before after need
 answered-count t done before after k n d need e q a =
     answered-as (doneText k d) (doneText k (marked (count t) done)) before after need (ap (doneText k) (q ∙ ap (λ m. marked m done) e)) a
-
--- a line whose answer is put if it fits, and whose table becomes t' only then
-pub made-table : (text before after s t t' u : List ℕ) (need : ℕ) → u ≡ t' → Answered text before after need → need ≤ length after
-    → Made (finish (length before) text s t' s t) before (Accepted need) s u after
-made-table text before after s t t' u need e a h = rw e (made-changed text before after s t s t' need a h)
 
 -- "RESTRICTED as .. new label, or a policy word as new label"
 module _ (s l : List ℕ) (b : Bool) (q : b ≡ sameLabel (take (length l) (drop 0 l)) restricted) where
@@ -191,62 +183,3 @@ module _ (s l : List ℕ) (b : Bool) (q : b ≡ sameLabel (take (length l) (drop
   barred-word w e p =
       let z : sameLabel l restricted ≡ false = sym whole ∙ e in
       rw z (p ∙ ap (λ x. policyWord (policyOf x) (take (length l) (drop 0 l))) (rest-of s 8) ∙ ap (policyWord (policyIn s)) (take-length l))
-
--- `(rename P L)` and `(update P L)`, by the tests that they meet
-module _ (c : Change) (s t : List ℕ) (room : ℕ) (path l : List ℕ) where
-  pub rename-no-path : notPath (pathOf path) ≡ true → stepRename c s t room path l ≡ refusal 4 s t
-  unfolding stepRename
-  rename-no-path p = rw p
-
-  module _ (p : notPath (pathOf path) ≡ false) where
-    pub rename-no-user : noUser s ≡ true → stepRename c s t room path l ≡ refusal 8 s t
-    unfolding stepRename
-    rename-no-user u = rw (p, u)
-
-    module _ (u : noUser s ≡ false) where
-      pub rename-barred : (sameLabel l restricted || policyWord (policyIn s) l) ≡ true → stepRename c s t room path l ≡ refusal 9 s t
-      unfolding stepRename
-      rename-barred b = rw (p, u, b)
-
-      pub rename-seen : (sameLabel l restricted || policyWord (policyIn s) l) ≡ false
-          → stepRename c s t room path l ≡ finish room (countText c s t path) s (changed t (renamed l (doneIn c s t path) (records t))) s t
-      unfolding stepRename
-      rename-seen b = rw (p, u, b)
-
--- `(remove P)`, by the tests that it meets
-module _ (s t : List ℕ) (room : ℕ) (path : List ℕ) where
-  pub remove-no-path : notPath (pathOf path) ≡ true → stepRemove s t room path ≡ refusal 4 s t
-  unfolding stepRemove
-  remove-no-path p = rw p
-
-  module _ (p : notPath (pathOf path) ≡ false) where
-    pub remove-no-user : noUser s ≡ true → stepRemove s t room path ≡ refusal 8 s t
-    unfolding stepRemove
-    remove-no-user u = rw (p, u)
-
-    pub remove-seen : noUser s ≡ false
-        → stepRemove s t room path ≡ finish room (countText change.Remove s t path) s (changed t (removed (doneIn change.Remove s t path) (records t))) s t
-    unfolding stepRemove
-    remove-seen u = rw (p, u)
-
--- `(append P TREE)`, `(before P TREE)` and `(after P TREE)`, by the tests that they meet
-module _ (place : Place) (s t : List ℕ) (room : ℕ) (path : List ℕ) (m : ℕ) (tree : List ℕ) where
-  pub insert-no-path : notPath (pathOf path) ≡ true → stepInsert place s t room path m tree ≡ refusal 4 s t
-  unfolding stepInsert
-  insert-no-path p = rw p
-
-  module _ (p : notPath (pathOf path) ≡ false) where
-    pub insert-no-user : noUser s ≡ true → stepInsert place s t room path m tree ≡ refusal 8 s t
-    unfolding stepInsert
-    insert-no-user u = rw (p, u)
-
-    module _ (u : noUser s ≡ false) where
-      pub insert-restricted : treeRestricted m tree ≡ true → stepInsert place s t room path m tree ≡ refusal 9 s t
-      unfolding stepInsert
-      insert-restricted b = rw (p, u, b)
-
-      pub insert-seen : treeRestricted m tree ≡ false
-          → stepInsert place s t room path m tree
-          ≡ inserting place (doneIn (changeAt place) s t path) m tree (countText (changeAt place) s t path) s s t room
-      unfolding stepInsert
-      insert-seen b = rw (p, u, b)

@@ -113,7 +113,7 @@ found-named P x u e =
     (omega arith, rw (sub-zero u) at (h .2))
 
 -- What is found is declared and has a name, as the rights ask for.
-names-length : (p : List ℕ) (n i : ℕ) → length (namesFrom p n i) ≡ n
+pub names-length : (p : List ℕ) (n i : ℕ) → length (namesFrom p n i) ≡ n
 unfolding namesFrom
 names-length p zero i = refl
 names-length p (suc n) i = ap suc (names-length p n (suc i))

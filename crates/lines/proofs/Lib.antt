@@ -1,11 +1,13 @@
+pub mod OutcomeLaws
+pub mod RefusalLaws
 pub mod StateLaws
-pub mod StepLaws
+pub mod UserViewLaws
 pub mod StoredPaths
 pub mod StoredSteps
 pub mod EditTests
 pub mod EditBytes
 pub mod EditKept
 pub mod PolicyEdits
-pub mod TreeStepLaws
+pub mod PolicyLineLaws
+pub mod TreeLineLaws
 pub mod ChangeLaws
-pub mod AnswerRoom

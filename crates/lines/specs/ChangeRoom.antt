@@ -3,16 +3,16 @@ use Prim.Native.Nat.{ℕ}
 use mathlib.Core.Bool.{true}
 use mathlib.Core.Path.{_≡_}
 use mathlib.Core.List.{List, _++_, map}
-use lib.ListN.{drop}
+use lib.ListN.{length, drop}
 use Rattle.rights.specs.Automaton.{bit}
 use Rattle.rights.specs.Policy.{position, read}
 use Rattle.rights.specs.Rights.{holds, askedOn}
 use Rattle.rights.specs.Table.{count, records}
 use Rattle.views.specs.Marks.{marksOf, markCount}
+use Rattle.views.specs.Shown.{shownNumbers}
 use Rattle.views.specs.declared.done.Change.{Change}
 use Rattle.lines.specs.State.{policyIn, userOf}
-use Rattle.lines.specs.Step.{rightsIn, marksIn}
-use Rattle.lines.specs.StepTree.{selectedIn, doneIn}
+use Rattle.lines.specs.UserView.{rightsIn, storedIn, marksIn, selectedIn, doneIn}
 
 -- a set of rights with the two that decide what is shown
 pub record ForView (asked : ℕ) : Type 0 where
@@ -26,6 +26,12 @@ AskedHeld asked s t rights rights' = rights' ≡ askedOn asked (policyIn s) (use
 -- the user's rights on each record; the rest of the area is as it was
 abbrev pub RightsHeld : List ℕ → List ℕ → List ℕ → List ℕ → Type 0
 RightsHeld s t rights rights' = rights' ≡ rightsIn s t ++ drop (count t) rights
+
+-- what the selection of a path leaves: k, how many nodes are shown, their numbers, and their marks; the rest of both areas is as it was
+pub record Chosen (s t path shown marks : List ℕ) (k : ℕ) (shown' marks' : List ℕ) : Type 0 where
+  pub size : k ≡ length (shownNumbers (storedIn s t))
+  pub numbers : shown' ≡ shownNumbers (storedIn s t) ++ drop k shown
+  pub picked : marks' ≡ marksIn s t path ++ drop k marks
 
 -- the records that a path selects, and k, how many nodes are selected; the rest of each area is as it was
 pub record Selected (s t path rights selected : List ℕ) (k : ℕ) (rights' selected' : List ℕ) : Type 0 where

@@ -1,5 +1,8 @@
+pub mod Outcome
+pub mod Refusal
 pub mod State
-pub mod Step
 pub mod PolicyEdit
-pub mod StepTree
+pub mod UserView
+pub mod Effect
+pub mod Work
 pub mod ChangeRoom

@@ -28,6 +28,15 @@ subjectFrom x u (y ∷ ys) = cond (sameLabel x y) (Subject u) (subjectFrom x (su
 unfoldable pub subjectNamed : Policy → List ℕ → Found
 subjectNamed P x = subjectFrom x 0 (P .names)
 
+abbrev pub isUnknown : Found → Bool
+isUnknown (Subject u) = false
+isUnknown Unknown = true
+
+-- the number of a subject that was found; a check for Unknown stands in front of each use
+abbrev pub numberIn : Found → ℕ
+numberIn (Subject u) = u
+numberIn Unknown = 0
+
 -- an isa line that says that n is an r
 abbrev pub isLine : ℕ → ℕ → ℕ × ℕ → Bool
 isLine n r w = eqb (w .0) n && eqb (w .1) r

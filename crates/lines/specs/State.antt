@@ -52,17 +52,27 @@ withSession g u s = g ∷ u ∷ drop 2 s
 abbrev pub withPolicy : List ℕ → List ℕ → List ℕ
 withPolicy p s = take 8 s ++ p
 
--- The session beside its policy and its table: a stage of the five; a rule is held from stage B on; "a root in the table without the root line taken, or the
--- reverse"; a user exactly at stage E, and a declared one.
-unfoldable pub sessionOk : List ℕ → List ℕ → Bool
-sessionOk s t =
+-- "a user exactly at stage E"
+abbrev pub userAtE : List ℕ → Bool
+userAtE s = Bool·beq (eqb (stage s) stageE) (leb 1 (userByte s))
+
+-- The session beside its policy: a stage of the five, a declared user, zeros, a rule only from stage B on; a user exactly at stage E
+unfoldable pub sessionOk : List ℕ → Bool
+sessionOk s =
     leb (stage s) stageE
     && (leb (userByte s) (subjectCount (policyBytes s))
     && (zeros s 2 6
     && ((eqb (ruleCount (policyBytes s)) 0 || leb stageB (stage s))
-    && (Bool·beq (leb stageC (stage s)) (leb 1 (count t))
-    && Bool·beq (eqb (stage s) stageE) (leb 1 (userByte s))))))
+    && userAtE s)))
+
+-- A state by itself: "a state against the limits, names, paths or stages above"
+unfoldable pub stateOk : List ℕ → Bool
+stateOk s = eqb (length s) 68880 && (policyOk (policyBytes s) && sessionOk s)
+
+-- The state beside the table: not "a root in the table without the root line taken, or the reverse"
+abbrev pub agrees : List ℕ → List ℕ → Bool
+agrees s t = Bool·beq (leb stageC (stage s)) (leb 1 (count t))
 
 -- What 13 lets pass
 unfoldable pub storeOk : List ℕ → List ℕ → Bool
-storeOk s t = tableOk t && (eqb (length s) 68880 && (policyOk (policyBytes s) && sessionOk s t))
+storeOk s t = tableOk t && (stateOk s && agrees s t)

@@ -1,15 +1,16 @@
 // The six changes (document 01, stage E and "Changes"). Everything is decided, and the answer put, before a byte of the table is written.
 use crate::limits::POLICY_AT;
 use crate::line::Answer;
+use crate::queries::path_refusal;
 use crate::queries::select_user;
+use crate::refusals::BANNED_LABEL;
+use crate::refusals::area_refusal;
+use crate::tree_lines::insert_refusal;
 use crate::tree_lines::tree_restricted;
-use crate::tree_lines::turned_down;
 use answers::answer::answer_done;
 use rights::labels::is_restricted;
 use rights::limits::ALL_RIGHTS;
 use rights::limits::RECORDS_MAX;
-use rights::path::Read;
-use rights::path::check_path;
 use rights::policy::is_policy_word;
 use rights::table::count_of;
 use views::done::Change;
@@ -21,22 +22,20 @@ use views::marks::count_marks;
 use views::remove::remove_marked;
 use views::rename::rename_marked;
 ghost use mathlib.Core.Path.{_≡_};
-ghost use mathlib.Core.Bool.{true, false, _||_};
+ghost use mathlib.Core.Bool.{true, _||_};
 ghost use Prim.Native.Nat.{_*_, _≤_};
 ghost use lib.ListN.{length};
 ghost use Rattle.rights.specs.Labels.{sameLabel, restricted};
-ghost use Rattle.rights.specs.PathReader.{pathOf};
 ghost use Rattle.rights.specs.Policy.{policyWord};
-ghost use Rattle.rights.specs.Table.{count, records, tableOk};
+ghost use Rattle.rights.specs.Table.{count, tableOk};
 ghost use Rattle.views.specs.Marks.{marked};
 ghost use Rattle.answers.specs.Answer.{doneText};
-ghost use Rattle.views.specs.Change.{changed, renamed, removed};
-ghost use Rattle.views.specs.declared.done.Change.the-variants as change;
 ghost use Rattle.answers.specs.AnswerArea.{Answered};
 ghost use Rattle.lines.specs.ChangeRoom.{Selected, Decided};
-ghost use Rattle.lines.specs.State.{policyIn, storeOk};
-ghost use Rattle.lines.specs.Step.{Made, finish, noUser, notPath};
-ghost use Rattle.lines.specs.StepTree.{doneIn, countText, inserting, changeAt, stepRename, stepInsert, stepRemove};
+ghost use Rattle.lines.specs.Effect.{Performs};
+ghost use Rattle.lines.specs.Refusal.{Passed, firstRefusal};
+ghost use Rattle.lines.specs.State.{stage, policyIn, storeOk};
+ghost use Rattle.lines.specs.Work.{onView, renameChecks, treeChecks, changeAt, insertAt, workRename, workInsert, workRemove};
 
 // Writes the user's rights on each record and the marks of the records that a path selects, and returns how many are selected.
 fn mark_selected(
@@ -46,8 +45,10 @@ fn mark_selected(
     rights: &mut [u8],
     selected: &mut [u8],
 ) -> usize
-    requires { ⌜ (storeOk (now state) (now table) ≡ true) × (noUser (now state) ≡ false) × (notPath (pathOf (now path)) ≡ false) × (length (now rights) ≡ 16384) × (length (now selected) ≡ 16384) ⌝ }
-    ensures { λ r. ⌜ Selected (now (state .entry)) (now (table .entry)) (now (path .entry)) (now (rights .entry)) (now (selected .entry)) r (now (rights .exit)) (now (selected .exit)) ⌝ }
+    requires { ⌜ (storeOk (now state) (now table) ≡ true) × Passed (onView (now path) (now state))
+        × (length (now rights) ≡ 16384) × (length (now selected) ≡ 16384) ⌝ }
+    ensures { λ r. ⌜ Selected (now (state .entry)) (now (table .entry)) (now (path .entry)) (now (rights .entry)) (now (selected .entry)) r
+        (now (rights .exit)) (now (selected .exit)) ⌝ }
 {
     let mut shown = [0u16; RECORDS_MAX];
     let mut marks = [0u8; RECORDS_MAX];
@@ -67,7 +68,7 @@ fn mark_selected(
 
 // Writes the marks of the records that the change does, and returns how many nodes are selected.
 fn mark_change(state: &[u8], table: &[u8], change: Change, path: &[u8], done: &mut [u8]) -> usize
-    requires { ⌜ (storeOk (now state) (now table) ≡ true) × (noUser (now state) ≡ false) × (notPath (pathOf (now path)) ≡ false) × (length (now done) ≡ 16384) ⌝ }
+    requires { ⌜ (storeOk (now state) (now table) ≡ true) × Passed (onView (now path) (now state)) × (length (now done) ≡ 16384) ⌝ }
     ensures { λ r. ⌜ Decided change (now (state .entry)) (now (table .entry)) (now (path .entry)) (now (done .entry)) r (now (done .exit)) ⌝ }
 {
     let mut rights = [0u8; RECORDS_MAX];
@@ -106,27 +107,19 @@ fn is_barred(state: &[u8], table: &[u8], label: &[u8]) -> bool
     is_policy_word(&state[POLICY_AT..], label, 0, label.len())
 }
 
-// `(rename P L)` and `(update P L)`, with room for marks.
-fn rename_with(
-    state: &[u8],
-    table: &mut [u8],
-    change: Change,
-    path: &[u8],
-    label: &[u8],
-    done: &mut [u8],
-    area: &mut [u8],
-) -> Answer
-    requires { ⌜ (storeOk (now state) (now table) ≡ true) × (noUser (now state) ≡ false) × (notPath (pathOf (now path)) ≡ false) × (length (now done) ≡ 16384) × (length (now label) ≤ 24) ⌝ }
-    ensures { λ r. ⌜ Made (finish (length (now (area .entry))) (countText change (now (state .entry)) (now (table .entry)) (now (path .entry))) (now (state .entry)) (changed (now (table .entry)) (renamed (now (label .entry)) (doneIn change (now (state .entry)) (now (table .entry)) (now (path .entry))) (records (now (table .entry))))) (now (state .entry)) (now (table .entry))) (now (area .entry)) r (now (state .entry)) (now (table .exit)) (now (area .exit)) ⌝ }
+// The refusal of `(rename P L)` and `(update P L)`.
+fn rename_refusal(state: &[u8], table: &[u8], path: &[u8], label: &[u8]) -> u8
+    requires { ⌜ storeOk (now state) (now table) ≡ true ⌝ }
+    ensures { λ r. ⌜ r ≡ firstRefusal (renameChecks (now (state .entry)) (now (path .entry)) (now (label .entry))) ⌝ }
 {
-    let k = mark_change(state, table, change, path, done);
-    let n = count_of(table);
-    let need = answer_change(table, k, &done[0..n], area);
-    if area.len() < need {
-        return Answer::Refused(12);
+    let down = path_refusal(state, path);
+    if down != 0 {
+        return down;
     }
-    rename_marked(table, &done[0..n], label, 0, label.len());
-    Answer::Accepted(need)
+    if is_barred(state, table, label) {
+        return BANNED_LABEL;
+    }
+    0
 }
 
 // `(rename P L)` and `(update P L)`.
@@ -139,55 +132,45 @@ pub fn rename(
     area: &mut [u8],
 ) -> Answer
     requires { ⌜ (storeOk (now state) (now table) ≡ true) × (length (now label) ≤ 24) ⌝ }
-    ensures { λ r. ⌜ Made (stepRename change (now (state .entry)) (now (table .entry)) (length (now (area .entry))) (now (path .entry)) (now (label .entry))) (now (area .entry)) r (now (state .entry)) (now (table .exit)) (now (area .exit)) ⌝ }
+    ensures { λ r. ⌜ Performs (workRename change (now (state .entry)) (now (table .entry)) (now (path .entry)) (now (label .entry)))
+        (now (state .entry)) (now (table .entry)) (now (area .entry)) r (now (state .entry)) (now (table .exit)) (now (area .exit)) ⌝ }
 {
-    let Read::At(_) = check_path(path) else {
-        return Answer::Refused(4);
-    };
-    if state[1] == 0 {
-        return Answer::Refused(8);
-    }
-    if is_barred(state, table, label) {
-        return Answer::Refused(9);
+    let down = rename_refusal(state, table, path, label);
+    if down != 0 {
+        return Answer::Refused(down);
     }
     let mut done = [0u8; RECORDS_MAX];
-    rename_with(state, table, change, path, label, &mut done, area)
-}
-
-// `(remove P)`, with room for marks.
-fn remove_with(
-    state: &[u8],
-    table: &mut [u8],
-    path: &[u8],
-    done: &mut [u8],
-    area: &mut [u8],
-) -> Answer
-    requires { ⌜ (storeOk (now state) (now table) ≡ true) × (noUser (now state) ≡ false) × (notPath (pathOf (now path)) ≡ false) × (length (now done) ≡ 16384) ⌝ }
-    ensures { λ r. ⌜ Made (finish (length (now (area .entry))) (countText change.Remove (now (state .entry)) (now (table .entry)) (now (path .entry))) (now (state .entry)) (changed (now (table .entry)) (removed (doneIn change.Remove (now (state .entry)) (now (table .entry)) (now (path .entry))) (records (now (table .entry))))) (now (state .entry)) (now (table .entry))) (now (area .entry)) r (now (state .entry)) (now (table .exit)) (now (area .exit)) ⌝ }
-{
-    let k = mark_change(state, table, Change::Remove, path, done);
+    let k = mark_change(state, table, change, path, &mut done);
     let n = count_of(table);
     let need = answer_change(table, k, &done[0..n], area);
-    if area.len() < need {
-        return Answer::Refused(12);
+    let short = area_refusal(need, area.len());
+    if short != 0 {
+        return Answer::Refused(short);
     }
-    remove_marked(table, &done[0..n]);
+    rename_marked(table, &done[0..n], label, 0, label.len());
     Answer::Accepted(need)
 }
 
 // `(remove P)`.
 pub fn remove(state: &[u8], table: &mut [u8], path: &[u8], area: &mut [u8]) -> Answer
     requires { ⌜ storeOk (now state) (now table) ≡ true ⌝ }
-    ensures { λ r. ⌜ Made (stepRemove (now (state .entry)) (now (table .entry)) (length (now (area .entry))) (now (path .entry))) (now (area .entry)) r (now (state .entry)) (now (table .exit)) (now (area .exit)) ⌝ }
+    ensures { λ r. ⌜ Performs (workRemove (now (state .entry)) (now (table .entry)) (now (path .entry)))
+        (now (state .entry)) (now (table .entry)) (now (area .entry)) r (now (state .entry)) (now (table .exit)) (now (area .exit)) ⌝ }
 {
-    let Read::At(_) = check_path(path) else {
-        return Answer::Refused(4);
-    };
-    if state[1] == 0 {
-        return Answer::Refused(8);
+    let down = path_refusal(state, path);
+    if down != 0 {
+        return Answer::Refused(down);
     }
     let mut done = [0u8; RECORDS_MAX];
-    remove_with(state, table, path, &mut done, area)
+    let k = mark_change(state, table, Change::Remove, path, &mut done);
+    let n = count_of(table);
+    let need = answer_change(table, k, &done[0..n], area);
+    let short = area_refusal(need, area.len());
+    if short != 0 {
+        return Answer::Refused(short);
+    }
+    remove_marked(table, &done[0..n]);
+    Answer::Accepted(need)
 }
 
 // The change that inserts at a place.
@@ -201,6 +184,21 @@ fn change_at(place: Place) -> Change
     }
 }
 
+// The refusal of `(append P TREE)`, `(before P TREE)` and `(after P TREE)` before anything is selected.
+fn tree_refusal(state: &[u8], path: &[u8], tree: &[u8], m: usize) -> u8
+    requires { ⌜ (2 ≤ length (now state)) × (m * 32 ≤ length (now tree)) ⌝ }
+    ensures { λ r. ⌜ r ≡ firstRefusal (treeChecks (now (state .entry)) (now (path .entry)) m (now (tree .entry))) ⌝ }
+{
+    let down = path_refusal(state, path);
+    if down != 0 {
+        return down;
+    }
+    if tree_restricted(tree, m) {
+        return BANNED_LABEL;
+    }
+    0
+}
+
 // Inserts the tree at the places that are done, of `selected` nodes selected, if nothing refuses it.
 fn insert_done(
     state: &[u8],
@@ -212,39 +210,22 @@ fn insert_done(
     m: usize,
     area: &mut [u8],
 ) -> Answer
-    requires { ⌜ (tableOk (now table) ≡ true) × (count (now table) ≤ length (now done)) × (m * 32 ≤ length (now tree)) × (m ≤ 16384) ⌝ }
-    ensures { λ r. ⌜ Made (inserting place (now (done .entry)) m (now (tree .entry)) (doneText selected (marked (count (now (table .entry))) (now (done .entry)))) (now (state .entry)) (now (state .entry)) (now (table .entry)) (length (now (area .entry)))) (now (area .entry)) r (now (state .entry)) (now (table .exit)) (now (area .exit)) ⌝ }
+    requires { ⌜ (1 ≤ length (now state)) × (tableOk (now table) ≡ true) × (count (now table) ≤ length (now done)) × (m * 32 ≤ length (now tree)) × (m ≤ 16384) ⌝ }
+    ensures { λ r. ⌜ Performs (insertAt place (now (done .entry)) m (now (tree .entry))
+        (doneText selected (marked (count (now (table .entry))) (now (done .entry)))) (stage (now (state .entry))) (now (table .entry)))
+        (now (state .entry)) (now (table .entry)) (now (area .entry)) r (now (state .entry)) (now (table .exit)) (now (area .exit)) ⌝ }
 {
-    let down = turned_down(table, done, tree, m, place);
+    let down = insert_refusal(table, done, tree, m, place);
     if down != 0 {
         return Answer::Refused(down);
     }
     let need = answer_change(table, selected, done, area);
-    if area.len() < need {
-        return Answer::Refused(12);
+    let short = area_refusal(need, area.len());
+    if short != 0 {
+        return Answer::Refused(short);
     }
     insert_marked(table, done, tree, m, place);
     Answer::Accepted(need)
-}
-
-// `(append P TREE)`, `(before P TREE)` and `(after P TREE)`, with room for marks.
-fn insert_with(
-    state: &[u8],
-    table: &mut [u8],
-    place: Place,
-    path: &[u8],
-    tree: &[u8],
-    m: usize,
-    done: &mut [u8],
-    area: &mut [u8],
-) -> Answer
-    requires { ⌜ (storeOk (now state) (now table) ≡ true) × (noUser (now state) ≡ false) × (notPath (pathOf (now path)) ≡ false) × (length (now done) ≡ 16384) × (m * 32 ≤ length (now tree)) × (m ≤ 16384) ⌝ }
-    ensures { λ r. ⌜ Made (inserting place (doneIn (changeAt place) (now (state .entry)) (now (table .entry)) (now (path .entry))) m (now (tree .entry)) (countText (changeAt place) (now (state .entry)) (now (table .entry)) (now (path .entry))) (now (state .entry)) (now (state .entry)) (now (table .entry)) (length (now (area .entry)))) (now (area .entry)) r (now (state .entry)) (now (table .exit)) (now (area .exit)) ⌝ }
-{
-    let change = change_at(place);
-    let k = mark_change(state, table, change, path, done);
-    let n = count_of(table);
-    insert_done(state, table, place, k, &done[0..n], tree, m, area)
 }
 
 // `(append P TREE)`, `(before P TREE)` and `(after P TREE)`: a tree of m records.
@@ -258,17 +239,15 @@ pub fn insert(
     area: &mut [u8],
 ) -> Answer
     requires { ⌜ (storeOk (now state) (now table) ≡ true) × (m * 32 ≤ length (now tree)) × (m ≤ 16384) ⌝ }
-    ensures { λ r. ⌜ Made (stepInsert place (now (state .entry)) (now (table .entry)) (length (now (area .entry))) (now (path .entry)) m (now (tree .entry))) (now (area .entry)) r (now (state .entry)) (now (table .exit)) (now (area .exit)) ⌝ }
+    ensures { λ r. ⌜ Performs (workInsert place (now (state .entry)) (now (table .entry)) (now (path .entry)) m (now (tree .entry)))
+        (now (state .entry)) (now (table .entry)) (now (area .entry)) r (now (state .entry)) (now (table .exit)) (now (area .exit)) ⌝ }
 {
-    let Read::At(_) = check_path(path) else {
-        return Answer::Refused(4);
-    };
-    if state[1] == 0 {
-        return Answer::Refused(8);
-    }
-    if tree_restricted(tree, m) {
-        return Answer::Refused(9);
+    let down = tree_refusal(state, path, tree, m);
+    if down != 0 {
+        return Answer::Refused(down);
     }
     let mut done = [0u8; RECORDS_MAX];
-    insert_with(state, table, place, path, tree, m, &mut done, area)
+    let k = mark_change(state, table, change_at(place), path, &mut done);
+    let n = count_of(table);
+    insert_done(state, table, place, k, &done[0..n], tree, m, area)
 }

@@ -21,7 +21,7 @@ ghost use lib.ListN.{length, take, drop};
 ghost use Rattle.rights.specs.PathReader.{axisAt};
 ghost use Rattle.rights.specs.PolicyBytes.{policyOf, subjectCount, isaCount, ruleCount, isaN, isaR};
 ghost use Rattle.rights.specs.PolicyCheck.{policyOk};
-ghost use Rattle.lines.specs.PolicyEdit.{subjectNamed, isLine, isaHeld, hasBracket, Plain, stepsIn, pathRestricted, axisByte, stepRecords, ruleHead, withSubject, withIsa, withRule, TestEnd};
+ghost use Rattle.lines.specs.PolicyEdit.{numberIn, subjectNamed, isLine, isaHeld, hasBracket, Plain, stepsIn, pathRestricted, axisByte, stepRecords, ruleHead, withSubject, withIsa, withRule, TestEnd};
 ghost use Rattle.rights.specs.Record.{pasted};
 
 // A subject's number, or none of that name.
@@ -30,20 +30,30 @@ pub enum Found {
     Unknown,
 }
 
-// The subject whose name is the label of n bytes at byte `at` of s.
-pub fn find_name(policy: &[u8], s: &[u8], at: usize, n: usize) -> Found
-    requires { ⌜ (policyOk (now policy) ≡ true) × (at + n ≤ length (now s)) ⌝ }
-    ensures { λ r. ⌜ r ≡ subjectNamed (policyOf (now (policy .entry))) (take n (drop at (now (s .entry)))) ⌝ }
+// The subject of a name.
+pub fn find_name(policy: &[u8], name: &[u8]) -> Found
+    requires { ⌜ policyOk (now policy) ≡ true ⌝ }
+    ensures { λ r. ⌜ r ≡ subjectNamed (policyOf (now (policy .entry))) (now (name .entry)) ⌝ }
 {
     let count = wide(policy[0]);
     let mut u = 0;
     while u < count {
-        if is_name(policy, u, s, at, n) {
+        if is_name(policy, u, name, 0, name.len()) {
             return Found::Subject(u);
         }
         u += 1;
     }
     Found::Unknown
+}
+
+// The number of a subject that was found.
+pub fn number_in(found: Found) -> usize
+    ensures { λ r. ⌜ r ≡ numberIn found ⌝ }
+{
+    let Found::Subject(u) = found else {
+        return 0;
+    };
+    u
 }
 
 // Whether isa line k says that subject n is an r.

@@ -4,26 +4,45 @@ use crate::limits::STAGE_E;
 use crate::line::Answer;
 use crate::policy_edit::Found;
 use crate::policy_edit::find_name;
+use crate::policy_edit::number_in;
+use crate::refusals::BAD_NAME;
+use crate::refusals::area_refusal;
 use answers::answer::answer_ok;
 ghost use mathlib.Core.Path.{_≡_};
 ghost use mathlib.Core.Bool.{true};
 ghost use lib.ListN.{length};
 ghost use Rattle.lines.specs.State.{storeOk};
-ghost use Rattle.lines.specs.Step.{Made, stepUser};
+ghost use Rattle.lines.specs.Refusal.{firstRefusal};
+ghost use Rattle.lines.specs.Effect.{Performs};
+ghost use Rattle.lines.specs.Work.{userChecks, workUser};
+
+// The refusal of a login, by what was found of the name.
+fn user_refusal(who: Found) -> u8
+    ensures { λ r. ⌜ r ≡ firstRefusal (userChecks who) ⌝ }
+{
+    let Found::Subject(_) = who else {
+        return BAD_NAME;
+    };
+    0
+}
 
 // `(user N)`.
 pub fn log_in(state: &mut [u8], table: &[u8], name: &[u8], area: &mut [u8]) -> Answer
     requires { ⌜ storeOk (now state) (now table) ≡ true ⌝ }
-    ensures { λ r. ⌜ Made (stepUser (now (state .entry)) (now (table .entry)) (length (now (area .entry))) (now (name .entry))) (now (area .entry)) r (now (state .exit)) (now (table .entry)) (now (area .exit)) ⌝ }
+    ensures { λ r. ⌜ Performs (workUser (now (state .entry)) (now (name .entry)))
+        (now (state .entry)) (now (table .entry)) (now (area .entry)) r (now (state .exit)) (now (table .entry)) (now (area .exit)) ⌝ }
 {
-    let Found::Subject(u) = find_name(&state[POLICY_AT..], name, 0, name.len()) else {
-        return Answer::Refused(5);
-    };
+    let who = find_name(&state[POLICY_AT..], name);
+    let down = user_refusal(who);
+    if down != 0 {
+        return Answer::Refused(down);
+    }
     let need = answer_ok(area);
-    if area.len() < need {
-        return Answer::Refused(12);
+    let short = area_refusal(need, area.len());
+    if short != 0 {
+        return Answer::Refused(short);
     }
     state[0] = STAGE_E;
-    state[1] = (u + 1) as u8;
+    state[1] = (number_in(who) + 1) as u8;
     Answer::Accepted(need)
 }

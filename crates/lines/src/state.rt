@@ -12,13 +12,12 @@ ghost use mathlib.Core.Path.{_≡_};
 ghost use mathlib.Core.Bool.{true, _||_, Bool·beq};
 ghost use Prim.Native.Nat.{_≤_};
 ghost use lib.Dec.{eqb, leb};
-ghost use lib.ListN.{length, getD};
-ghost use Rattle.rights.specs.Table.{tableOk, count};
-ghost use Rattle.rights.specs.PolicyBytes.{ruleCount};
-ghost use Rattle.lines.specs.State.{stage, policyBytes, sessionOk, storeOk};
+ghost use lib.ListN.{length};
+ghost use Rattle.rights.specs.Table.{tableOk};
+ghost use Rattle.lines.specs.State.{userAtE, sessionOk, stateOk, agrees, storeOk};
 
 // Whether two tests say the same.
-fn agree(a: bool, b: bool) -> bool
+fn same(a: bool, b: bool) -> bool
     ensures { λ r. ⌜ r ≡ Bool·beq a b ⌝ }
 {
     if a {
@@ -37,17 +36,24 @@ fn rules_in_stage(rules: u8, stage: u8) -> bool
     STAGE_B <= stage
 }
 
-// Whether the session fits its policy and a table of n nodes.
-fn session_ok(state: &[u8], table: &[u8]) -> bool
-    requires { ⌜ (length (now state) ≡ 68880) × (tableOk (now table) ≡ true) ⌝ }
-    ensures { λ r. ⌜ r ≡ sessionOk (now (state .entry)) (now (table .entry)) ⌝ }
+// Whether there is a user exactly at stage E.
+fn user_at_e(state: &[u8]) -> bool
+    requires { ⌜ 2 ≤ length (now state) ⌝ }
+    ensures { λ r. ⌜ r ≡ userAtE (now (state .entry)) ⌝ }
+{
+    same(state[0] == STAGE_E, 1 <= state[1])
+}
+
+// Whether the session fits its policy.
+fn session_ok(state: &[u8]) -> bool
+    requires { ⌜ length (now state) ≡ 68880 ⌝ }
+    ensures { λ r. ⌜ r ≡ sessionOk (now (state .entry)) ⌝ }
 {
     let stage = state[0];
-    let user = state[1];
     if STAGE_E < stage {
         return false;
     }
-    if state[POLICY_AT] < user {
+    if state[POLICY_AT] < state[1] {
         return false;
     }
     if !zeros_at(state, 2, 6) {
@@ -56,11 +62,29 @@ fn session_ok(state: &[u8], table: &[u8]) -> bool
     if !rules_in_stage(state[POLICY_AT + 2], stage) {
         return false;
     }
-    let n = count_of(table);
-    if !agree(STAGE_C <= stage, 1 <= n) {
+    user_at_e(state)
+}
+
+// Whether a state is one that 13 lets pass, beside its table or alone, whatever was lent.
+pub fn state_ok(state: &[u8]) -> bool
+    ensures { λ r. ⌜ r ≡ stateOk (now (state .entry)) ⌝ }
+{
+    if state.len() != STATE_BYTES {
         return false;
     }
-    agree(stage == STAGE_E, 1 <= user)
+    if !policy_ok(&state[POLICY_AT..]) {
+        return false;
+    }
+    session_ok(state)
+}
+
+// Whether the root line was taken exactly if the table has a root.
+fn agree(state: &[u8], table: &[u8]) -> bool
+    requires { ⌜ (1 ≤ length (now state)) × (tableOk (now table) ≡ true) ⌝ }
+    ensures { λ r. ⌜ r ≡ agrees (now (state .entry)) (now (table .entry)) ⌝ }
+{
+    let n = count_of(table);
+    same(STAGE_C <= state[0], 1 <= n)
 }
 
 // Whether state and table are what 13 lets pass, whatever was lent.
@@ -70,11 +94,8 @@ pub fn store_ok(state: &[u8], table: &[u8]) -> bool
     if !table_ok(table) {
         return false;
     }
-    if state.len() != STATE_BYTES {
+    if !state_ok(state) {
         return false;
     }
-    if !policy_ok(&state[POLICY_AT..]) {
-        return false;
-    }
-    session_ok(state, table)
+    agree(state, table)
 }

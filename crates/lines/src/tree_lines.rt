@@ -2,6 +2,10 @@
 use crate::limits::STAGE_C;
 use crate::limits::STAGE_D;
 use crate::line::Answer;
+use crate::refusals::BANNED_LABEL;
+use crate::refusals::LEVEL_TOO_DEEP;
+use crate::refusals::TABLE_FULL;
+use crate::refusals::area_refusal;
 use answers::answer::answer_ok;
 use rights::bytes::wide;
 use rights::labels::is_restricted;
@@ -18,30 +22,30 @@ use views::insert::insert_marked;
 use views::insert::too_deep;
 use views::store::put_count;
 ghost use mathlib.Core.Path.{_≡_};
-ghost use mathlib.Core.Bool.{true, false, cond, not};
+ghost use mathlib.Core.Bool.{true};
+ghost use mathlib.Core.List.{[], _∷_};
 ghost use Prim.Native.Nat.{_+_, _*_, _≤_, _<_};
 ghost use lib.ListN.{length, take, drop};
 ghost use Rattle.rights.specs.Labels.{sameLabel, restricted};
-ghost use Rattle.rights.specs.Table.{count, records, label, tableOk};
-ghost use Rattle.views.specs.Change.{chunks, lower, deepest, tooDeep, hasRoom};
-ghost use Rattle.views.specs.Marks.{marksOf};
+ghost use Rattle.rights.specs.Table.{count, label, tableOk};
+ghost use Rattle.views.specs.declared.insert.Place.the-variants.{Append};
+ghost use Rattle.lines.specs.Effect.{Performs};
+ghost use Rattle.lines.specs.Refusal.{firstRefusal};
 ghost use Rattle.lines.specs.State.{stage, storeOk};
-ghost use Rattle.lines.specs.Step.{Made};
-ghost use Rattle.lines.specs.StepTree.{treeRestricted, rootAlone, stepRoot, stepChild};
+ghost use Rattle.lines.specs.Work.{treeRestricted, labelCheck, insertChecks, rootChecks, workRoot, workChild};
 
-// The number of the refusal, 10 or 11, that an insertion at the marked places meets, and 0 if it meets none.
-pub fn turned_down(table: &[u8], marks: &[u8], tree: &[u8], m: usize, place: Place) -> u8
+// The refusal of an insertion of a tree of m records at the marked places.
+pub fn insert_refusal(table: &[u8], marks: &[u8], tree: &[u8], m: usize, place: Place) -> u8
     requires { ⌜ (tableOk (now table) ≡ true) × (count (now table) ≤ length (now marks)) × (m * 32 ≤ length (now tree)) × (m ≤ 16384) ⌝ }
-    ensures { λ r. ⌜ r ≡ cond (tooDeep (lower place + deepest (chunks m (now (tree .entry)))) (marksOf (now (marks .entry))) (records (now (table .entry)))) 10
-        (cond (not (hasRoom (now (table .entry)) (now (marks .entry)) m)) 11 0) ⌝ }
+    ensures { λ r. ⌜ r ≡ firstRefusal (insertChecks place (now (marks .entry)) m (now (tree .entry)) (now (table .entry))) ⌝ }
 {
     if too_deep(table, marks, tree, m, place) {
-        return 10;
+        return LEVEL_TOO_DEEP;
     }
     if has_room(table, marks, m) {
         return 0;
     }
-    11
+    TABLE_FULL
 }
 
 // Whether the record at byte `at` of a tree has the label RESTRICTED.
@@ -71,20 +75,34 @@ pub fn tree_restricted(tree: &[u8], m: usize) -> bool
     false
 }
 
+// The refusal of `(root L)`, where no root stands.
+fn root_refusal(table: &[u8], label: &[u8]) -> u8
+    requires { ⌜ (tableOk (now table) ≡ true) × (count (now table) ≡ 0) ⌝ }
+    ensures { λ r. ⌜ r ≡ firstRefusal (rootChecks (now (table .entry)) (now (label .entry))) ⌝ }
+{
+    if is_restricted(label, 0, label.len()) {
+        return BANNED_LABEL;
+    }
+    if capacity_of(table.len()) < 1 {
+        return TABLE_FULL;
+    }
+    0
+}
+
 // `(root L)`, where no root stands.
 pub fn root(state: &mut [u8], table: &mut [u8], label: &[u8], area: &mut [u8]) -> Answer
     requires { ⌜ (storeOk (now state) (now table) ≡ true) × (stage (now state) < 2) × (length (now label) ≤ 24) ⌝ }
-    ensures { λ r. ⌜ Made (stepRoot (now (state .entry)) (now (table .entry)) (length (now (area .entry))) (now (label .entry))) (now (area .entry)) r (now (state .exit)) (now (table .exit)) (now (area .exit)) ⌝ }
+    ensures { λ r. ⌜ Performs (workRoot (now (table .entry)) (now (label .entry)))
+        (now (state .entry)) (now (table .entry)) (now (area .entry)) r (now (state .exit)) (now (table .exit)) (now (area .exit)) ⌝ }
 {
-    if is_restricted(label, 0, label.len()) {
-        return Answer::Refused(9);
-    }
-    if capacity_of(table.len()) < 1 {
-        return Answer::Refused(11);
+    let down = root_refusal(table, label);
+    if down != 0 {
+        return Answer::Refused(down);
     }
     let need = answer_ok(area);
-    if area.len() < need {
-        return Answer::Refused(12);
+    let short = area_refusal(need, area.len());
+    if short != 0 {
+        return Answer::Refused(short);
     }
     put_node(table, COUNT_BYTES, 0, label, 0, label.len());
     put_count(table, 1);
@@ -92,40 +110,35 @@ pub fn root(state: &mut [u8], table: &mut [u8], label: &[u8], area: &mut [u8]) -
     Answer::Accepted(need)
 }
 
-// `(child TREE)`, where the marks are those of the root alone.
-fn child_with(
-    state: &mut [u8],
-    table: &mut [u8],
-    marks: &[u8],
-    tree: &[u8],
-    m: usize,
-    area: &mut [u8],
-) -> Answer
-    requires { ⌜ (storeOk (now state) (now table) ≡ true) × (now marks ≡ rootAlone) × (treeRestricted m (now tree) ≡ false) × (m * 32 ≤ length (now tree)) × (m ≤ 16384) ⌝ }
-    ensures { λ r. ⌜ Made (stepChild (now (state .entry)) (now (table .entry)) (length (now (area .entry))) m (now (tree .entry))) (now (area .entry)) r (now (state .exit)) (now (table .exit)) (now (area .exit)) ⌝ }
+// The refusal of `(child TREE)`, where the marks are those of the root alone.
+fn child_refusal(table: &[u8], marks: &[u8], tree: &[u8], m: usize) -> u8
+    requires { ⌜ (tableOk (now table) ≡ true) × (count (now table) ≤ length (now marks)) × (m * 32 ≤ length (now tree)) × (m ≤ 16384) ⌝ }
+    ensures { λ r. ⌜ r ≡ firstRefusal (labelCheck m (now (tree .entry)) ∷ insertChecks Append (now (marks .entry)) m (now (tree .entry)) (now (table .entry))) ⌝ }
 {
-    let down = turned_down(table, marks, tree, m, Place::Append);
-    if down != 0 {
-        return Answer::Refused(down);
+    if tree_restricted(tree, m) {
+        return BANNED_LABEL;
     }
-    let need = answer_ok(area);
-    if area.len() < need {
-        return Answer::Refused(12);
-    }
-    insert_marked(table, marks, tree, m, Place::Append);
-    state[0] = STAGE_D;
-    Answer::Accepted(need)
+    insert_refusal(table, marks, tree, m, Place::Append)
 }
 
 // `(child TREE)`: the tree's m records become the root's last child.
 pub fn child(state: &mut [u8], table: &mut [u8], tree: &[u8], m: usize, area: &mut [u8]) -> Answer
     requires { ⌜ (storeOk (now state) (now table) ≡ true) × (m * 32 ≤ length (now tree)) × (m ≤ 16384) ⌝ }
-    ensures { λ r. ⌜ Made (stepChild (now (state .entry)) (now (table .entry)) (length (now (area .entry))) m (now (tree .entry))) (now (area .entry)) r (now (state .exit)) (now (table .exit)) (now (area .exit)) ⌝ }
+    ensures { λ r. ⌜ Performs (workChild (now (table .entry)) m (now (tree .entry)))
+        (now (state .entry)) (now (table .entry)) (now (area .entry)) r (now (state .exit)) (now (table .exit)) (now (area .exit)) ⌝ }
 {
-    if tree_restricted(tree, m) {
-        return Answer::Refused(9);
-    }
     let mut marks = [0u8; RECORDS_MAX];
     marks[0] = 1;
-    child_with(state, table, &marks, tree, m, area)
+    let down = child_refusal(table, &marks, tree, m);
+    if down != 0 {
+        return Answer::Refused(down);
+    }
+    let need = answer_ok(area);
+    let short = area_refusal(need, area.len());
+    if short != 0 {
+        return Answer::Refused(short);
+    }
+    insert_marked(table, &marks, tree, m, Place::Append);
+    state[0] = STAGE_D;
+    Answer::Accepted(need)
 }

@@ -13,7 +13,7 @@ use mir.Val.{SFits, toZ, ofZ}
 use Rattle.lines.specs.declared.line.Answer.{Answer}
 use Rattle.lines.specs.declared.line.Answer.the-variants.{Accepted, Refused}
 use Rattle.lines.specs.State.{storeOk}
-use Rattle.lines.specs.Step.{Reply, says, refuses, Outcome, Made, answerOf}
+use Rattle.lines.specs.Outcome.{Reply, says, refuses, Outcome, Made, answerOf}
 use Rattle.lines.proofs.StateLaws.{store-held}
 use Rattle.louvretansy.specs.Library.{stateBytes, numberOf, Returned}
 

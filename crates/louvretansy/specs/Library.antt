@@ -4,7 +4,7 @@ use mathlib.Core.Path.{_≡_}
 use mathlib.Core.List.{List}
 use lib.IntN.{ℤ, pos, negℤ}
 use lib.ListN.{length}
-use Rattle.lines.specs.Step.{Reply, says, refuses, Outcome, areaAfter}
+use Rattle.lines.specs.Outcome.{Reply, says, refuses, Outcome, areaAfter}
 
 -- the bytes of a state: of the length that 13 asks for (crates/lines/specs/State.antt, `storeOk`)
 abbrev pub stateBytes : ℕ

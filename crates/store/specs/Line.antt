@@ -1,7 +1,7 @@
 -- One line of any form: `step` (document 01, "Lines", "Who can be turned down"). "13 is tested first, then 1 to 12 rising."
 use Prim.Native.Nat.{ℕ, _-_}
 use mathlib.Core.Bool.{Bool, true, false, cond, not, _&&_, Bool·beq}
-use mathlib.Core.List.{List}
+use mathlib.Core.List.{List, [], _∷_, _++_}
 use lib.Dec.{leb, ltb}
 use lib.ListN.{take, drop, length}
 use Rattle.views.specs.declared.done.Change.the-variants as change
@@ -14,8 +14,11 @@ use Rattle.forms.specs.Tree.{recordsOf}
 use Rattle.forms.specs.Form.{readForm, treeIn}
 use Rattle.answers.specs.AnswerChoice.{Choice}
 use Rattle.lines.specs.State.{stageA, stageB, stageC, stageD, stageE, stage, storeOk}
-use Rattle.lines.specs.Step.{Outcome, refusal, refuse, stepSubject, stepIsa, stepRule, stepUser, stepView, stepQuery, stepFind}
-use Rattle.lines.specs.StepTree.{stepRoot, stepChild, stepRename, stepInsert, stepRemove}
+use Rattle.lines.specs.Outcome.{Outcome}
+use Rattle.lines.specs.Refusal.{Check, check, badStore, badLine, noForm, wrongStage}
+use Rattle.lines.specs.Effect.{Work, reading, guarded, performed}
+use Rattle.lines.specs.Work.{workSubject, workIsa, workRule, workRoot, workChild, workUser, workView, workAsk, workRename, workInsert, workRemove}
+use Rattle.lines.specs.declared.queries.Ask.the-variants as ask
 
 -- the stage that a form belongs to
 abbrev pub stageOf : Form → ℕ
@@ -69,32 +72,34 @@ abbrev pub acceptByte : Bool → ℕ
 acceptByte a = cond a 1 0
 
 -- The line's own work, one clause a form; `tree` holds the records of the line's tree.
-unfoldable pub stepForm : Choice → Form → List ℕ → List ℕ → ℕ → List ℕ → List ℕ → Outcome
-stepForm choice (Subject n) s t room line tree = stepSubject s t room (bytesOf line n)
-stepForm choice (Isa n r) s t room line tree = stepIsa s t room (bytesOf line n) (bytesOf line r)
-stepForm choice (Rule a b p n) s t room line tree = stepRule s t room (acceptByte a) b (bytesOf line p) (bytesOf line n)
-stepForm choice (Root l) s t room line tree = stepRoot s t room (bytesOf line l)
-stepForm choice (Child m) s t room line tree = stepChild s t room m tree
-stepForm choice (User n) s t room line tree = stepUser s t room (bytesOf line n)
-stepForm choice View s t room line tree = stepView s t room
-stepForm choice (Query p) s t room line tree = stepQuery s t room (bytesOf line p)
-stepForm choice (Find p) s t room line tree = stepFind choice s t room (bytesOf line p)
-stepForm choice (Rename p l) s t room line tree = stepRename change.Rename s t room (bytesOf line p) (bytesOf line l)
-stepForm choice (Update p l) s t room line tree = stepRename change.Update s t room (bytesOf line p) (bytesOf line l)
-stepForm choice (Append p m) s t room line tree = stepInsert place.Append s t room (bytesOf line p) m tree
-stepForm choice (Before p m) s t room line tree = stepInsert place.Before s t room (bytesOf line p) m tree
-stepForm choice (After p m) s t room line tree = stepInsert place.After s t room (bytesOf line p) m tree
-stepForm choice (Remove p) s t room line tree = stepRemove s t room (bytesOf line p)
-stepForm choice NoForm s t room line tree = refusal 2 s t
+abbrev pub workOf : Choice → Form → List ℕ → List ℕ → List ℕ → List ℕ → Work
+workOf choice (Subject n) s t line tree = workSubject s (bytesOf line n)
+workOf choice (Isa n r) s t line tree = workIsa s (bytesOf line n) (bytesOf line r)
+workOf choice (Rule a b p n) s t line tree = workRule s (acceptByte a) b (bytesOf line p) (bytesOf line n)
+workOf choice (Root l) s t line tree = workRoot t (bytesOf line l)
+workOf choice (Child m) s t line tree = workChild t m tree
+workOf choice (User n) s t line tree = workUser s (bytesOf line n)
+workOf choice View s t line tree = workView s t
+workOf choice (Query p) s t line tree = workAsk choice ask.Query s t (bytesOf line p)
+workOf choice (Find p) s t line tree = workAsk choice ask.Find s t (bytesOf line p)
+workOf choice (Rename p l) s t line tree = workRename change.Rename s t (bytesOf line p) (bytesOf line l)
+workOf choice (Update p l) s t line tree = workRename change.Update s t (bytesOf line p) (bytesOf line l)
+workOf choice (Append p m) s t line tree = workInsert place.Append s t (bytesOf line p) m tree
+workOf choice (Before p m) s t line tree = workInsert place.Before s t (bytesOf line p) m tree
+workOf choice (After p m) s t line tree = workInsert place.After s t (bytesOf line p) m tree
+workOf choice (Remove p) s t line tree = workRemove s t (bytesOf line p)
+workOf choice NoForm s t line tree = record { checks = check noForm true ∷ []; text = []; effect = reading }
 
--- "2 no form listed above; 3 wrong stage"
-unfoldable pub stepRead : Choice → Form → List ℕ → List ℕ → ℕ → List ℕ → List ℕ → Outcome
-stepRead choice f s t room line tree =
-    refuse (isNoForm f) 2 s t (refuse (not (inStage (stageOf f) (stage s))) 3 s t (stepForm choice f s t room line tree))
+-- what comes before a form's own checks
+abbrev pub lineChecks : List ℕ → List ℕ → List ℕ → Form → List Check
+lineChecks s t line f =
+    check badStore (not (storeOk s t))
+    ∷ check badLine (not (lineOk line))
+    ∷ check noForm (isNoForm f)
+    ∷ check wrongStage (not (inStage (stageOf f) (stage s)))
+    ∷ []
 
 -- What a line answers and leaves, from the state s, the table t and an area of `room` bytes, at a choice of `find`.
 unfoldable pub step : Choice → List ℕ → List ℕ → List ℕ → ℕ → Outcome
 step choice s t line room =
-    refuse (not (storeOk s t)) 13 s t
-    (refuse (not (lineOk line)) 1 s t
-    (stepRead choice (readForm line) s t room line (recordsOf (treeIn line))))
+    performed (guarded (lineChecks s t line (readForm line)) (workOf choice (readForm line) s t line (recordsOf (treeIn line)))) room s t

@@ -5,6 +5,7 @@ use forms::limits::LINE_MAX;
 use libc::STDIN_FILENO;
 use libc::STDOUT_FILENO;
 use lines::line::Answer;
+use lines::refusals::BAD_LINE;
 use store::line::line;
 ghost use mathlib.Core.Path.{_≡_};
 ghost use Prim.Native.Nat.{_≤_};
@@ -16,8 +17,6 @@ const TOO_LONG: usize = LINE_MAX + 1;
 const INPUT_MAX: usize = 4_294_967_295;
 // "The program, whose area has 65,536 bytes"
 const AREA_BYTES: usize = 65536;
-// "1 too long or a byte outside 32 to 126"
-const BAD_LINE: u8 = 1;
 
 // The bytes that the line has so far, TOO_LONG where they are too many; the answers' bytes that wait to be written; whether standard output takes bytes.
 struct Progress {

@@ -1,5 +1,5 @@
 use native.Mathlib.Omega.{arith}
-use Rattle.lines.proofs.AnswerRoom.{accepted-within}
+use Rattle.lines.proofs.OutcomeLaws.{accepted-within}
 use Rattle.louvretansy.proofs.LibraryLaws.{length-fits, accepted, turned-down}
 use borrow.Author.Needs.{needs}
 use Rattle.louvretansy.proofs.timetable_line.Statement.{statement}

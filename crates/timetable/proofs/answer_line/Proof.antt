@@ -1,5 +1,5 @@
 use native.Mathlib.Omega.{arith}
-use Rattle.lines.proofs.AnswerRoom.{accepted-within}
+use Rattle.lines.proofs.OutcomeLaws.{accepted-within}
 use borrow.Author.Needs.{needs}
 use Rattle.timetable.proofs.answer_line.Statement.{statement}
 use Rattle.timetable.proofs.answer_line.Tie as tie

@@ -1,46 +1,81 @@
-use mathlib.Core.Path.{refl, sym, _∙_}
+use mathlib.Core.Path.{refl, ap, _∙_}
 use native.Mathlib.Omega.{arith}
+use lib.ListN.{length, replicate}
+use Rattle.rights.proofs.Facts.{table-long}
+use Rattle.lines.specs.Effect.{performed}
+use Rattle.lines.specs.State.{stage}
+use Rattle.lines.specs.UserView.{doneIn}
+use Rattle.lines.specs.Work.{treeChecks, insertChecks, insertAt, changeAt, countText, workInsert}
+use Rattle.lines.proofs.ChangeLaws.{done-reach, done-cover, insert-parts}
+use Rattle.lines.proofs.OutcomeLaws.{made-at}
+use Rattle.lines.proofs.RefusalLaws.{passed, first-front, performs-refused, performed-guarded}
 use Rattle.lines.proofs.StateLaws.{store-held}
-use borrow.Author.Tests.{eq-eqb, ne-eqb}
-use lib.ListN.{length}
-use Rattle.rights.specs.PathReader.{pathOf}
-use Rattle.lines.proofs.StepLaws.{made-at, refused, not-path, is-path}
-use Rattle.lines.proofs.ChangeLaws.{insert-no-path, insert-no-user, insert-restricted, insert-seen}
 use borrow.Author.Needs.{needs}
 use Rattle.lines.proofs.changes.insert.Statement.{statement}
 use Rattle.lines.proofs.changes.insert.Tie as tie
 
-returns : tie.Need-returns
-returns c = let g = c .before .before .before .before .before .before .before .before .pre in
-    let a = c .before .before .before .before .before .before .before .before .args in
-    made-at (insert-no-path (a .place) _ _ _ _ _ _ (not-path (pathOf (a .path .now)) (sym (c .before .before .check-path .ensures) ∙ c .enum-told2 .given .1))) refused
+tree-refusal-requires : tie.Need-tree-refusal-requires
+tree-refusal-requires c κs = (omega (arith, store-held _ _ (c .before .before .before .before .before .pre .0) .size), c .before .before .before .before .before .pre .1)
 
-shared-slice-read-if1 : tie.Need-shared-slice-read-if1
-shared-slice-read-if1 c = omega (arith, store-held _ _ (c .before .before .before .before .before .before .before .before .before .pre .0) .size)
+returns : tie.Need-returns
+returns c = let a = c .before .before .before .before .before .before .before .args in
+    let g = c .before .before .before .before .before .before .before .pre in
+    let s = a .state .now in
+    let t = a .table .now in
+    let h = a .path .now in
+    let x = a .tree .now in
+    performs-refused (workInsert (a .place) s t h (a .m) x) s t
+    (first-front (treeChecks s h (a .m) x) (insertChecks (a .place) (doneIn (changeAt (a .place)) s t h) (a .m) x t) _ (c .before .tree-refusal .ensures) (c .if1 .taken)) (c .if1 .taken)
+
+mark-change-requires : tie.Need-mark-change-requires
+mark-change-requires c κs = let a = c .before .before .before .before .before .before .before .before .before .before .args in
+    let g = c .before .before .before .before .before .before .before .before .before .before .pre in
+    let s = a .state .now in
+    let t = a .table .now in
+    let h = a .path .now in
+    let x = a .tree .now in
+    let p = passed (treeChecks s h (a .m) x) _ refl (c .before .before .before .before .tree-refusal .ensures) (c .before .before .before .if1 .left) in
+    (g .0, (p .0, (p .1 .0, tt)), refl {a = 16384})
+
+count-of-requires : tie.Need-count-of-requires
+count-of-requires c κs = table-long _ (store-held _ _ (c .before .before .before .before .before .before .before .before .before .before .before .before .before .pre .0) .table)
+
+part-insert-done-end : tie.Need-part-insert-done-end
+part-insert-done-end c = let a = c .before .before .before .before .before .before .before .before .before .before .before .before .before .before .before .before .args in
+    let g = c .before .before .before .before .before .before .before .before .before .before .before .before .before .before .before .before .pre in
+    let s = a .state .now in
+    let t = a .table .now in
+    let h = a .path .now in
+    let x = a .tree .now in
+    done-reach _ s t h (replicate 16384 0) _ _ _ (c .before .before .before .before .before .mark-change .ensures) (c .before .before .count-of .ensures)
+
+insert-done-requires : tie.Need-insert-done-requires
+insert-done-requires c κs = let a = c .before .before .before .before .before .before .before .before .before .before .before .before .before .before .before .before .before .before .args in
+    let g = c .before .before .before .before .before .before .before .before .before .before .before .before .before .before .before .before .before .before .pre in
+    let s = a .state .now in
+    let t = a .table .now in
+    let h = a .path .now in
+    let x = a .tree .now in
+    let k = store-held s t (g .0) in
+    (omega (arith, k .size), k .table, done-cover _ s t h (replicate 16384 0) _ _ _ (c .before .before .before .before .before .before .before .mark-change .ensures) (c .before .before .before .before .count-of .ensures), g .1, g .2)
 
 returns-2 : tie.Need-returns-2
-returns-2 c = let g = c .before .before .before .before .before .before .before .before .before .before .pre in
-    let a = c .before .before .before .before .before .before .before .before .before .before .args in
-    made-at (insert-no-user (a .place) _ _ _ _ _ _ (is-path (pathOf (a .path .now)) _ (sym (c .before .before .before .before .check-path .ensures) ∙ c .before .before .enum-told .given .1)) (eq-eqb _ _ (c .if1 .taken))) refused
-
-returns-3 : tie.Need-returns-3
-returns-3 c = let g = c .before .before .before .before .before .before .before .before .before .before .before .before .pre in
-    let a = c .before .before .before .before .before .before .before .before .before .before .before .before .args in
-    made-at (insert-restricted (a .place) _ _ _ _ _ _ (is-path (pathOf (a .path .now)) _ (sym (c .before .before .before .before .before .before .check-path .ensures) ∙ c .before .before .before .before .enum-told .given .1)) (ne-eqb _ _ (c .before .before .if1 .left)) (sym (c .before .tree-restricted .ensures) ∙ c .if2 .taken)) refused
-
-insert-with-requires : tie.Need-insert-with-requires
-insert-with-requires c κs = let g = c .before .before .before .before .before .before .before .before .before .before .before .before .before .before .before .pre in
-    let a = c .before .before .before .before .before .before .before .before .before .before .before .before .before .before .before .args in
-    (g .0, ne-eqb _ _ (c .before .before .before .before .before .if1 .left), is-path (pathOf (a .path .now)) _ (sym (c .before .before .before .before .before .before .before .before .before .check-path .ensures) ∙ c .before .before .before .before .before .before .before .enum-told .given .1), refl {a = 16384}, g .1, g .2)
-
-returns-4 : tie.Need-returns-4
-returns-4 c = let g = c .before .before .before .before .before .before .before .before .before .before .before .before .before .before .before .before .before .before .before .before .before .pre in
-    let a = c .before .before .before .before .before .before .before .before .before .before .before .before .before .before .before .before .before .before .before .before .before .args in
-    made-at (insert-seen (a .place) (a .state .now) (a .table .now) (length (a .area .now)) (a .path .now) (a .m) (a .tree .now) (is-path (pathOf (a .path .now)) _ (sym (c .before .before .before .before .before .before .before .before .before .before .before .before .before .before .before .check-path .ensures) ∙ c .before .before .before .before .before .before .before .before .before .before .before .before .before .enum-told .given .1)) (ne-eqb _ _ (c .before .before .before .before .before .before .before .before .before .before .before .if1 .left)) (sym (c .before .before .before .before .before .before .before .before .before .before .tree-restricted .ensures) ∙ c .before .before .before .before .before .before .before .before .before .if2 .left)) (c .before .before .before .before .before .insert-with .ensures)
+returns-2 c = let a = c .before .before .before .before .before .before .before .before .before .before .before .before .before .before .before .before .before .before .before .before .before .before .before .args in
+    let g = c .before .before .before .before .before .before .before .before .before .before .before .before .before .before .before .before .before .before .before .before .before .before .before .pre in
+    let s = a .state .now in
+    let t = a .table .now in
+    let h = a .path .now in
+    let x = a .tree .now in
+    let p = passed (treeChecks s h (a .m) x) _ refl (c .before .before .before .before .before .before .before .before .before .before .before .before .before .before .before .before .before .tree-refusal .ensures) (c .before .before .before .before .before .before .before .before .before .before .before .before .before .before .before .before .if1 .left) in
+    let o = changeAt (a .place) in
+    let b = insertAt (a .place) (doneIn o s t h) (a .m) x (countText o s t h) (stage s) t in
+    made-at (performed-guarded (treeChecks s h (a .m) x) b (length (a .area .now)) s t p
+    ∙ ap (λ w. performed w (length (a .area .now)) s t) (insert-parts _ s t h (replicate 16384 0) _ _ _ (c .before .before .before .before .before .before .before .before .before .before .before .before .mark-change .ensures) (c .before .before .before .before .before .before .before .before .before .count-of .ensures) (a .place) (c .before .before .before .before .before .before .before .before .before .before .before .before .before .before .change-at .ensures) (a .m) x))
+    (c .before .before .before .before .insert-done .ensures)
 
 pub insert-spec : {M : Type 1} → statement M
 insert-spec =
     tie.close
-    (tie.spec (λ c κs. search needs) (λ c. search needs) (λ c. search needs) returns shared-slice-read-if1 returns-2
-    (λ c κs. search needs) returns-3 (λ c. search needs) insert-with-requires (λ c. search needs) (λ c. search needs)
-    returns-4)
+    (tie.spec tree-refusal-requires returns (λ c κs. search needs) (λ c. search needs) mark-change-requires
+    count-of-requires (λ c. search needs) (λ c. search needs) part-insert-done-end insert-done-requires
+    (λ c. search needs) (λ c. search needs) returns-2)

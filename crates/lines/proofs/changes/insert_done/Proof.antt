@@ -1,53 +1,62 @@
-use Rattle.rights.specs.Table.{count, records}
-use Rattle.views.specs.Change.{changed, placed}
+use mathlib.Core.Path.{refl, sym}
+use borrow.Author.Tests.{not-false}
+use Rattle.rights.specs.Table.{count}
 use Rattle.views.specs.Marks.{marked}
 use Rattle.answers.specs.Answer.{doneText}
-use lib.ListN.{length}
-use Rattle.lines.proofs.StepLaws.{made-at, refused}
-use Rattle.lines.proofs.TreeStepLaws.{made-kept, insert-refused, insert-shallow, insert-fits, insert-done}
-use Rattle.lines.proofs.ChangeLaws.{made-table}
+use Rattle.lines.specs.State.{stage}
+use Rattle.lines.specs.Work.{insertChecks, insertAt}
+use Rattle.lines.proofs.RefusalLaws.{passed, performs-refused, performs-short, performs-done}
+use Rattle.lines.proofs.StateLaws.{same-stage}
 use borrow.Author.Needs.{needs}
 use Rattle.lines.proofs.changes.insert_done.Statement.{statement}
 use Rattle.lines.proofs.changes.insert_done.Tie as tie
 
 returns : tie.Need-returns
-returns c = let g = c .before .before .before .before .before .before .before .before .pre in
-    let a = c .before .before .before .before .before .before .before .before .args in
+returns c = let a = c .before .before .before .before .before .before .before .before .args in
+    let g = c .before .before .before .before .before .before .before .before .pre in
     let s = a .state .now in
     let t = a .table .now in
     let k = a .done .now in
-    let text = doneText (a .selected) (marked (count t) k) in
-    made-at (insert-refused (a .place) k (a .m) (a .tree .now) t _ (c .before .turned-down .ensures) text s s (length (a .area .now)) (c .if1 .taken)) refused
+    let x = a .tree .now in
+    let w = insertAt (a .place) k (a .m) x (doneText (a .selected) (marked (count t) k)) (stage s) t in
+    performs-refused w s t (c .before .insert-refusal .ensures) (c .if1 .taken)
 
 returns-2 : tie.Need-returns-2
-returns-2 c = let g = c .before .before .before .before .before .before .before .before .before .before .before .before .before .before .pre in
-    let a = c .before .before .before .before .before .before .before .before .before .before .before .before .before .before .args in
+returns-2 c = let a = c .before .before .before .before .before .before .before .before .before .before .before .before .before .before .before .args in
+    let g = c .before .before .before .before .before .before .before .before .before .before .before .before .before .before .before .pre in
     let s = a .state .now in
     let t = a .table .now in
     let k = a .done .now in
-    let text = doneText (a .selected) (marked (count t) k) in
-    made-at (insert-done (a .place) k (a .m) (a .tree .now) t _ (c .before .before .before .before .before .before .before .turned-down .ensures) text s s (length (a .area .now)) (c .before .before .before .before .before .before .if1 .left))
-    (made-kept text (a .area .now) _ s t s (changed t (placed (a .place) (a .m) (a .tree .now) k (records t))) _ (c .before .before .before .answer-change .ensures) (c .if2 .taken))
+    let x = a .tree .now in
+    let w = insertAt (a .place) k (a .m) x (doneText (a .selected) (marked (count t) k)) (stage s) t in
+    let p = passed (insertChecks (a .place) k (a .m) x t) _ refl (c .before .before .before .before .before .before .before .before .insert-refusal .ensures) (c .before .before .before .before .before .before .before .if1 .left) in
+    performs-short w s t p (c .before .before .before .before .answer-change .ensures) (c .before .area-refusal .ensures) (c .if2 .taken)
 
 insert-marked-requires : tie.Need-insert-marked-requires
-insert-marked-requires c κs = let g = c .before .before .before .before .before .before .before .before .before .before .before .before .before .before .before .pre in
-    let a = c .before .before .before .before .before .before .before .before .before .before .before .before .before .before .before .args in
-    let t = a .table .now in
-    let k = a .done .now in
-    ((g .0, g .1, g .2), (insert-shallow (a .place) k (a .m) (a .tree .now) t _ (c .before .before .before .before .before .before .before .before .turned-down .ensures) (c .before .before .before .before .before .before .before .if1 .left), insert-fits (a .place) k (a .m) (a .tree .now) t _ (c .before .before .before .before .before .before .before .before .turned-down .ensures) (c .before .before .before .before .before .before .before .if1 .left)))
-
-returns-3 : tie.Need-returns-3
-returns-3 c = let g = c .before .before .before .before .before .before .before .before .before .before .before .before .before .before .before .before .before .before .pre in
-    let a = c .before .before .before .before .before .before .before .before .before .before .before .before .before .before .before .before .before .before .args in
+insert-marked-requires c κs = let a = c .before .before .before .before .before .before .before .before .before .before .before .before .before .before .before .before .args in
+    let g = c .before .before .before .before .before .before .before .before .before .before .before .before .before .before .before .before .pre in
     let s = a .state .now in
     let t = a .table .now in
     let k = a .done .now in
-    let text = doneText (a .selected) (marked (count t) k) in
-    made-at (insert-done (a .place) k (a .m) (a .tree .now) t _ (c .before .before .before .before .before .before .before .before .before .before .before .turned-down .ensures) text s s (length (a .area .now)) (c .before .before .before .before .before .before .before .before .before .before .if1 .left))
-    (made-table text (a .area .now) _ s t (changed t (placed (a .place) (a .m) (a .tree .now) k (records t))) _ _ (c .before .before .insert-marked .ensures) (c .before .before .before .before .before .before .before .answer-change .ensures) (c .before .before .before .before .if2 .left))
+    let x = a .tree .now in
+    let w = insertAt (a .place) k (a .m) x (doneText (a .selected) (marked (count t) k)) (stage s) t in
+    let p = passed (insertChecks (a .place) k (a .m) x t) _ refl (c .before .before .before .before .before .before .before .before .before .insert-refusal .ensures) (c .before .before .before .before .before .before .before .before .if1 .left) in
+    ((g .1, g .2, g .3), (p .0, not-false _ (p .1 .0)))
+
+returns-3 : tie.Need-returns-3
+returns-3 c = let a = c .before .before .before .before .before .before .before .before .before .before .before .before .before .before .before .before .before .before .before .args in
+    let g = c .before .before .before .before .before .before .before .before .before .before .before .before .before .before .before .before .before .before .before .pre in
+    let s = a .state .now in
+    let t = a .table .now in
+    let k = a .done .now in
+    let x = a .tree .now in
+    let w = insertAt (a .place) k (a .m) x (doneText (a .selected) (marked (count t) k)) (stage s) t in
+    let p = passed (insertChecks (a .place) k (a .m) x t) _ refl (c .before .before .before .before .before .before .before .before .before .before .before .before .insert-refusal .ensures) (c .before .before .before .before .before .before .before .before .before .before .before .if1 .left) in
+    performs-done w s t p (c .before .before .before .before .before .before .before .before .answer-change .ensures) (c .before .before .before .before .before .area-refusal .ensures) (c .before .before .before .before .if2 .left) (sym (same-stage s (g .0))) (c .before .before .insert-marked .ensures)
 
 pub insert-done-spec : {M : Type 1} → statement M
 insert-done-spec =
     tie.close
-    (tie.spec (λ c κs. search needs) (λ c. search needs) returns (λ c κs. search needs) (λ c. search needs)
-    (λ c. search needs) returns-2 insert-marked-requires (λ c. search needs) (λ c. search needs) returns-3)
+    (tie.spec (λ c κs. search needs) (λ c. search needs) returns (λ c κs. search needs) (λ c κs. search needs)
+    (λ c. search needs) (λ c. search needs) returns-2 insert-marked-requires (λ c. search needs) (λ c. search needs)
+    returns-3)

@@ -9,7 +9,7 @@ use Rattle.lines.proofs.changes.mark_change.Statement.{statement}
 use Rattle.lines.proofs.changes.mark_change.Tie as tie
 
 mark-selected-requires : tie.Need-mark-selected-requires
-mark-selected-requires c κs = let g = c .before .before .before .before .before .before .pre in (g .0, g .1, g .2, refl {a = 16384}, refl {a = 16384})
+mark-selected-requires c κs = let g = c .before .before .before .before .before .before .pre in (g .0, g .1, refl {a = 16384}, refl {a = 16384})
 
 count-of-requires : tie.Need-count-of-requires
 count-of-requires c κs = table-long _ (store-held _ _ (c .before .before .before .before .before .before .before .before .before .pre .0) .table)
@@ -36,7 +36,7 @@ mark-done-requires : tie.Need-mark-done-requires
 mark-done-requires c κs = let g = c .before .before .before .before .before .before .before .before .before .before .before .before .before .before .before .before .pre in
     let a = c .before .before .before .before .before .before .before .before .before .before .before .before .before .before .before .before .args in
     let r = c .before .before .before .before .before .before .before .before .before .mark-selected .ensures in
-    done-asks (a .state .now) (a .table .now) (a .path .now) (g .0) (replicate 16384 0) _ (replicate 16384 0) _ _ _ r (c .before .before .before .before .before .before .count-of .ensures) (a .done .now) (g .3)
+    done-asks (a .state .now) (a .table .now) (a .path .now) (g .0) (replicate 16384 0) _ (replicate 16384 0) _ _ _ r (c .before .before .before .before .before .before .count-of .ensures) (a .done .now) (g .2)
 
 returns : tie.Need-returns
 returns c = let g = c .before .before .before .before .before .before .before .before .before .before .before .before .before .before .before .before .before .before .before .pre in

@@ -3,14 +3,14 @@ use lib.ListN.{replicate}
 use native.Mathlib.Omega.{arith}
 use Rattle.lines.proofs.StateLaws.{store-held}
 use Rattle.rights.proofs.Facts.{table-long, table-few}
-use Rattle.lines.proofs.StepLaws.{shown-long, marks-long-enough, all-held}
+use Rattle.lines.proofs.UserViewLaws.{shown-long, marks-long-enough, all-held}
 use Rattle.lines.proofs.ChangeLaws.{selected-count, selected-records}
 use borrow.Author.Needs.{needs}
 use Rattle.lines.proofs.changes.mark_selected.Statement.{statement}
 use Rattle.lines.proofs.changes.mark_selected.Tie as tie
 
 select-user-requires : tie.Need-select-user-requires
-select-user-requires c κs = let g = c .before .before .before .before .before .before .before .before .pre in (g .0, g .1, g .2, record { reading = refl; seeing = refl }, g .3, refl {a = 16384}, refl {a = 16384})
+select-user-requires c κs = let g = c .before .before .before .before .before .before .before .before .pre in (g .0, g .1, record { reading = refl; seeing = refl }, g .2, refl {a = 16384}, refl {a = 16384})
 
 count-of-requires : tie.Need-count-of-requires
 count-of-requires c κs = table-long _ (store-held _ _ (c .before .before .before .before .before .before .before .before .before .before .before .before .before .pre .0) .table)
@@ -25,7 +25,7 @@ mark-records-requires : tie.Need-mark-records-requires
 mark-records-requires c κs = let g = c .before .before .before .before .before .before .before .before .before .before .before .before .before .before .before .before .before .before .pre in
     let a = c .before .before .before .before .before .before .before .before .before .before .before .before .before .before .before .before .before .before .args in
     let r = c .before .before .before .before .before .before .before .before .before .select-user .ensures .0 in
-    (shown-long (a .state .now) (a .table .now) (g .0) _ _ _ (r .size) (r .numbers), omega (arith, c .before .before .before .before .count-of .ensures, table-few (a .table .now) (store-held _ _ (g .0) .table), g .4))
+    (shown-long (a .state .now) (a .table .now) (g .0) _ _ _ (r .size) (r .numbers), omega (arith, c .before .before .before .before .count-of .ensures, table-few (a .table .now) (store-held _ _ (g .0) .table), g .3))
 
 count-marks-requires : tie.Need-count-marks-requires
 count-marks-requires c κs = let g = c .before .before .before .before .before .before .before .before .before .before .before .before .before .before .before .before .before .before .before .before .before .before .pre in

@@ -1,40 +1,102 @@
-use mathlib.Core.Path.{refl, sym, _∙_}
+use Prim.Native.Nat.{ℕ}
+use mathlib.Core.Path.{refl}
 use native.Mathlib.Omega.{arith}
+use lib.ListN.{replicate}
+use Rattle.rights.proofs.Facts.{table-long}
+use Rattle.views.specs.declared.done.Change.the-variants as change
+use Rattle.lines.specs.Work.{onView, workRemove}
+use Rattle.lines.proofs.ChangeLaws.{done-reach, done-cover, done-answered, removed-table}
+use Rattle.lines.proofs.RefusalLaws.{passed, performs-refused, performs-short, performs-done}
 use Rattle.lines.proofs.StateLaws.{store-held}
-use borrow.Author.Tests.{eq-eqb, ne-eqb}
-use lib.ListN.{length}
-use Rattle.rights.specs.PathReader.{pathOf}
-use Rattle.lines.proofs.StepLaws.{made-at, refused, not-path, is-path}
-use Rattle.lines.proofs.ChangeLaws.{remove-no-path, remove-no-user, remove-seen}
 use borrow.Author.Needs.{needs}
 use Rattle.lines.proofs.changes.remove.Statement.{statement}
 use Rattle.lines.proofs.changes.remove.Tie as tie
 
-returns : tie.Need-returns
-returns c = let g = c .before .before .before .before .before .before .before .pre in
-    let a = c .before .before .before .before .before .before .before .args in
-    made-at (remove-no-path _ _ _ _ (not-path (pathOf (a .path .now)) (sym (c .before .before .check-path .ensures) ∙ c .enum-told2 .given .1))) refused
+path-refusal-requires : tie.Need-path-refusal-requires
+path-refusal-requires c κs = omega (arith, store-held _ _ (c .before .before .before .before .pre) .size)
 
-shared-slice-read-if1 : tie.Need-shared-slice-read-if1
-shared-slice-read-if1 c = omega (arith, store-held _ _ (c .before .before .before .before .before .before .before .before .pre) .size)
+returns : tie.Need-returns
+returns c = let a = c .before .before .before .before .before .before .args in
+    let s = a .state .now in
+    let t = a .table .now in
+    let h = a .path .now in
+    performs-refused (workRemove s t h) s t (c .before .path-refusal .ensures) (c .if1 .taken)
+
+mark-change-requires : tie.Need-mark-change-requires
+mark-change-requires c κs = let a = c .before .before .before .before .before .before .before .before .args in
+    let s = a .state .now in
+    let t = a .table .now in
+    let h = a .path .now in
+    let p = passed (onView h s) _ refl (c .before .before .before .path-refusal .ensures) (c .before .before .if1 .left) in
+    (c .before .before .before .before .before .before .before .before .pre, p, refl {a = 16384})
+
+count-of-requires : tie.Need-count-of-requires
+count-of-requires c κs = table-long _ (store-held _ _ (c .before .before .before .before .before .before .before .before .before .before .before .pre) .table)
+
+part-answer-change-end : tie.Need-part-answer-change-end
+part-answer-change-end c = let a = c .before .before .before .before .before .before .before .before .before .before .before .before .before .before .args in
+    let s = a .state .now in
+    let t = a .table .now in
+    let h = a .path .now in
+    let d = c .before .before .before .before .before .mark-change .ensures in
+    let e = c .before .before .count-of .ensures in
+    done-reach change.Remove s t h (replicate 16384 0) _ _ _ d e
+
+answer-change-requires : tie.Need-answer-change-requires
+answer-change-requires c κs = let a = c .before .before .before .before .before .before .before .before .before .before .before .before .before .before .before .before .args in
+    let s = a .state .now in
+    let t = a .table .now in
+    let h = a .path .now in
+    let d = c .before .before .before .before .before .before .before .mark-change .ensures in
+    let e = c .before .before .before .before .count-of .ensures in
+    (store-held s t (c .before .before .before .before .before .before .before .before .before .before .before .before .before .before .before .before .pre) .table, done-cover change.Remove s t h (replicate 16384 0) _ _ _ d e)
 
 returns-2 : tie.Need-returns-2
-returns-2 c = let g = c .before .before .before .before .before .before .before .before .before .pre in
-    let a = c .before .before .before .before .before .before .before .before .before .args in
-    made-at (remove-no-user _ _ _ _ (is-path (pathOf (a .path .now)) _ (sym (c .before .before .before .before .check-path .ensures) ∙ c .before .before .enum-told .given .1)) (eq-eqb _ _ (c .if1 .taken))) refused
+returns-2 c = let a = c .before .before .before .before .before .before .before .before .before .before .before .before .before .before .before .before .before .before .before .before .before .args in
+    let s = a .state .now in
+    let t = a .table .now in
+    let h = a .path .now in
+    let p = passed (onView h s) _ refl (c .before .before .before .before .before .before .before .before .before .before .before .before .before .before .before .before .path-refusal .ensures) (c .before .before .before .before .before .before .before .before .before .before .before .before .before .before .before .if1 .left) in
+    let d = c .before .before .before .before .before .before .before .before .before .before .before .before .mark-change .ensures in
+    let e = c .before .before .before .before .before .before .before .before .before .count-of .ensures in
+    let z = replicate {A = ℕ} 16384 0 in
+    let y = done-answered change.Remove s t h z _ _ _ d e (a .area .now) _ _ (c .before .before .before .before .answer-change .ensures) in
+    performs-short (workRemove s t h) s t p y (c .before .area-refusal .ensures) (c .if2 .taken)
 
-remove-with-requires : tie.Need-remove-with-requires
-remove-with-requires c κs = let g = c .before .before .before .before .before .before .before .before .before .before .before .before .pre in
-    let a = c .before .before .before .before .before .before .before .before .before .before .before .before .args in
-    (g, ne-eqb _ _ (c .before .before .before .if1 .left), is-path (pathOf (a .path .now)) _ (sym (c .before .before .before .before .before .before .before .check-path .ensures) ∙ c .before .before .before .before .before .enum-told .given .1), refl {a = 16384})
+part-remove-marked-end : tie.Need-part-remove-marked-end
+part-remove-marked-end c = let a = c .before .before .before .before .before .before .before .before .before .before .before .before .before .before .before .before .before .before .before .before .before .before .before .args in
+    let s = a .state .now in
+    let t = a .table .now in
+    let h = a .path .now in
+    let d = c .before .before .before .before .before .before .before .before .before .before .before .before .before .before .mark-change .ensures in
+    let e = c .before .before .before .before .before .before .before .before .before .before .before .count-of .ensures in
+    done-reach change.Remove s t h (replicate 16384 0) _ _ _ d e
+
+remove-marked-requires : tie.Need-remove-marked-requires
+remove-marked-requires c κs = let a = c .before .before .before .before .before .before .before .before .before .before .before .before .before .before .before .before .before .before .before .before .before .before .before .before .args in
+    let s = a .state .now in
+    let t = a .table .now in
+    let h = a .path .now in
+    let d = c .before .before .before .before .before .before .before .before .before .before .before .before .before .before .before .mark-change .ensures in
+    let e = c .before .before .before .before .before .before .before .before .before .before .before .before .count-of .ensures in
+    (store-held s t (c .before .before .before .before .before .before .before .before .before .before .before .before .before .before .before .before .before .before .before .before .before .before .before .before .pre) .table, done-cover change.Remove s t h (replicate 16384 0) _ _ _ d e)
 
 returns-3 : tie.Need-returns-3
-returns-3 c = let g = c .before .before .before .before .before .before .before .before .before .before .before .before .before .before .before .before .before .before .pre in
-    let a = c .before .before .before .before .before .before .before .before .before .before .before .before .before .before .before .before .before .before .args in
-    made-at (remove-seen (a .state .now) (a .table .now) (length (a .area .now)) (a .path .now) (is-path (pathOf (a .path .now)) _ (sym (c .before .before .before .before .before .before .before .before .before .before .before .before .before .check-path .ensures) ∙ c .before .before .before .before .before .before .before .before .before .before .before .enum-told .given .1)) (ne-eqb _ _ (c .before .before .before .before .before .before .before .before .before .if1 .left))) (c .before .before .before .before .before .remove-with .ensures)
+returns-3 c = let a = c .before .before .before .before .before .before .before .before .before .before .before .before .before .before .before .before .before .before .before .before .before .before .before .before .before .before .before .args in
+    let s = a .state .now in
+    let t = a .table .now in
+    let h = a .path .now in
+    let p = passed (onView h s) _ refl (c .before .before .before .before .before .before .before .before .before .before .before .before .before .before .before .before .before .before .before .before .before .before .path-refusal .ensures) (c .before .before .before .before .before .before .before .before .before .before .before .before .before .before .before .before .before .before .before .before .before .if1 .left) in
+    let d = c .before .before .before .before .before .before .before .before .before .before .before .before .before .before .before .before .before .before .mark-change .ensures in
+    let e = c .before .before .before .before .before .before .before .before .before .before .before .before .before .before .before .count-of .ensures in
+    let z = replicate {A = ℕ} 16384 0 in
+    let y = done-answered change.Remove s t h z _ _ _ d e (a .area .now) _ _ (c .before .before .before .before .before .before .before .before .before .before .answer-change .ensures) in
+    performs-done (workRemove s t h) s t p y (c .before .before .before .before .before .before .before .area-refusal .ensures) (c .before .before .before .before .before .before .if2 .left) refl (removed-table change.Remove s t h z _ _ _ d e _ (c .before .before .remove-marked .ensures))
 
 pub remove-spec : {M : Type 1} → statement M
 remove-spec =
     tie.close
-    (tie.spec (λ c κs. search needs) (λ c. search needs) (λ c. search needs) returns shared-slice-read-if1 returns-2
-    (λ c. search needs) remove-with-requires (λ c. search needs) (λ c. search needs) returns-3)
+    (tie.spec path-refusal-requires returns (λ c. search needs) mark-change-requires count-of-requires
+    (λ c. search needs) (λ c. search needs) part-answer-change-end answer-change-requires (λ c κs. search needs)
+    (λ c. search needs) (λ c. search needs) returns-2 (λ c. search needs) (λ c. search needs) part-remove-marked-end
+    remove-marked-requires (λ c. search needs) (λ c. search needs) returns-3)

@@ -1,46 +1,106 @@
-use mathlib.Core.Path.{refl, sym, _∙_}
+use Prim.Native.Nat.{ℕ}
+use mathlib.Core.Path.{refl}
 use native.Mathlib.Omega.{arith}
+use lib.ListN.{replicate}
+use Rattle.rights.proofs.Facts.{table-long}
+use Rattle.lines.specs.Work.{renameChecks, workRename}
+use Rattle.lines.proofs.ChangeLaws.{done-reach, done-cover, done-answered, renamed-table}
+use Rattle.lines.proofs.RefusalLaws.{passed, performs-refused, performs-short, performs-done}
 use Rattle.lines.proofs.StateLaws.{store-held}
-use borrow.Author.Tests.{eq-eqb, ne-eqb}
-use lib.ListN.{length}
-use Rattle.rights.specs.PathReader.{pathOf}
-use Rattle.lines.proofs.StepLaws.{made-at, refused, not-path, is-path}
-use Rattle.lines.proofs.ChangeLaws.{rename-no-path, rename-no-user, rename-barred, rename-seen}
 use borrow.Author.Needs.{needs}
 use Rattle.lines.proofs.changes.rename.Statement.{statement}
 use Rattle.lines.proofs.changes.rename.Tie as tie
 
 returns : tie.Need-returns
-returns c = let g = c .before .before .before .before .before .before .before .before .pre in
-    let a = c .before .before .before .before .before .before .before .before .args in
-    made-at (rename-no-path (a .change) _ _ _ _ _ (not-path (pathOf (a .path .now)) (sym (c .before .before .check-path .ensures) ∙ c .enum-told2 .given .1))) refused
+returns c = let a = c .before .before .before .before .before .before .before .before .args in
+    let s = a .state .now in
+    let t = a .table .now in
+    let h = a .path .now in
+    let l = a .label .now in
+    performs-refused (workRename (a .change) s t h l) s t (c .before .rename-refusal .ensures) (c .if1 .taken)
 
-shared-slice-read-if1 : tie.Need-shared-slice-read-if1
-shared-slice-read-if1 c = omega (arith, store-held _ _ (c .before .before .before .before .before .before .before .before .before .pre .0) .size)
+mark-change-requires : tie.Need-mark-change-requires
+mark-change-requires c κs = let a = c .before .before .before .before .before .before .before .before .before .before .args in
+    let s = a .state .now in
+    let t = a .table .now in
+    let h = a .path .now in
+    let l = a .label .now in
+    let p = passed (renameChecks s h l) _ refl (c .before .before .before .rename-refusal .ensures) (c .before .before .if1 .left) in
+    (c .before .before .before .before .before .before .before .before .before .before .pre .0, (p .0, (p .1 .0, tt)), refl {a = 16384})
+
+count-of-requires : tie.Need-count-of-requires
+count-of-requires c κs = table-long _ (store-held _ _ (c .before .before .before .before .before .before .before .before .before .before .before .before .before .pre .0) .table)
+
+part-answer-change-end : tie.Need-part-answer-change-end
+part-answer-change-end c = let a = c .before .before .before .before .before .before .before .before .before .before .before .before .before .before .before .before .args in
+    let s = a .state .now in
+    let t = a .table .now in
+    let h = a .path .now in
+    let l = a .label .now in
+    let d = c .before .before .before .before .before .mark-change .ensures in
+    let e = c .before .before .count-of .ensures in
+    done-reach (a .change) s t h (replicate 16384 0) _ _ _ d e
+
+answer-change-requires : tie.Need-answer-change-requires
+answer-change-requires c κs = let a = c .before .before .before .before .before .before .before .before .before .before .before .before .before .before .before .before .before .before .args in
+    let s = a .state .now in
+    let t = a .table .now in
+    let h = a .path .now in
+    let l = a .label .now in
+    let d = c .before .before .before .before .before .before .before .mark-change .ensures in
+    let e = c .before .before .before .before .count-of .ensures in
+    (store-held s t (c .before .before .before .before .before .before .before .before .before .before .before .before .before .before .before .before .before .before .pre .0) .table, done-cover (a .change) s t h (replicate 16384 0) _ _ _ d e)
 
 returns-2 : tie.Need-returns-2
-returns-2 c = let g = c .before .before .before .before .before .before .before .before .before .before .pre in
-    let a = c .before .before .before .before .before .before .before .before .before .before .args in
-    made-at (rename-no-user (a .change) _ _ _ _ _ (is-path (pathOf (a .path .now)) _ (sym (c .before .before .before .before .check-path .ensures) ∙ c .before .before .enum-told .given .1)) (eq-eqb _ _ (c .if1 .taken))) refused
+returns-2 c = let a = c .before .before .before .before .before .before .before .before .before .before .before .before .before .before .before .before .before .before .before .before .before .before .before .args in
+    let s = a .state .now in
+    let t = a .table .now in
+    let h = a .path .now in
+    let l = a .label .now in
+    let p = passed (renameChecks s h l) _ refl (c .before .before .before .before .before .before .before .before .before .before .before .before .before .before .before .before .rename-refusal .ensures) (c .before .before .before .before .before .before .before .before .before .before .before .before .before .before .before .if1 .left) in
+    let d = c .before .before .before .before .before .before .before .before .before .before .before .before .mark-change .ensures in
+    let e = c .before .before .before .before .before .before .before .before .before .count-of .ensures in
+    let z = replicate {A = ℕ} 16384 0 in
+    let y = done-answered (a .change) s t h z _ _ _ d e (a .area .now) _ _ (c .before .before .before .before .answer-change .ensures) in
+    performs-short (workRename (a .change) s t h l) s t p y (c .before .area-refusal .ensures) (c .if2 .taken)
+
+part-rename-marked-end : tie.Need-part-rename-marked-end
+part-rename-marked-end c = let a = c .before .before .before .before .before .before .before .before .before .before .before .before .before .before .before .before .before .before .before .before .before .before .before .before .before .args in
+    let s = a .state .now in
+    let t = a .table .now in
+    let h = a .path .now in
+    let l = a .label .now in
+    let d = c .before .before .before .before .before .before .before .before .before .before .before .before .before .before .mark-change .ensures in
+    let e = c .before .before .before .before .before .before .before .before .before .before .before .count-of .ensures in
+    done-reach (a .change) s t h (replicate 16384 0) _ _ _ d e
+
+rename-marked-requires : tie.Need-rename-marked-requires
+rename-marked-requires c κs = let a = c .before .before .before .before .before .before .before .before .before .before .before .before .before .before .before .before .before .before .before .before .before .before .before .before .before .before .args in
+    let s = a .state .now in
+    let t = a .table .now in
+    let h = a .path .now in
+    let l = a .label .now in
+    let d = c .before .before .before .before .before .before .before .before .before .before .before .before .before .before .before .mark-change .ensures in
+    let e = c .before .before .before .before .before .before .before .before .before .before .before .before .count-of .ensures in
+    ((store-held s t (c .before .before .before .before .before .before .before .before .before .before .before .before .before .before .before .before .before .before .before .before .before .before .before .before .before .before .pre .0) .table, done-cover (a .change) s t h (replicate 16384 0) _ _ _ d e), (omega arith, omega (arith, c .before .before .before .before .before .before .before .before .before .before .before .before .before .before .before .before .before .before .before .before .before .before .before .before .before .before .pre .1), omega arith))
 
 returns-3 : tie.Need-returns-3
-returns-3 c = let g = c .before .before .before .before .before .before .before .before .before .before .before .before .before .pre in
-    let a = c .before .before .before .before .before .before .before .before .before .before .before .before .before .args in
-    made-at (rename-barred (a .change) _ _ _ _ _ (is-path (pathOf (a .path .now)) _ (sym (c .before .before .before .before .before .before .before .check-path .ensures) ∙ c .before .before .before .before .before .enum-told .given .1)) (ne-eqb _ _ (c .before .before .before .if1 .left)) (sym (c .before .is-barred .ensures) ∙ c .if2 .taken)) refused
-
-rename-with-requires : tie.Need-rename-with-requires
-rename-with-requires c κs = let g = c .before .before .before .before .before .before .before .before .before .before .before .before .before .before .before .before .pre in
-    let a = c .before .before .before .before .before .before .before .before .before .before .before .before .before .before .before .before .args in
-    (g .0, ne-eqb _ _ (c .before .before .before .before .before .before .if1 .left), is-path (pathOf (a .path .now)) _ (sym (c .before .before .before .before .before .before .before .before .before .before .check-path .ensures) ∙ c .before .before .before .before .before .before .before .before .enum-told .given .1), refl {a = 16384}, g .1)
-
-returns-4 : tie.Need-returns-4
-returns-4 c = let g = c .before .before .before .before .before .before .before .before .before .before .before .before .before .before .before .before .before .before .before .before .before .before .pre in
-    let a = c .before .before .before .before .before .before .before .before .before .before .before .before .before .before .before .before .before .before .before .before .before .before .args in
-    made-at (rename-seen (a .change) (a .state .now) (a .table .now) (length (a .area .now)) (a .path .now) (a .label .now) (is-path (pathOf (a .path .now)) _ (sym (c .before .before .before .before .before .before .before .before .before .before .before .before .before .before .before .before .check-path .ensures) ∙ c .before .before .before .before .before .before .before .before .before .before .before .before .before .before .enum-told .given .1)) (ne-eqb _ _ (c .before .before .before .before .before .before .before .before .before .before .before .before .if1 .left)) (sym (c .before .before .before .before .before .before .before .before .before .before .is-barred .ensures) ∙ c .before .before .before .before .before .before .before .before .before .if2 .left)) (c .before .before .before .before .before .rename-with .ensures)
+returns-3 c = let a = c .before .before .before .before .before .before .before .before .before .before .before .before .before .before .before .before .before .before .before .before .before .before .before .before .before .before .before .before .before .args in
+    let s = a .state .now in
+    let t = a .table .now in
+    let h = a .path .now in
+    let l = a .label .now in
+    let p = passed (renameChecks s h l) _ refl (c .before .before .before .before .before .before .before .before .before .before .before .before .before .before .before .before .before .before .before .before .before .before .rename-refusal .ensures) (c .before .before .before .before .before .before .before .before .before .before .before .before .before .before .before .before .before .before .before .before .before .if1 .left) in
+    let d = c .before .before .before .before .before .before .before .before .before .before .before .before .before .before .before .before .before .before .mark-change .ensures in
+    let e = c .before .before .before .before .before .before .before .before .before .before .before .before .before .before .before .count-of .ensures in
+    let z = replicate {A = ℕ} 16384 0 in
+    let y = done-answered (a .change) s t h z _ _ _ d e (a .area .now) _ _ (c .before .before .before .before .before .before .before .before .before .before .answer-change .ensures) in
+    performs-done (workRename (a .change) s t h l) s t p y (c .before .before .before .before .before .before .before .area-refusal .ensures) (c .before .before .before .before .before .before .if2 .left) refl (renamed-table (a .change) s t h z _ _ _ d e l _ (c .before .before .rename-marked .ensures))
 
 pub rename-spec : {M : Type 1} → statement M
 rename-spec =
     tie.close
-    (tie.spec (λ c κs. search needs) (λ c. search needs) (λ c. search needs) returns shared-slice-read-if1 returns-2
-    (λ c κs. search needs) (λ c. search needs) returns-3 (λ c. search needs) rename-with-requires (λ c. search needs)
-    (λ c. search needs) returns-4)
+    (tie.spec (λ c κs. search needs) (λ c. search needs) returns (λ c. search needs) mark-change-requires
+    count-of-requires (λ c. search needs) (λ c. search needs) part-answer-change-end answer-change-requires
+    (λ c κs. search needs) (λ c. search needs) (λ c. search needs) returns-2 (λ c. search needs) (λ c. search needs)
+    part-rename-marked-end rename-marked-requires (λ c. search needs) (λ c. search needs) returns-3)

@@ -1,9 +1,10 @@
--- `rights::policy_edit::find_name` meets its contract: the name is looked for among the subjects from number u on.
-use mathlib.Core.Path.{_≡_, sym, _∙_}
+-- The name is looked for among the subjects from number u on.
+use mathlib.Core.Path.{_≡_, sym, ap, _∙_}
 use Prim.Native.Nat.{_-_, _≤_, _<_}
 use native.Mathlib.Omega.{arith}
-use lib.ListN.{take, drop}
-use Rattle.rights.specs.PolicyBytes.{subjectCount, namesFrom, policyOf}
+use lib.Seq.{take-length}
+use Rattle.rights.specs.Labels.{sameLabel}
+use Rattle.rights.specs.PolicyBytes.{subjectCount, nameAt, namesFrom, policyOf}
 use Rattle.lines.specs.PolicyEdit.{subjectFrom, subjectNamed}
 use Rattle.lines.proofs.EditTests.{find-first, find-here, find-later, find-none}
 use Rattle.rights.proofs.Sounds.{policy-sound}
@@ -11,31 +12,31 @@ use Rattle.lines.proofs.policy_edit.find_name.Statement.{statement}
 use Rattle.lines.proofs.policy_edit.find_name.Tie as tie
 
 abbrev Inv-loop : tie.InvT-loop
-Inv-loop policy s at n count u₀ u = (u ≤ subjectCount policy) × (subjectNamed (policyOf policy) (take n (drop at s)) ≡ subjectFrom (take n (drop at s)) u (namesFrom policy (subjectCount policy - u) u))
+Inv-loop policy name count u₀ u = (u ≤ subjectCount policy) × (subjectNamed (policyOf policy) name ≡ subjectFrom name u (namesFrom policy (subjectCount policy - u) u))
 
 abbrev μ-loop : tie.MeasureT-loop
-μ-loop policy s at n count u₀ u = subjectCount policy - u
+μ-loop policy name count u₀ u = subjectCount policy - u
 
 shared-slice-read-wide : tie.Need-shared-slice-read-wide Inv-loop μ-loop
-shared-slice-read-wide c = omega (arith, policy-sound (c .before .before .before .args .policy .now) (c .before .before .before .pre .0) .size)
+shared-slice-read-wide c = omega (arith, policy-sound (c .before .before .before .args .policy .now) (c .before .before .before .pre) .size)
 
 loop-holds : tie.Need-loop-holds Inv-loop μ-loop
 loop-holds c =
     let a = c .before .before .before .before .args in
-    (omega arith, find-first (a .policy .now) (take (a .n) (drop (a .at) (a .s .now))))
+    (omega arith, find-first (a .policy .now) (a .name .now))
 
 is-name-requires : tie.Need-is-name-requires Inv-loop μ-loop
 is-name-requires c κs =
     let g = c .before .before .before .before .before .before .pre in
     let p = c .before .before .before .before .before .before .args .policy .now in
     let h : c .before .loop .u < subjectCount p = omega (arith, c .before .before .wide .ensures) in
-    (record { declared = h; name = policy-sound p (g .0) .names (c .before .loop .u) h }, g .1)
+    (record { declared = h; name = policy-sound p g .names (c .before .loop .u) h }, omega arith)
 
 returns : tie.Need-returns Inv-loop μ-loop
 returns c =
     let a = c .before .before .before .before .before .before .before .before .args in
     let l = c .before .before .before .loop in
-    sym (l .inv .1 ∙ find-here (a .policy .now) (take (a .n) (drop (a .at) (a .s .now))) (subjectCount (a .policy .now)) (l .u) (omega (arith, c .before .before .before .before .wide .ensures)) (sym (c .before .is-name .ensures) ∙ c .if1 .taken))
+    sym (l .inv .1 ∙ find-here (a .policy .now) (a .name .now) (subjectCount (a .policy .now)) (l .u) (omega (arith, c .before .before .before .before .wide .ensures)) (ap (λ x. sameLabel x (nameAt (a .policy .now) (l .u))) (sym (take-length (a .name .now))) ∙ sym (c .before .is-name .ensures) ∙ c .if1 .taken))
 
 loop-less : tie.Need-loop-less Inv-loop μ-loop
 loop-less c = omega (arith, c .before .before .before .before .wide .ensures)
@@ -44,12 +45,12 @@ loop-again : tie.Need-loop-again Inv-loop μ-loop
 loop-again c =
     let a = c .before .before .before .before .before .before .before .before .args in
     let l = c .before .before .before .loop in
-    (omega (arith, c .before .before .before .before .wide .ensures), l .inv .1 ∙ find-later (a .policy .now) (take (a .n) (drop (a .at) (a .s .now))) (subjectCount (a .policy .now)) (l .u) (omega (arith, c .before .before .before .before .wide .ensures)) (sym (c .before .is-name .ensures) ∙ c .if1 .left))
+    (omega (arith, c .before .before .before .before .wide .ensures), l .inv .1 ∙ find-later (a .policy .now) (a .name .now) (subjectCount (a .policy .now)) (l .u) (omega (arith, c .before .before .before .before .wide .ensures)) (ap (λ x. sameLabel x (nameAt (a .policy .now) (l .u))) (sym (take-length (a .name .now))) ∙ sym (c .before .is-name .ensures) ∙ c .if1 .left))
 
 returns-2 : tie.Need-returns-2 Inv-loop μ-loop
 returns-2 c =
     let a = c .before .before .before .before .before .before .args in
-    sym (c .before .loop .inv .1 ∙ find-none (a .policy .now) (take (a .n) (drop (a .at) (a .s .now))) (subjectCount (a .policy .now)) (c .before .loop .u) (omega (arith, c .before .before .wide .ensures)))
+    sym (c .before .loop .inv .1 ∙ find-none (a .policy .now) (a .name .now) (subjectCount (a .policy .now)) (c .before .loop .u) (omega (arith, c .before .before .wide .ensures)))
 
 pub find-name-spec : {M : Type 1} → statement M
 find-name-spec =

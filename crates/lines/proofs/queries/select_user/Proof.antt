@@ -3,9 +3,9 @@ use native.Mathlib.Omega.{arith}
 use borrow.Author.Needs.{needs}
 use lib.ListN.{length, drop}
 use Rattle.rights.specs.PathReader.{pathOf}
-use Rattle.lines.specs.Step.{Chosen}
+use Rattle.lines.specs.ChangeRoom.{Chosen}
 use Rattle.lines.proofs.StateLaws.{store-held}
-use Rattle.lines.proofs.StepLaws.{user-some, shown-long, shown-fits, shown-view, subject-asks, picked-are, path-read}
+use Rattle.lines.proofs.UserViewLaws.{user-some, shown-long, shown-fits, shown-view, subject-asks, picked-are, path-read}
 use Rattle.lines.proofs.queries.select_user.Statement.{statement}
 use Rattle.lines.proofs.queries.select_user.Tie as tie
 
@@ -13,7 +13,7 @@ shared-slice-read-wide : tie.Need-shared-slice-read-wide
 shared-slice-read-wide c = omega (arith, store-held _ _ (c .before .before .before .before .before .before .before .before .before .before .before .before .before .before .pre .0) .size)
 
 sub-user : tie.Need-sub-user
-sub-user c = let g = c .before .before .before .before .before .before .before .before .before .before .before .before .before .before .before .pre in omega (arith, c .wide .ensures, user-some _ _ (g .0) (g .1))
+sub-user c = let g = c .before .before .before .before .before .before .before .before .before .before .before .before .before .before .before .pre in omega (arith, c .wide .ensures, user-some _ _ (g .0) (g .1 .1 .0))
 
 sub-select : tie.Need-sub-select
 sub-select c = omega (arith, store-held _ _ (c .before .before .before .before .before .before .before .before .before .before .before .before .before .before .before .pre .0) .size)
@@ -31,7 +31,7 @@ select-requires c κs = let g = c .before .before .before .before .before .befor
     let a = c .before .before .before .before .before .before .before .before .before .before .before .before .before .before .before .before .before .before .before .args in
     let r = c .before .before .before .before .before .before .before .before .before .before .show-user .ensures in
     let f = shown-fits (a .state .now) (a .table .now) (g .0) _ _ _ (r .0) (r .1) in
-    (subject-asks (a .state .now) (a .table .now) (g .0) (g .1) _ (c .before .before .before .before .wide .ensures), f, path-read (pathOf (a .path .now)) (g .2), omega (arith, f .few, g .6))
+    (subject-asks (a .state .now) (a .table .now) (g .0) (g .1 .1 .0) _ (c .before .before .before .before .wide .ensures), f, path-read (pathOf (a .path .now)) (g .1 .0), omega (arith, f .few, g .5))
 
 returns : tie.Need-returns
 returns c = let g = c .before .before .before .before .before .before .before .before .before .before .before .before .before .before .before .before .before .before .before .before .before .before .pre in

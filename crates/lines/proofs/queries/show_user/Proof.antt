@@ -5,7 +5,7 @@ use borrow.Author.Needs.{needs}
 use lib.ListN.{drop, length}
 use Rattle.rights.specs.Table.{count}
 use Rattle.views.specs.Shown.{shownNumbers}
-use Rattle.lines.proofs.StepLaws.{asked-cover, asked-shown, asked-held, user-some, rights-asks}
+use Rattle.lines.proofs.UserViewLaws.{asked-cover, asked-shown, asked-held, user-some, rights-asks}
 use Rattle.rights.proofs.Facts.{table-few}
 use Rattle.rights.proofs.Lists.{rest-of}
 use Rattle.lines.proofs.StateLaws.{store-held}
@@ -16,7 +16,7 @@ shared-slice-read-wide : tie.Need-shared-slice-read-wide
 shared-slice-read-wide c = let g = c .before .before .before .before .before .pre in omega (arith, store-held _ _ (g .0) .size)
 
 sub-user : tie.Need-sub-user
-sub-user c = let g = c .before .before .before .before .before .before .pre in omega (arith, c .wide .ensures, user-some _ _ (g .0) (g .1))
+sub-user c = let g = c .before .before .before .before .before .before .pre in omega (arith, c .wide .ensures, user-some _ _ (g .0) (g .1 .0))
 
 sub-asked-on : tie.Need-sub-asked-on
 sub-asked-on c = let g = c .before .before .before .before .before .before .pre in omega (arith, store-held _ _ (g .0) .size)
@@ -25,7 +25,7 @@ part-asked-on-start : tie.Need-part-asked-on-start
 part-asked-on-start c = let g = c .before .before .before .before .before .before .pre in omega (arith, store-held _ _ (g .0) .size)
 
 asked-on-requires : tie.Need-asked-on-requires
-asked-on-requires c κs = let g = c .before .before .before .before .before .before .before .before .pre in rights-asks _ _ (g .0) (g .1) _ _ (c .before .before .wide .ensures) (g .3)
+asked-on-requires c κs = let g = c .before .before .before .before .before .before .before .before .pre in rights-asks _ _ (g .0) (g .1 .0) _ _ (c .before .before .wide .ensures) (g .3)
 
 show-requires : tie.Need-show-requires
 show-requires c κs = let g = c .before .before .before .before .before .before .before .before .before .before .before .before .before .pre in

@@ -1,21 +1,66 @@
+use mathlib.Core.Path.{refl}
 use native.Mathlib.Omega.{arith}
-use borrow.Author.Tests.{eq-eqb, ne-eqb}
+use Rattle.lines.specs.Work.{viewChecks, workView}
+use Rattle.lines.proofs.RefusalLaws.{passed, performs-refused, performs-short, performs-done}
 use Rattle.lines.proofs.StateLaws.{store-held}
-use Rattle.lines.proofs.StepLaws.{made-at, refused, view-no-user}
+use Rattle.lines.proofs.UserViewLaws.{shown-fits, shown-long, shown-view}
 use borrow.Author.Needs.{needs}
 use Rattle.lines.proofs.queries.view.Statement.{statement}
 use Rattle.lines.proofs.queries.view.Tie as tie
 
-shared-slice-read-if1 : tie.Need-shared-slice-read-if1
-shared-slice-read-if1 c = omega (arith, store-held _ _ (c .before .before .before .before .pre) .size)
+view-refusal-requires : tie.Need-view-refusal-requires
+view-refusal-requires c κs = omega (arith, store-held _ _ (c .before .before .before .pre) .size)
 
 returns : tie.Need-returns
-returns c = made-at (view-no-user _ _ _ (eq-eqb _ _ (c .if1 .taken))) refused
+returns c = let a = c .before .before .before .before .before .args in
+    let g = c .before .before .before .before .before .pre in
+    let s = a .state .now in
+    let t = a .table .now in
+    performs-refused (workView s t) s t (c .before .view-refusal .ensures) (c .if1 .taken)
 
-view-user-requires : tie.Need-view-user-requires
-view-user-requires c κs = (c .before .before .before .before .before .before .pre, ne-eqb _ _ (c .before .if1 .left))
+show-user-requires : tie.Need-show-user-requires
+show-user-requires c κs = let a = c .before .before .before .before .before .before .before .args in
+    let g = c .before .before .before .before .before .before .before .pre in
+    let s = a .state .now in
+    let t = a .table .now in
+    let p = passed (viewChecks s) _ refl (c .before .before .before .view-refusal .ensures) (c .before .before .if1 .left) in
+    (g, p, record { reading = refl; seeing = refl }, refl {a = 16384}, refl {a = 16384})
+
+part-answer-view-end : tie.Need-part-answer-view-end
+part-answer-view-end c = let a = c .before .before .before .before .before .before .before .before .before .before .before .args in
+    let g = c .before .before .before .before .before .before .before .before .before .before .before .pre in
+    let s = a .state .now in
+    let t = a .table .now in
+    shown-long s t g _ _ _ (c .before .before .before .show-user .ensures .0) (c .before .before .before .show-user .ensures .1)
+
+answer-view-requires : tie.Need-answer-view-requires
+answer-view-requires c κs = let a = c .before .before .before .before .before .before .before .before .before .before .before .before .before .args in
+    let g = c .before .before .before .before .before .before .before .before .before .before .before .before .before .pre in
+    let s = a .state .now in
+    let t = a .table .now in
+    shown-fits s t g _ _ _ (c .before .before .before .before .before .show-user .ensures .0) (c .before .before .before .before .before .show-user .ensures .1)
+
+returns-2 : tie.Need-returns-2
+returns-2 c = let a = c .before .before .before .before .before .before .before .before .before .before .before .before .before .before .before .before .before .before .args in
+    let g = c .before .before .before .before .before .before .before .before .before .before .before .before .before .before .before .before .before .before .pre in
+    let s = a .state .now in
+    let t = a .table .now in
+    let p = passed (viewChecks s) _ refl (c .before .before .before .before .before .before .before .before .before .before .before .before .before .before .view-refusal .ensures) (c .before .before .before .before .before .before .before .before .before .before .before .before .before .if1 .left) in
+    let v = shown-view s t g _ _ _ (c .before .before .before .before .before .before .before .before .before .before .show-user .ensures .0) (c .before .before .before .before .before .before .before .before .before .before .show-user .ensures .1) in
+    performs-short (workView s t) s t p (rw v at (c .before .before .before .before .answer-view .ensures)) (c .before .area-refusal .ensures) (c .if2 .taken)
+
+returns-3 : tie.Need-returns-3
+returns-3 c = let a = c .before .before .before .before .before .before .before .before .before .before .before .before .before .before .before .before .before .before .args in
+    let g = c .before .before .before .before .before .before .before .before .before .before .before .before .before .before .before .before .before .before .pre in
+    let s = a .state .now in
+    let t = a .table .now in
+    let p = passed (viewChecks s) _ refl (c .before .before .before .before .before .before .before .before .before .before .before .before .before .before .view-refusal .ensures) (c .before .before .before .before .before .before .before .before .before .before .before .before .before .if1 .left) in
+    let v = shown-view s t g _ _ _ (c .before .before .before .before .before .before .before .before .before .before .show-user .ensures .0) (c .before .before .before .before .before .before .before .before .before .before .show-user .ensures .1) in
+    performs-done (workView s t) s t p (rw v at (c .before .before .before .before .answer-view .ensures)) (c .before .area-refusal .ensures) (c .if2 .left) refl refl
 
 pub view-spec : {M : Type 1} → statement M
 view-spec =
     tie.close
-    (tie.spec shared-slice-read-if1 returns view-user-requires (λ c. search needs) (λ c. search needs))
+    (tie.spec view-refusal-requires returns (λ c. search needs) (λ c. search needs) show-user-requires
+    (λ c. search needs) (λ c. search needs) part-answer-view-end answer-view-requires (λ c κs. search needs)
+    (λ c. search needs) returns-2 (λ c. search needs) returns-3)

@@ -1,13 +1,18 @@
-use Rattle.lines.proofs.StateLaws.{agree-yes}
+use mathlib.Core.Bool.{Bool·beq}
+use mathlib.Core.Path.{ap, _∙_}
+use lib.Dec.{leb}
+use Rattle.rights.proofs.Facts.{table-long}
+use Rattle.lines.specs.State.{stage}
 use borrow.Author.Needs.{needs}
 use Rattle.lines.proofs.state.agree.Statement.{statement}
 use Rattle.lines.proofs.state.agree.Tie as tie
 
-returns : tie.Need-returns
-returns c = agree-yes _ _ (c .if1 .taken)
+count-of-requires : tie.Need-count-of-requires
+count-of-requires c κs = table-long _ (c .before .before .pre .1)
 
-returns-2 : tie.Need-returns-2
-returns-2 c = search needs
+returns : tie.Need-returns
+returns c = let s = c .before .before .before .before .before .args .state .now in
+    c .same .ensures ∙ ap (λ n. Bool·beq (leb 2 (stage s)) (leb 1 n)) (c .before .before .count-of .ensures)
 
 pub agree-spec : {M : Type 1} → statement M
-agree-spec = tie.close (tie.spec returns returns-2)
+agree-spec = tie.close (tie.spec count-of-requires (λ c. search needs) (λ c κs. search needs) returns)

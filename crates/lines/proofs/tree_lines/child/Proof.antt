@@ -1,18 +1,80 @@
-use mathlib.Core.Path.{refl, sym, _∙_}
-use Rattle.lines.proofs.StepLaws.{made-at, refused}
-use Rattle.lines.proofs.TreeStepLaws.{child-restricted}
+use Prim.Native.Nat.{_+_}
+use mathlib.Core.List.{_∷_}
+use mathlib.Core.Path.{refl, ap, _∙_}
+use native.Mathlib.Omega.{arith}
+use borrow.Author.Tests.{not-false}
+use Rattle.rights.specs.Table.{records}
+use Rattle.rights.proofs.Facts.{table-few}
+use Rattle.views.specs.Change.{chunks, changed, placed, lower, deepest, tooDeep, hasRoom}
+use Rattle.views.specs.Marks.{marksOf}
+use Rattle.views.specs.declared.insert.Place.the-variants.{Append}
+use Rattle.lines.specs.Refusal.{firstRefusal}
+use Rattle.lines.specs.Work.{labelCheck, insertChecks, rootAlone, workChild}
+use Rattle.lines.proofs.RefusalLaws.{passed, performs-refused, performs-short, performs-done}
+use Rattle.lines.proofs.StateLaws.{store-held, stage-put}
+use Rattle.lines.proofs.TreeLineLaws.{root-marks}
 use borrow.Author.Needs.{needs}
 use Rattle.lines.proofs.tree_lines.child.Statement.{statement}
 use Rattle.lines.proofs.tree_lines.child.Tie as tie
 
-returns : tie.Need-returns
-returns c = made-at (child-restricted _ _ _ _ _ (sym (c .before .tree-restricted .ensures) ∙ c .if1 .taken)) refused
+child-refusal-requires : tie.Need-child-refusal-requires
+child-refusal-requires c κs = let g = c .before .before .before .before .before .before .pre in
+    let h = store-held _ _ (g .0) .table in
+    (h, table-few _ h, g .1, g .2)
 
-child-with-requires : tie.Need-child-with-requires
-child-with-requires c κs = let g = c .before .before .before .before .before .before .before .before .before .before .pre in (g .0, refl, sym (c .before .before .before .before .before .tree-restricted .ensures) ∙ c .before .before .before .before .if1 .left, g .1, g .2)
+returns : tie.Need-returns
+returns c = let a = c .before .before .before .before .before .before .before .before .args in
+    let g = c .before .before .before .before .before .before .before .before .pre in
+    let s = a .state .now in
+    let t = a .table .now in
+    let x = a .tree .now in
+    let e = c .before .child-refusal .ensures ∙ ap (λ k. firstRefusal (labelCheck (a .m) x ∷ insertChecks Append k (a .m) x t)) root-marks in
+    performs-refused (workChild t (a .m) x) s t e (c .if1 .taken)
+
+returns-2 : tie.Need-returns-2
+returns-2 c = let a = c .before .before .before .before .before .before .before .before .before .before .before .before .before .before .args in
+    let g = c .before .before .before .before .before .before .before .before .before .before .before .before .before .before .pre in
+    let s = a .state .now in
+    let t = a .table .now in
+    let x = a .tree .now in
+    let e = c .before .before .before .before .before .before .before .child-refusal .ensures ∙ ap (λ k. firstRefusal (labelCheck (a .m) x ∷ insertChecks Append k (a .m) x t)) root-marks in
+    let p = passed (labelCheck (a .m) x ∷ insertChecks Append rootAlone (a .m) x t) _ refl e (c .before .before .before .before .before .before .if1 .left) in
+    performs-short (workChild t (a .m) x) s t p (c .before .before .before .before .answer-ok .ensures) (c .before .area-refusal .ensures) (c .if2 .taken)
+
+insert-marked-requires : tie.Need-insert-marked-requires
+insert-marked-requires c κs = let a = c .before .before .before .before .before .before .before .before .before .before .before .before .before .before .before .before .args in
+    let g = c .before .before .before .before .before .before .before .before .before .before .before .before .before .before .before .before .pre in
+    let s = a .state .now in
+    let t = a .table .now in
+    let x = a .tree .now in
+    let e = c .before .before .before .before .before .before .before .before .before .child-refusal .ensures ∙ ap (λ k. firstRefusal (labelCheck (a .m) x ∷ insertChecks Append k (a .m) x t)) root-marks in
+    let p = passed (labelCheck (a .m) x ∷ insertChecks Append rootAlone (a .m) x t) _ refl e (c .before .before .before .before .before .before .before .before .if1 .left) in
+    let h = store-held s t (g .0) .table in (
+      (h, table-few t h, g .1),
+      (
+        ap (λ k. tooDeep (lower Append + deepest (chunks (a .m) x)) (marksOf k) (records t)) root-marks ∙ p .1 .0,
+        ap (λ k. hasRoom t k (a .m)) root-marks ∙ not-false _ (p .1 .1 .0),
+      ),
+    )
+
+slice-write-state : tie.Need-slice-write-state
+slice-write-state c = omega (arith, store-held _ _ (c .before .before .before .before .before .before .before .before .before .before .before .before .before .before .before .before .before .before .before .pre .0) .size)
+
+returns-3 : tie.Need-returns-3
+returns-3 c = let a = c .before .before .before .before .before .before .before .before .before .before .before .before .before .before .before .before .before .before .before .args in
+    let g = c .before .before .before .before .before .before .before .before .before .before .before .before .before .before .before .before .before .before .before .pre in
+    let s = a .state .now in
+    let t = a .table .now in
+    let x = a .tree .now in
+    let e = c .before .before .before .before .before .before .before .before .before .before .before .before .child-refusal .ensures ∙ ap (λ k. firstRefusal (labelCheck (a .m) x ∷ insertChecks Append k (a .m) x t)) root-marks in
+    let p = passed (labelCheck (a .m) x ∷ insertChecks Append rootAlone (a .m) x t) _ refl e (c .before .before .before .before .before .before .before .before .before .before .before .if1 .left) in
+    performs-done (workChild t (a .m) x) s t p (c .before .before .before .before .before .before .before .before .before .answer-ok .ensures) (c .before .before .before .before .before .before .area-refusal .ensures) (c .before .before .before .before .before .if2 .left)
+    (stage-put s 3 (omega (arith, store-held s t (g .0) .size)))
+    (c .before .before .insert-marked .ensures ∙ ap (λ k. changed t (placed Append (a .m) x k (records t))) root-marks)
 
 pub child-spec : {M : Type 1} → statement M
 child-spec =
     tie.close
-    (tie.spec (λ c κs. search needs) returns (λ c. search needs) (λ c. search needs) child-with-requires
-    (λ c. search needs) (λ c. search needs) (λ c. search needs) (λ c. search needs))
+    (tie.spec (λ c. search needs) (λ c. search needs) child-refusal-requires (λ c. search needs) returns
+    (λ c κs. search needs) (λ c κs. search needs) (λ c. search needs) (λ c. search needs) returns-2 (λ c. search needs)
+    insert-marked-requires slice-write-state (λ c. search needs) (λ c. search needs) (λ c. search needs) returns-3)

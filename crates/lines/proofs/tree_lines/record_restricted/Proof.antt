@@ -1,7 +1,7 @@
 use mathlib.Core.Path.{ap, _∙_}
 use native.Mathlib.Omega.{arith}
 use Rattle.rights.specs.Labels.{sameLabel, restricted}
-use Rattle.lines.proofs.TreeStepLaws.{label-part, label-long}
+use Rattle.lines.proofs.TreeLineLaws.{label-part, label-long}
 use borrow.Author.Needs.{needs}
 use Rattle.lines.proofs.tree_lines.record_restricted.Statement.{statement}
 use Rattle.lines.proofs.tree_lines.record_restricted.Tie as tie

@@ -2,8 +2,8 @@ use Prim.Native.Nat.{_≤_, _-_, _*_}
 use mathlib.Core.Path.{_≡_, sym, _∙_}
 use native.Mathlib.Omega.{arith}
 use lib.ListN.{drop}
-use Rattle.lines.specs.StepTree.{treeRestricted}
-use Rattle.lines.proofs.TreeStepLaws.{restricted-first, restricted-stop, restricted-step, restricted-none}
+use Rattle.lines.specs.Work.{treeRestricted}
+use Rattle.lines.proofs.TreeLineLaws.{restricted-first, restricted-stop, restricted-step, restricted-none}
 use borrow.Author.Needs.{needs}
 use Rattle.lines.proofs.tree_lines.tree_restricted.Statement.{statement}
 use Rattle.lines.proofs.tree_lines.tree_restricted.Tie as tie

@@ -1,0 +1,114 @@
+-- Checks, and a work that is carried out: what a check that fails refuses, what passed checks let follow. Assumes nothing.
+use Prim.Native.Nat.{ℕ, _<_, _≤_}
+use mathlib.Core.Bool.{Bool, true, false, cond, _&&_, and-eq-true-iff}
+use mathlib.Core.Path.{_≡_, refl, sym, ap, _∙_}
+use mathlib.Core.List.{List, [], _∷_, _++_, append-assoc}
+use native.Mathlib.Omega.{arith}
+use borrow.Author.Tests.{leb-true, ltb-true, ltb-false, le-leb, lt-leb}
+use lib.Dec.{leb, ltb}
+use lib.ListN.{length, drop, length-append, length-drop}
+use Rattle.rights.proofs.Lists.{byCase}
+use Rattle.answers.specs.AnswerArea.{Answered, written}
+use Rattle.lines.specs.Outcome.{Outcome, says, refusal, Made}
+use Rattle.lines.specs.Refusal.{Check, areaShort, areaCheck, checked, firstRefusal, Passed, numbered}
+use Rattle.lines.specs.Effect.{Work, stateAfter, tableAfter, guarded, checksIn, performed, Performs}
+use Rattle.lines.specs.declared.line.Answer.the-variants.{Accepted, Refused}
+use Rattle.lines.proofs.OutcomeLaws.{made-at}
+
+-- the first check that fails
+
+pub first-behind : (cs ds : List Check) → Passed cs → firstRefusal (cs ++ ds) ≡ firstRefusal ds
+first-behind [] ds p = refl
+first-behind (c ∷ cs) ds p = rw (p .0) (first-behind cs ds (p .1))
+
+pub first-front : (cs ds : List Check) (n : ℕ) → n ≡ firstRefusal cs → (n ≡ 0 → ⊥) → n ≡ firstRefusal (cs ++ ds)
+first-front [] ds n e h = absurd (h e)
+first-front (c ∷ cs) ds n e h =
+    byCase (c .fails) (λ z. rw z (rw z at e)) (λ z. rw z (first-front cs ds n (rw z at e) h))
+
+-- where no number is returned, every check passed
+pub passed : (cs : List Check) (n : ℕ) → numbered cs ≡ true → n ≡ firstRefusal cs → n ≡ 0 → Passed cs
+passed [] n k e z = tt
+passed (c ∷ cs) n k e z =
+    let f = simp and-eq-true-iff at k in
+    byCase (c .fails)
+    (λ q. let m : n ≡ c .number = rw q at e in absurd (omega (arith, ltb-true 0 (c .number) (f .0))))
+    (λ q. (q, passed cs n (f .1) (rw q at e) z))
+
+pub passed-append : (cs ds : List Check) → Passed cs → Passed ds → Passed (cs ++ ds)
+passed-append [] ds p q = q
+passed-append (c ∷ cs) ds p q = (p .0, passed-append cs ds (p .1) q)
+
+-- what follows checks
+
+pub checked-behind : (cs ds : List Check) (s t : List ℕ) (o : Outcome) → Passed cs → checked (cs ++ ds) s t o ≡ checked ds s t o
+unfolding checked
+checked-behind [] ds s t o p = refl
+checked-behind (c ∷ cs) ds s t o p = rw (p .0) (checked-behind cs ds s t o (p .1))
+
+pub checked-passed : (cs : List Check) (s t : List ℕ) (o : Outcome) → Passed cs → checked cs s t o ≡ o
+unfolding checked
+checked-passed [] s t o p = refl
+checked-passed (c ∷ cs) s t o p = rw (p .0) (checked-passed cs s t o (p .1))
+
+pub checked-refused : (cs : List Check) (s t : List ℕ) (o : Outcome) (n : ℕ) → n ≡ firstRefusal cs → (n ≡ 0 → ⊥) → checked cs s t o ≡ refusal n s t
+unfolding checked
+checked-refused [] s t o n e h = absurd (h e)
+checked-refused (c ∷ cs) s t o n e h =
+    byCase (c .fails)
+    (λ z. rw z (let m : n ≡ c .number = rw z at e in ap (λ k. refusal k s t) (sym m)))
+    (λ z. rw z (checked-refused cs s t o n (rw z at e) h))
+
+-- an area that an answer was put into keeps its length
+pub length-written : (text area : List ℕ) → length (written text area) ≡ length area
+length-written text area = go (leb (length text) (length area)) refl
+  where
+    go : (b : Bool) → leb (length text) (length area) ≡ b → length (cond b (text ++ drop (length text) area) area) ≡ length area
+    go true q = omega (arith, length-append text (drop (length text) area), length-drop (length text) area, leb-true (length text) (length area) q)
+    go false q = refl
+
+-- A work that is carried out
+
+module _ (w : Work) (s t : List ℕ) where
+  -- refused by one of its own checks
+  pub performs-refused : {area : List ℕ} {n : ℕ} → n ≡ firstRefusal (w .checks) → (n ≡ 0 → ⊥) → Performs w s t area (Refused n) s t area
+  unfolding performed
+  performs-refused {area} {n} e h =
+      made-at (checked-refused (checksIn (length area) w) s t _ n (first-front (w .checks) _ n e h) h)
+      (record { answer = refl; state = refl; table = refl; area = refl })
+
+  -- where they passed, and its answer was put if it fits
+  module _ {before area : List ℕ} {need d : ℕ} (p : Passed (w .checks)) (a : Answered (w .text) before area need) (e : d ≡ firstRefusal (areaCheck (length area) need ∷ [])) where
+    last : d ≡ firstRefusal (areaCheck (length before) (length (w .text)) ∷ [])
+    last =
+        e
+        ∙ ap (λ k. firstRefusal (areaCheck k need ∷ [])) (ap length (a .area) ∙ length-written (w .text) before)
+        ∙ ap (λ k. firstRefusal (areaCheck (length before) k ∷ [])) (a .size)
+
+    pub performs-short : (d ≡ 0 → ⊥) → Performs w s t before (Refused d) s t area
+    unfolding performed
+    performs-short h =
+        byCase (ltb (length before) (length (w .text)))
+        (λ z.
+        let q : leb (length (w .text)) (length before) ≡ false = lt-leb (length (w .text)) (length before) (ltb-true (length before) (length (w .text)) z) in
+        made-at (checked-behind (w .checks) _ s t _ p ∙ checked-refused (areaCheck (length before) (length (w .text)) ∷ []) s t _ d last h)
+        (record { answer = refl; state = refl; table = refl; area = rw q at (a .area) }))
+        (λ z. absurd (h (rw z at last)))
+
+    pub performs-done : {s' t' : List ℕ} → d ≡ 0 → s' ≡ stateAfter (w .effect) s → t' ≡ tableAfter (w .effect) t → Performs w s t before (Accepted need) s' t' area
+    unfolding performed
+    performs-done k es et =
+        byCase (ltb (length before) (length (w .text)))
+        (λ z. let m : d ≡ areaShort = rw z at last in absurd (omega (arith, m, k)))
+        (λ z.
+        let q : leb (length (w .text)) (length before) ≡ true = le-leb (length (w .text)) (length before) (ltb-false (length before) (length (w .text)) z) in
+        made-at (checked-behind (w .checks) _ s t _ p ∙ checked-passed (areaCheck (length before) (length (w .text)) ∷ []) s t _ (z, tt))
+        (record { answer = ap Accepted (a .size); state = es; table = et; area = rw q at (a .area) }))
+
+-- checks in front that passed
+pub performed-guarded : (cs : List Check) (w : Work) (room : ℕ) (s t : List ℕ) → Passed cs → performed (guarded cs w) room s t ≡ performed w room s t
+unfolding performed
+performed-guarded cs w room s t p =
+    ap (λ l. checked l s t (record { reply = says (w .text); state = stateAfter (w .effect) s; table = tableAfter (w .effect) t }))
+    (append-assoc cs (w .checks) (areaCheck room (length (w .text)) ∷ []))
+    ∙ checked-behind cs _ s t _ p

@@ -1,0 +1,165 @@
+-- What a session's user has and sees, where it is worked out in areas that are lent. Assumes nothing.
+use Prim.Native.Nat.{ℕ, zero, suc, _-_, _≤_, _<_}
+use mathlib.Core.Bool.{Bool, true, false}
+use mathlib.Core.Path.{_≡_, refl, sym, ap, _∙_}
+use mathlib.Core.List.{List, [], _∷_, _++_}
+use native.Mathlib.Omega.{arith}
+use borrow.Author.Tests.{eqb-false}
+use lib.Bits.{bitAnd}
+use lib.ListN.{length, take, drop, length-map, length-append}
+use lib.Seq.{take-at}
+use Rattle.rights.specs.Path.{Path}
+use Rattle.rights.specs.PathReader.{Got, got, bad, placeOf, pathOf}
+use Rattle.rights.specs.declared.path.Read.the-variants.{At, Bad}
+use Rattle.rights.specs.Nodes.{Nodes, Fits, viewOf}
+use Rattle.rights.specs.Isa.{passesOwn}
+use Rattle.rights.specs.PolicyBytes.{policyOf, subjectCount, Subject}
+use Rattle.rights.specs.PolicyCheck.{policyOk}
+use Rattle.rights.specs.Rights.{rightsBy, chains, askedOn}
+use Rattle.rights.specs.Selection.{selection, Selects}
+use Rattle.rights.specs.Table.{count, records, tableOk}
+use Rattle.rights.proofs.Facts.{table-few}
+use Rattle.rights.proofs.FiveRights.{asked-all}
+use Rattle.rights.proofs.Lists.{rest-of}
+use Rattle.rights.proofs.PassLaws.{marks-length, view-length}
+use Rattle.rights.proofs.RightsLaws.{rule-bit}
+use Rattle.rights.proofs.Sounds.{policy-sound}
+use Rattle.views.specs.Shown.{Stored, storedFrom, stored, shownNumbers}
+use Rattle.views.proofs.AskedView.{shown-asked}
+use Rattle.views.proofs.TableKept.{length-records}
+use Rattle.views.proofs.ViewLaws.{view-fits, view-by-numbers}
+use Rattle.lines.specs.ChangeRoom.{ForView}
+use Rattle.lines.specs.State.{userByte, userOf, policyBytes, policyIn, storeOk}
+use Rattle.lines.specs.UserView.{noUser, notPath, rightsIn, storedIn, viewIn, marksIn}
+use Rattle.lines.proofs.StateLaws.{store-held}
+
+-- the user of a store that passed is a declared subject
+module _ (s t : List ℕ) (ok : storeOk s t ≡ true) (u : noUser s ≡ false) where
+  pub user-some : 0 < userByte s
+  user-some = go (userByte s) (eqb-false (userByte s) 0 u)
+    where
+      go : (n : ℕ) → (n ≡ 0 → ⊥) → 0 < n
+      go zero h = absurd (h refl)
+      go (suc n) h = omega arith
+
+  pub user-declared : userOf s < subjectCount (policyBytes s)
+  user-declared = omega (arith, user-some, store-held s t ok .user)
+
+-- rights beyond the nodes are not looked at
+stored-more : (rs : List (List ℕ)) (ss more : List ℕ) (i : ℕ) → length ss ≡ length rs → storedFrom i rs (ss ++ more) ≡ storedFrom i rs ss
+unfolding storedFrom
+stored-more [] ss more i e = refl
+stored-more (r ∷ rs) [] more i e = absurd (omega arith)
+stored-more (r ∷ rs) (x ∷ ss) more i e = ap (λ l. record { number = i; bytes = r; rights = x } ∷ l) (stored-more rs ss more (suc i) (omega arith))
+
+pub chains-length : (c rs : List (List ℕ)) → length (chains c rs) ≡ length rs
+unfolding chains
+chains-length c [] = refl
+chains-length c (r ∷ rs) = ap suc (chains-length _ rs)
+
+pub rights-length : (s t : List ℕ) → length (rightsIn s t) ≡ count t
+rights-length s t = length-map (chains [] (records t)) (rightsBy _ (userOf s)) ∙ chains-length [] (records t) ∙ length-records t
+
+-- what the rights of the user ask, where the policy is a part of the state
+module _ (s t : List ℕ) (ok : storeOk s t ≡ true) (u : noUser s ≡ false) (user n : ℕ) (e : user ≡ userByte s) where
+  pub rights-asks : n ≡ 16384
+      → (policyOk (take (length s - 8) (drop 8 s)) ≡ true) × (user - 1 < subjectCount (take (length s - 8) (drop 8 s))) × (tableOk t ≡ true) × (count t ≤ n)
+  rights-asks q =
+      let h = store-held s t ok in
+      rw (rest-of s 8) (h .policy, rw e (user-declared s t ok u), h .table, omega (arith, table-few t (h .table)))
+
+-- what the asked rights of the user are, and give
+module _ (s t rights' more : List ℕ) (user asked : ℕ) (e : user ≡ userByte s) (q : rights' ≡ askedOn asked (policyOf (take (length s - 8) (drop 8 s))) (user - 1) (records t) ++ more) where
+  pub asked-held : rights' ≡ askedOn asked (policyIn s) (userOf s) (records t) ++ more
+  asked-held =
+      q
+      ∙ ap (λ p. askedOn asked (policyOf p) (user - 1) (records t) ++ more) (rest-of s 8)
+      ∙ ap (λ n. askedOn asked (policyIn s) (n - 1) (records t) ++ more) e
+
+  asked-length : length (askedOn asked (policyIn s) (userOf s) (records t)) ≡ count t
+  asked-length = length-map (chains [] (records t)) (λ c. bitAnd (rightsBy (policyIn s) (userOf s) c) asked) ∙ chains-length [] (records t) ∙ length-records t
+
+  pub asked-cover : count t ≤ length rights'
+  asked-cover = omega (arith, ap length asked-held, length-append (askedOn asked (policyIn s) (userOf s) (records t)) more, asked-length)
+
+  -- where position and read are asked, the same nodes are shown
+  pub asked-shown : ForView asked → shownNumbers (stored t rights') ≡ shownNumbers (storedIn s t)
+  asked-shown v =
+      ap (λ r. shownNumbers (stored t r)) asked-held
+      ∙ ap shownNumbers (stored-more (records t) (askedOn asked (policyIn s) (userOf s) (records t)) more 0 (asked-length ∙ sym (length-records t)))
+      ∙ shown-asked (rightsBy (policyIn s) (userOf s)) asked (v .reading) (v .seeing) (records t) (chains [] (records t))
+
+-- where all rights are asked, they are the user's rights
+pub all-held : (s t : List ℕ) → storeOk s t ≡ true → (rights' more : List ℕ) → rights' ≡ askedOn 31 (policyIn s) (userOf s) (records t) ++ more → rights' ≡ rightsIn s t ++ more
+all-held s t ok rights' more e = e ∙ ap (λ r. r ++ more) (asked-all (policyBytes s) (userOf s) (rule-bit (policyBytes s) (store-held s t ok .policy)) (chains [] (records t)))
+
+-- the numbers of the shown nodes, as the part of an area that holds them
+module _ (s t : List ℕ) (ok : storeOk s t ≡ true) (shown' more : List ℕ) (k : ℕ) (e : k ≡ length (shownNumbers (storedIn s t))) (q : shown' ≡ shownNumbers (storedIn s t) ++ more) where
+  pub shown-part : take (k - 0) (drop 0 shown') ≡ shownNumbers (storedIn s t)
+  shown-part =
+      let z : k - 0 ≡ length (shownNumbers (storedIn s t)) = omega arith in
+      rw (z, q) (take-at (shownNumbers (storedIn s t)) more (length (shownNumbers (storedIn s t))) refl)
+
+  pub shown-fits : Fits t (take (k - 0) (drop 0 shown'))
+  shown-fits = rw shown-part (view-fits t (rightsIn s t) (store-held s t ok .table))
+
+  pub shown-long : k ≤ length shown'
+  shown-long = omega (arith, ap length q, length-append (shownNumbers (storedIn s t)) more)
+
+  pub shown-view : viewOf t (take (k - 0) (drop 0 shown')) ≡ viewIn s t
+  shown-view = ap (viewOf t) shown-part ∙ view-by-numbers t (rightsIn s t) (store-held s t ok .table)
+
+-- the policy's part, as the selection asks for its user
+pub subject-asks : (s t : List ℕ) → storeOk s t ≡ true → noUser s ≡ false → (user : ℕ) → user ≡ userByte s → Subject (take (length s - 8) (drop 8 s)) (user - 1)
+subject-asks s t ok u user e =
+    let h = store-held s t ok in
+    rw (rest-of s 8, e) (record { declared = user-declared s t ok u; name = policy-sound _ (h .policy) .names (userOf s) (user-declared s t ok u) })
+
+marks-long : (s t path : List ℕ) → length (marksIn s t path) ≡ length (viewIn s t)
+marks-long s t path = marks-length _ 0 (length (viewIn s t))
+
+view-long : (s t : List ℕ) → storeOk s t ≡ true → length (viewIn s t) ≡ length (shownNumbers (storedIn s t))
+view-long s t ok = sym (ap length (view-by-numbers t (rightsIn s t) (store-held s t ok .table))) ∙ view-length t (shownNumbers (storedIn s t))
+
+pub marks-size : (s t path : List ℕ) → storeOk s t ≡ true → length (marksIn s t path) ≡ length (shownNumbers (storedIn s t))
+marks-size s t path ok = marks-long s t path ∙ view-long s t ok
+
+-- what is selected from the user's view
+module _ (s t path : List ℕ) (ok : storeOk s t ≡ true) (user : ℕ) (e : user ≡ userByte s) (nodes : Nodes) (v : nodes ≡ viewIn s t) where
+  pub picked-are : (before after : List ℕ) (k : ℕ) → k ≡ length (shownNumbers (storedIn s t))
+      → Selects nodes (passesOwn (policyOf (take (length s - 8) (drop 8 s))) (user - 1)) path before after → after ≡ marksIn s t path ++ drop k before
+  picked-are before after k z q =
+      let m : selection path (passesOwn (policyOf (take (length s - 8) (drop 8 s))) (user - 1)) nodes ≡ marksIn s t path =
+      ap (selection path (passesOwn (policyOf (take (length s - 8) (drop 8 s))) (user - 1))) v
+      ∙ ap (λ p. selection path (passesOwn (policyOf p) (user - 1)) (viewIn s t)) (rest-of s 8)
+      ∙ ap (λ n. selection path (passesOwn (policyIn s) (n - 1)) (viewIn s t)) e in
+      q ∙ ap (λ l. l ++ drop (length nodes) before) m ∙ ap (λ n. marksIn s t path ++ drop n before) (ap length v ∙ view-long s t ok ∙ sym z)
+
+-- a part that holds the marks
+pub marks-part : (s t path marks' more : List ℕ) (k : ℕ) → storeOk s t ≡ true → k ≡ length (shownNumbers (storedIn s t)) → marks' ≡ marksIn s t path ++ more
+    → take (k - 0) (drop 0 marks') ≡ marksIn s t path
+marks-part s t path marks' more k ok e q =
+    let z : k - 0 ≡ length (marksIn s t path) = omega (arith, marks-size s t path ok) in
+    rw (z, q) (take-at (marksIn s t path) more (length (marksIn s t path)) refl)
+
+-- what was read of a path
+-- what is not refused was read
+pub path-read : (g : Got Path) → notPath g ≡ false → g ≡ bad → ⊥
+path-read (got p i) e q = let z : _≡_ {A = ℕ} 0 1 = cc in omega arith
+path-read bad e q = let z : _≡_ {A = ℕ} 0 1 = cc in omega arith
+
+pub not-path : (g : Got Path) → placeOf g ≡ Bad → notPath g ≡ true
+not-path (got p i) e = absurd (let z : _≡_ {A = ℕ} 0 1 = cc in omega arith)
+not-path bad e = refl
+
+pub is-path : (g : Got Path) (i : ℕ) → placeOf g ≡ At i → notPath g ≡ false
+is-path (got p k) i e = refl
+is-path bad i e = absurd (let z : _≡_ {A = ℕ} 0 1 = cc in omega arith)
+
+pub marks-long-enough : (s t path marks' more : List ℕ) (k : ℕ) → storeOk s t ≡ true → k ≡ length (shownNumbers (storedIn s t)) → marks' ≡ marksIn s t path ++ more → k ≤ length marks'
+marks-long-enough s t path marks' more k ok e q = omega (arith, ap length q, length-append (marksIn s t path) more, marks-size s t path ok)
+
+pub marks-cover : (s t path shown' more marks' rest : List ℕ) (k : ℕ) (ok : storeOk s t ≡ true) (e : k ≡ length (shownNumbers (storedIn s t))) → shown' ≡ shownNumbers (storedIn s t) ++ more
+    → marks' ≡ marksIn s t path ++ rest → length (take (k - 0) (drop 0 shown')) ≤ length (take (k - 0) (drop 0 marks'))
+marks-cover s t path shown' more marks' rest k ok e q m =
+    omega (arith, ap length (shown-part s t ok shown' more k e q), ap length (marks-part s t path marks' rest k ok e m), marks-size s t path ok)

@@ -1,0 +1,34 @@
+use mathlib.Core.Bool.{_||_}
+use mathlib.Core.List.{[], _∷_}
+use mathlib.Core.Path.{refl, sym, _∙_}
+use native.Mathlib.Omega.{arith}
+use Rattle.rights.specs.Labels.{sameLabel, restricted}
+use Rattle.rights.specs.Policy.{policyWord}
+use Rattle.lines.specs.Refusal.{check, bannedLabel}
+use Rattle.lines.specs.State.{policyIn}
+use Rattle.lines.specs.Work.{onView}
+use Rattle.lines.proofs.RefusalLaws.{first-front, passed}
+use Rattle.lines.proofs.StateLaws.{store-held}
+use borrow.Author.Needs.{needs}
+use Rattle.lines.proofs.changes.rename_refusal.Statement.{statement}
+use Rattle.lines.proofs.changes.rename_refusal.Tie as tie
+
+path-refusal-requires : tie.Need-path-refusal-requires
+path-refusal-requires c κs = omega (arith, store-held _ _ (c .before .before .before .before .pre) .size)
+
+returns : tie.Need-returns
+returns c = let a = c .before .before .before .before .before .before .args in
+    let s = a .state .now in
+    let l = a .label .now in
+    first-front (onView (a .path .now) s) (check bannedLabel (sameLabel l restricted || policyWord (policyIn s) l) ∷ []) _ (c .before .path-refusal .ensures) (c .if1 .taken)
+
+returns-2 : tie.Need-returns-2
+returns-2 c = let p = passed (onView (c .before .before .before .before .before .before .before .before .args .path .now) (c .before .before .before .before .before .before .before .before .args .state .now)) _ refl (c .before .before .before .path-refusal .ensures) (c .before .before .if1 .left) in
+    rw (p .0, p .1 .0, sym (c .before .is-barred .ensures) ∙ c .if2 .taken)
+
+returns-3 : tie.Need-returns-3
+returns-3 c = let p = passed (onView (c .before .before .before .before .before .before .before .before .args .path .now) (c .before .before .before .before .before .before .before .before .args .state .now)) _ refl (c .before .before .before .path-refusal .ensures) (c .before .before .if1 .left) in
+    rw (p .0, p .1 .0, sym (c .before .is-barred .ensures) ∙ c .if2 .left)
+
+pub rename-refusal-spec : {M : Type 1} → statement M
+rename-refusal-spec = tie.close (tie.spec path-refusal-requires returns (λ c κs. search needs) returns-2 returns-3)

@@ -1,0 +1,22 @@
+use mathlib.Core.List.{[], _∷_}
+use mathlib.Core.Path.{refl, sym, _∙_}
+use Rattle.lines.specs.Work.{onView, labelCheck}
+use Rattle.lines.proofs.RefusalLaws.{first-front, passed}
+use borrow.Author.Needs.{needs}
+use Rattle.lines.proofs.changes.tree_refusal.Statement.{statement}
+use Rattle.lines.proofs.changes.tree_refusal.Tie as tie
+
+returns : tie.Need-returns
+returns c = let a = c .before .before .before .before .before .args in
+    first-front (onView (a .path .now) (a .state .now)) (labelCheck (a .m) (a .tree .now) ∷ []) _ (c .before .path-refusal .ensures) (c .if1 .taken)
+
+returns-2 : tie.Need-returns-2
+returns-2 c = let p = passed (onView (c .before .before .before .before .before .before .before .args .path .now) (c .before .before .before .before .before .before .before .args .state .now)) _ refl (c .before .before .before .path-refusal .ensures) (c .before .before .if1 .left) in
+    rw (p .0, p .1 .0, sym (c .before .tree-restricted .ensures) ∙ c .if2 .taken)
+
+returns-3 : tie.Need-returns-3
+returns-3 c = let p = passed (onView (c .before .before .before .before .before .before .before .args .path .now) (c .before .before .before .before .before .before .before .args .state .now)) _ refl (c .before .before .before .path-refusal .ensures) (c .before .before .if1 .left) in
+    rw (p .0, p .1 .0, sym (c .before .tree-restricted .ensures) ∙ c .if2 .left)
+
+pub tree-refusal-spec : {M : Type 1} → statement M
+tree-refusal-spec = tie.close (tie.spec (λ c κs. search needs) returns (λ c κs. search needs) returns-2 returns-3)

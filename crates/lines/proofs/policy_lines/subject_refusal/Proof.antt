@@ -1,0 +1,46 @@
+use Prim.Native.Nat.{_≤_, _<_}
+use mathlib.Core.Path.{sym, ap, _∙_}
+use native.Mathlib.Omega.{arith}
+use borrow.Author.Tests.{le-leb, lt-leb}
+use lib.Seq.{take-length}
+use Rattle.rights.specs.Labels.{sameLabel, restricted}
+use Rattle.rights.specs.PolicyBytes.{subjectCount}
+use Rattle.rights.proofs.Sounds.{policy-sound}
+use borrow.Author.Needs.{needs}
+use Rattle.lines.proofs.policy_lines.subject_refusal.Statement.{statement}
+use Rattle.lines.proofs.policy_lines.subject_refusal.Tie as tie
+
+returns : tie.Need-returns
+returns c = rw (sym (c .before .before .find-name .ensures) ∙ c .enum-told2 .given .1)
+
+shared-slice-read-wide : tie.Need-shared-slice-read-wide
+shared-slice-read-wide c = omega (arith, policy-sound (c .before .before .before .before .before .before .args .policy .now) (c .before .before .before .before .before .before .pre) .size)
+
+returns-2 : tie.Need-returns-2
+returns-2 c = let p = c .before .before .before .before .before .before .before .before .args .policy .now in
+    let n = c .before .before .before .before .before .before .before .before .args .name .now in
+    let e = sym (c .before .before .before .before .before .find-name .ensures) ∙ c .before .before .before .enum-told .given .1 in
+    let k : 64 ≤ subjectCount p = omega (arith, c .before .wide .ensures) in
+    rw (e, le-leb 64 (subjectCount p) k)
+
+returns-3 : tie.Need-returns-3
+returns-3 c = let p = c .before .before .before .before .before .before .before .before .before .before .args .policy .now in
+    let n = c .before .before .before .before .before .before .before .before .before .before .args .name .now in
+    let e = sym (c .before .before .before .before .before .before .before .find-name .ensures) ∙ c .before .before .before .before .before .enum-told .given .1 in
+    let q = ap (λ x. sameLabel x restricted) (sym (take-length n)) ∙ sym (c .before .is-restricted .ensures) in
+    let k : subjectCount p < 64 = omega (arith, c .before .before .before .wide .ensures) in
+    rw (e, lt-leb 64 (subjectCount p) k, q ∙ c .if2 .taken)
+
+returns-4 : tie.Need-returns-4
+returns-4 c = let p = c .before .before .before .before .before .before .before .before .before .before .args .policy .now in
+    let n = c .before .before .before .before .before .before .before .before .before .before .args .name .now in
+    let e = sym (c .before .before .before .before .before .before .before .find-name .ensures) ∙ c .before .before .before .before .before .enum-told .given .1 in
+    let q = ap (λ x. sameLabel x restricted) (sym (take-length n)) ∙ sym (c .before .is-restricted .ensures) in
+    let k : subjectCount p < 64 = omega (arith, c .before .before .before .wide .ensures) in
+    rw (e, lt-leb 64 (subjectCount p) k, q ∙ c .if2 .left)
+
+pub subject-refusal-spec : {M : Type 1} → statement M
+subject-refusal-spec =
+    tie.close
+    (tie.spec (λ c κs. search needs) (λ c. search needs) (λ c. search needs) returns shared-slice-read-wide
+    (λ c κs. search needs) returns-2 (λ c κs. search needs) returns-3 returns-4)

@@ -1,0 +1,49 @@
+-- What a session's user has and sees, and what a path selects there (document 01, "View", "Paths", "Changes").
+use Prim.Native.Nat.{ℕ}
+use mathlib.Core.Bool.{Bool, true, false}
+use mathlib.Core.List.{List, map}
+use lib.Dec.{eqb}
+use Rattle.rights.specs.Automaton.{bit}
+use Rattle.rights.specs.Path.{Path}
+use Rattle.rights.specs.PathReader.{Got, got, bad}
+use Rattle.rights.specs.Nodes.{Nodes}
+use Rattle.rights.specs.Isa.{passesOwn}
+use Rattle.rights.specs.Policy.{policyWord}
+use Rattle.rights.specs.Rights.{rightsOn}
+use Rattle.rights.specs.Selection.{selection}
+use Rattle.rights.specs.Table.{records}
+use Rattle.views.specs.Shown.{Stored, stored, view, shown}
+use Rattle.views.specs.Marks.{marksOf}
+use Rattle.views.specs.Done.{doneMarks, inTable}
+use Rattle.views.specs.declared.done.Change.{Change}
+use Rattle.lines.specs.State.{userByte, userOf, policyIn}
+
+-- there is no user yet
+abbrev pub noUser : List ℕ → Bool
+noUser s = eqb (userByte s) 0
+
+-- the user's rights on each node of the stored tree, the stored nodes with them, and the view
+abbrev pub rightsIn : List ℕ → List ℕ → List ℕ
+rightsIn s t = rightsOn (policyIn s) (userOf s) (records t)
+
+abbrev pub storedIn : List ℕ → List ℕ → List Stored
+storedIn s t = stored t (rightsIn s t)
+
+abbrev pub viewIn : List ℕ → List ℕ → Nodes
+viewIn s t = view (storedIn s t)
+
+-- the path is not well formed
+abbrev pub notPath : Got Path → Bool
+notPath (got p e) = false
+notPath bad = true
+
+-- "Paths of E run on the view": the marks of what a path selects there, `$` being the login name
+abbrev pub marksIn : List ℕ → List ℕ → List ℕ → List ℕ
+marksIn s t path = selection path (passesOwn (policyIn s) (userOf s)) (viewIn s t)
+
+-- The records that a path selects, a mark for each record, and those of them that a change does: "All selections and rights are taken before anything changes."
+abbrev pub selectedIn : List ℕ → List ℕ → List ℕ → List Bool
+selectedIn s t path = inTable (shown (storedIn s t)) (marksOf (marksIn s t path))
+
+abbrev pub doneIn : Change → List ℕ → List ℕ → List ℕ → List ℕ
+doneIn c s t path = map bit (doneMarks c (policyWord (policyIn s)) t (rightsIn s t) (selectedIn s t path))
