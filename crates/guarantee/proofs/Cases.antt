@@ -1,8 +1,9 @@
 -- The starred cases of document 01, computed on the bytes of state, table and lines (specs/Cases.antt). Assumes nothing.
 use Prim.Native.Nat.{ℕ}
 use mathlib.Core.Path.{_≡_, refl, _∙_}
-use mathlib.Core.Bool.{true, not}
+use mathlib.Core.Bool.{true}
 use mathlib.Core.List.{List, [], _∷_, map}
+use lib.ListN.{drop}
 use Rattle.guarantee.specs.Alike.{Input, outcome}
 use Rattle.guarantee.specs.Cases.{bytes, replies, newState, newTable, input, Case, Answered, Starred}
 use Rattle.guarantee.specs.Cases.{exampleAnswered, exampleRenamed, bracketHolds, bracketCounts, noRules, rootRemoved, lessonRemoved, levels, fewRecords}
@@ -32,17 +33,22 @@ use Rattle.forms.specs.Tree.{openEnd, tailEnd, treeEnd, tailNodes, treeNodes, r
 use Rattle.forms.specs.Form.{onePart, partsOf, endsIn, readForm, treeIn}
 use Rattle.lines.specs.PolicyEdit.{subjectFrom, subjectNamed, isaHeld, hasBracket, stepList, stepsIn, pathRestricted, stepRecords, withLine}
 use Rattle.forms.specs.Text.{lineByte, lineOk}
-use Rattle.lines.specs.State.{sessionOk, storeOk}
-use Rattle.lines.specs.Step.{Reply, Outcome, refuse, stepView, stepQuery, stepUser, stepSubject, stepIsa, stepRule}
-use Rattle.lines.specs.StepTree.{treeRestricted, stepRoot, stepChild, stepRename, stepInsert, stepRemove}
-use Rattle.store.specs.Line.{stepForm, stepRead}
-use Rattle.guarantee.proofs.LineLaws.{step-passed}
-use Rattle.guarantee.proofs.StoreKept.{store-kept}
+use Rattle.lines.specs.State.{sessionOk, stateOk, storeOk}
+use Rattle.lines.specs.Effect.{guarded, performed}
+use Rattle.lines.specs.Outcome.{Reply, Outcome}
+use Rattle.lines.specs.Refusal.{checked}
+use Rattle.lines.specs.Work.{rootAlone, treeRestricted}
+use Rattle.store.specs.Line.{workOf, lineChecks, step}
+use Rattle.guarantee.proofs.SessionKept.{store-kept}
 
 -- A line from a store that passes: `step` without 13.
 unfoldable passed : Choice → List ℕ → List ℕ → Input → Outcome
 passed choice s t i =
-    refuse (not (lineOk (i .line))) 1 s t (stepRead choice (readForm (i .line)) s t (i .room) (i .line) (recordsOf (treeIn (i .line))))
+    performed (guarded (drop 1 (lineChecks s t (i .line) (readForm (i .line)))) (workOf choice (readForm (i .line)) s t (i .line) (recordsOf (treeIn (i .line))))) (i .room) s t
+
+step-passed : (choice : Choice) (s t : List ℕ) (i : Input) → storeOk s t ≡ true → outcome choice s t i ≡ passed choice s t i
+unfolding step performed checked passed
+step-passed choice s t i ok = rw ok
 
 unfoldable passedReplies : Choice → List ℕ → List ℕ → List Input → List Reply
 passedReplies choice s t [] = []
@@ -53,21 +59,21 @@ carried : (choice : Choice) (s t : List ℕ) (is : List Input) → storeOk s t �
 unfolding replies passedReplies passed
 carried choice s t [] p = refl
 carried choice s t (i ∷ is) p =
-    let e : outcome choice s t i ≡ passed choice s t i = step-passed choice s t (i .line) (i .room) p in
+    let e : outcome choice s t i ≡ passed choice s t i = step-passed choice s t i p in
     rw (carried choice (outcome choice s t i .state) (outcome choice s t i .table) is (store-kept choice s t (i .line) (i .room) p), e)
 
 -- a new store passes
 new-passes : storeOk newState (newTable 1024) ≡ true
-unfolding all recordsFrom recordsOk tableOk every subjectsOk isasOk rulesOk policyOk sessionOk storeOk
+unfolding all recordsFrom recordsOk tableOk every subjectsOk isasOk rulesOk policyOk sessionOk stateOk storeOk
 new-passes = refl
 
 small-passes : storeOk newState (newTable 10) ≡ true
-unfolding all recordsFrom recordsOk tableOk every subjectsOk isasOk rulesOk policyOk sessionOk storeOk
+unfolding all recordsFrom recordsOk tableOk every subjectsOk isasOk rulesOk policyOk sessionOk stateOk storeOk
 small-passes = refl
 
 -- what the lines of a row give from a new store, where 13 is not computed
 unfoldable given : Choice → Case → List Reply
-unfolding bytes passedReplies passed digitByte run all labelByte folded sameLabel passes readTest numberOf isPosition readPosition closes readBrackets readSteps brackets steps pathOf decimal writeTest some passesOwn policyWord testOf namesFrom isaFrom stepsFrom rulesFrom policyOf recordOf isBy findsIn decide rightsBy chains levelAt labelAt someFrom before above finds keeps selects selected marksOf recordsFrom storedFrom atParent nearestFirst shownAfter keep eachFrom dropBelow putBehind remove insertBehind rename chunks raise join changed deepest tooDeep inTable hitsOf hitLines childLines viewText sameText among wordAt signAt rightAt pathByte labelEnd pathEnd signEnd rightEnd openEnd tailEnd treeEnd tailNodes treeNodes recordsOf onePart partsOf endsIn readForm treeIn subjectFrom subjectNamed isaHeld hasBracket stepList stepsIn pathRestricted stepRecords withLine lineByte lineOk stepView stepQuery stepUser stepSubject stepIsa stepRule treeRestricted stepRoot stepChild stepRename stepInsert stepRemove stepForm stepRead padded standsFor subjectsWhere
+unfolding bytes passedReplies passed digitByte run all labelByte sameLabel passes readTest numberOf isPosition readPosition closes readBrackets readSteps brackets steps pathOf decimal writeTest some passesOwn policyWord testOf namesFrom isaFrom stepsFrom rulesFrom policyOf recordOf isBy findsIn decide rightsBy chains levelAt labelAt someFrom before above finds keeps selects selected marksOf recordsFrom storedFrom atParent nearestFirst shownAfter keep eachFrom dropBelow putBehind remove insertBehind rename chunks raise join changed deepest tooDeep inTable hitsOf hitLines childLines viewText sameText among wordAt signAt rightAt pathByte labelEnd pathEnd signEnd rightEnd openEnd tailEnd treeEnd tailNodes treeNodes recordsOf onePart partsOf endsIn readForm treeIn subjectFrom subjectNamed isaHeld hasBracket stepList stepsIn pathRestricted stepRecords withLine lineByte lineOk checked performed rootAlone treeRestricted folded padded standsFor subjectsWhere
 given choice c = passedReplies choice newState (newTable (c .capacity)) (map input (c .turns))
 
 abbrev Gives : Choice → Case → Type 0

@@ -1,11 +1,11 @@
 -- Demand 3, its first sentence (document 01, "What demand 3 compares"; specs/Alike.antt): two stores that look the same to a reader give the same answers to every
 -- list of lines, and look the same after each. Assumes nothing.
-use Prim.Native.Nat.{ℕ, _-_, _≤_, _<_}
+use Prim.Native.Nat.{ℕ, _≤_, _<_}
 use mathlib.Core.Path.{_≡_, refl, ap, sym, _∙_, subst}
 use mathlib.Core.Bool.{Bool, true}
 use mathlib.Core.List.{List, [], _∷_}
 use mathlib.Core.Logic.{inl, inr}
-use borrow.Author.Tests.{le-leb}
+use borrow.Author.Tests.{le-leb, le-ltb}
 use lib.ListN.{length}
 use Rattle.rights.specs.Policy.{Policy, policyWord}
 use Rattle.rights.specs.PolicyBytes.{policyOf}
@@ -16,18 +16,21 @@ use Rattle.answers.specs.Answer.{okText}
 use Rattle.answers.specs.AnswerChoice.{Choice}
 use Rattle.lines.specs.PolicyEdit.{subjectNamed}
 use Rattle.lines.specs.State.{stageC, stageE, stage, policyIn, storeOk}
-use Rattle.lines.specs.Step.{says, refuses, stepUser}
-use Rattle.store.specs.Line.{inStage, bytesOf, stepForm, stepRead, step}
+use Rattle.lines.specs.Effect.{performed}
+use Rattle.lines.specs.Outcome.{says, refuses}
+use Rattle.lines.specs.Refusal.{tableFull, checked}
+use Rattle.store.specs.Line.{inStage, bytesOf, step}
 use Rattle.lines.specs.declared.policy_edit.Found.the-variants as found
 use Rattle.rights.proofs.LabelLaws.{same-self as label-self}
 use Rattle.lines.proofs.StateLaws.{store-held}
-use Rattle.guarantee.specs.Alike.{SamePolicy, shownTo, look, Behind, Alike, UserIs, Input, outcome, LogsIn, Begins, AnswersAlike}
+use Rattle.guarantee.specs.Alike.{SamePolicy, shownTo, Behind, Alike, UserIs, Input, outcome, LogsIn, Begins, AnswersAlike}
 use Rattle.guarantee.proofs.SamePolicy.{same-named, same-rights-on}
-use Rattle.guarantee.proofs.SessionKept.{policy-kept, rooted-kept, accepted-taken, logged-in, user-is-kept, user-is-logged}
-use Rattle.guarantee.proofs.StoreKept.{store-kept}
+use Rattle.guarantee.proofs.SessionKept.{store-kept, policy-kept, rooted-kept, logged-in, user-is-kept, user-is-logged}
+use Rattle.guarantee.proofs.Accepted.{accepted}
 use Rattle.guarantee.proofs.LowTable.{lowOf, low-of-alike, alike-of-low}
-use Rattle.guarantee.proofs.LineLow.{table-nested}
-use Rattle.guarantee.proofs.LineAlike.{Tied, user-declared, same-self, match-step}
+use Rattle.guarantee.proofs.TableAfter.{table-nested}
+use Rattle.guarantee.proofs.LineAlike.{Tied, user-declared, same-self}
+use Rattle.guarantee.proofs.StepAlike.{match-step}
 
 store-nested : (s t : List ℕ) → storeOk s t ≡ true → Nested level 0 (records t)
 store-nested s t e = table-nested t (store-held s t e .table)
@@ -110,7 +113,7 @@ module _ (choice : Choice) (u : ℕ) (s t s' t' : List ℕ) (a : Alike u s t s' 
     pub user' : UserIs u (outcome choice s' t' i .state)
 
   user-line : UserIs u s → UserIs u s' → ((v : ℕ) → LogsIn v s (i .line) (outcome choice s t i) → v ≡ u)
-      → (outcome choice s t i .reply ≡ refuses 11 → ⊥) → (outcome choice s' t' i .reply ≡ refuses 11 → ⊥) → Goes
+      → (outcome choice s t i .reply ≡ refuses tableFull → ⊥) → (outcome choice s' t' i .reply ≡ refuses tableFull → ⊥) → Goes
   user-line w w' other full full' =
       let d = user-declared u s t (a .passes) w in
       let tied : Tied u s t s' t' = record { passes = a .passes; passes' = a .passes'; user = w; user' = w'; policy = a .policy; low = alike-low u s t s' t' d a } in
@@ -127,13 +130,14 @@ module _ (choice : Choice) (u : ℕ) (s t s' t' : List ℕ) (a : Alike u s t s' 
   login-stage g h k = rw (le-leb g 4 k, le-leb 2 g h)
 
   login-answer : (l : LogsIn u s (i .line) (outcome choice s t i)) → outcome choice s' t' i .reply ≡ says okText
-  unfolding step stepRead stepForm stepUser
+  unfolding step performed checked
   login-answer l =
-      let x = accepted-taken choice s t (i .line) (i .room) okText (l .accepted) in
+      let x = accepted choice s t (i .line) (i .room) okText (l .accepted) in
       let g = login-stage (stage s') (a .rooted') (store-held s' t' (a .passes') .stages) in
       let q : subjectNamed (policyIn s') (bytesOf (i .line) (l .name)) ≡ found.Subject u =
       sym (same-named (policyIn s) (policyIn s') (a .policy) (bytesOf (i .line) (l .name))) ∙ l .subject in
-      rw (a .passes', x .1 .bytes, l .form, g, q, le-leb (length okText) (i .room) (x .0))
+      let fits : length okText ≤ i .room = rw (l .form) at (x .fits) in
+      rw (a .passes', x .bytes, l .form, g, q, le-ltb (i .room) (length okText) fits)
 
   login-line : LogsIn u s (i .line) (outcome choice s t i) → Goes
   login-line l =
@@ -165,6 +169,6 @@ answers-alike choice u s t s' t' a (i ∷ is) b = λ other full full'.
     (g .reply, g .alike, (g .user, g .user'), answers-alike choice u _ _ _ _ (g .alike) is (inl (g .user, g .user')))
   where
     by : Begins choice u s t s' t' (i ∷ is) → ((v : ℕ) → LogsIn v s (i .line) (outcome choice s t i) → v ≡ u)
-        → (outcome choice s t i .reply ≡ refuses 11 → ⊥) → (outcome choice s' t' i .reply ≡ refuses 11 → ⊥) → Goes choice u s t s' t' a i
+        → (outcome choice s t i .reply ≡ refuses tableFull → ⊥) → (outcome choice s' t' i .reply ≡ refuses tableFull → ⊥) → Goes choice u s t s' t' a i
     by (inl w) other full full' = user-line choice u s t s' t' a i (w .0) (w .1) other full full'
     by (inr l) other full full' = login-line choice u s t s' t' a i l

@@ -1,7 +1,6 @@
 -- Which node is which: every node but those that a removal takes stays the same node, in order; inserted nodes are new; and the nodes that are followed are those of
 -- the table. Assumes nothing.
 use Prim.Native.Nat.{ℕ, zero, suc, _≤_, _<_}
-use mathlib.Core.Bool.{true}
 use mathlib.Core.Logic.{_⊎_, inl, inr}
 use mathlib.Core.Path.{_≡_, refl, sym, ap, _∙_}
 use mathlib.Core.List.{List, [], _∷_, map, Sublistᴰ, Sublistᴰ·slnil, Sublistᴰ·cons, Sublistᴰ·cons-cons, Sublistᴰ·refl, Sublistᴰ·trans, Sublistᴰ·nil-sublist}
@@ -19,18 +18,22 @@ use Rattle.views.proofs.Mapped.{map-remove, map-insertBehind, map-insertInFront
 use Rattle.views.proofs.NodeLaws.{remove-only}
 use Rattle.answers.specs.AnswerChoice.{Choice}
 use Rattle.forms.specs.Form.{readForm, treeIn}
-use Rattle.lines.specs.Step.{Reply, says, refuses}
-use Rattle.lines.specs.StepTree.{rootAlone, doneIn}
 use Rattle.forms.specs.Tree.{recordsOf}
-use Rattle.store.specs.Line.{stageOf, inStage, bytesOf}
+use Rattle.lines.specs.Effect.{Effect, policy, root, insertion, renaming, removal, login, reading}
+use Rattle.lines.specs.Outcome.{Reply, says, refuses}
+use Rattle.lines.specs.UserView.{doneIn}
+use Rattle.store.specs.Line.{bytesOf, workOf}
 use Rattle.lines.specs.State.{stageC, stage}
 use Rattle.forms.specs.declared.form.Part.{Part}
 use Rattle.forms.specs.declared.form.Form.{Form}
-use Rattle.forms.specs.declared.form.Form.the-variants.{Subject, Isa, Rule, Root, Child, User, View, Query, Find, Rename, Update, Append, Before, After, Remove, NoForm}
+use Rattle.forms.specs.declared.form.Form.the-variants.{Remove}
 use Rattle.guarantee.specs.Alike.{Input, outcome}
-use Rattle.guarantee.specs.Identity.{Tagged, taggedLevel, new, newTree, afterInsert, afterRename, afterRemove, afterForm, afterReply, follow, followAll, tableAfter, Follows, numbered, tagAt, NodesKept, NodesRemoved, NoneBack, OrderKept}
-use Rattle.guarantee.proofs.Accepted.{Refused, Accepted, line-cases}
-use Rattle.guarantee.proofs.SessionKept.{before-root}
+use Rattle.guarantee.specs.Identity.{Tagged, taggedLevel, new, newTree, afterInsert, afterRename, afterRemove, afterEffect, afterReply, effectOf, follow, followAll, tableAfterAll, Follows, numbered, tagAt, NodesKept, NodesRemoved, NoneBack, OrderKept}
+use Rattle.lines.proofs.StateLaws.{store-held}
+use Rattle.rights.specs.Record.{nodeRecord}
+use Rattle.guarantee.proofs.CheckLaws.{Refused}
+use Rattle.guarantee.proofs.Sound.{Sound}
+use Rattle.guarantee.proofs.Accepted.{Accepted, line-cases}
 use Rattle.guarantee.proofs.TableAfter.{recordsAfter, table-after}
 
 -- The records of the nodes that are followed
@@ -57,36 +60,15 @@ records-insert place.Before m tree ms ns =
     map-insertInFront taggedLevel level (λ n. n .0) (λ n. refl) (λ n. newTree m tree (taggedLevel n)) (λ r. raise (level r) (chunks m tree))
     (λ n. records-new (raise (taggedLevel n) (chunks m tree))) (marksOf ms) ns
 
-module _ (s t line t' : List ℕ) (ns : List Tagged) (e : map (λ n. n .0) ns ≡ records t) where
-  abbrev tree : List ℕ
-  tree = recordsOf (treeIn line)
-
-  inserted : (at : Place) (m : ℕ) (ms : List ℕ) → records t' ≡ placed at m tree ms (records t) → map (λ n. n .0) (afterInsert at m tree ms ns) ≡ records t'
-  inserted at m ms h = records-insert at m tree ms ns ∙ ap (placed at m tree ms) e ∙ sym h
-
-  relabelled : (l ms : List ℕ) → records t' ≡ renamed l ms (records t) → map (λ n. n .0) (afterRename l ms ns) ≡ records t'
-  relabelled l ms h = records-rename l ms ns ∙ ap (renamed l ms) e ∙ sym h
-
-  -- the nodes after an accepted line are the records of the new table
-  follows-form : (f : Form) → records t' ≡ recordsAfter f s t line → map (λ n. n .0) (afterForm f s t t' line ns) ≡ records t'
-  follows-form (Subject n) h = e ∙ sym h
-  follows-form (Isa n r) h = e ∙ sym h
-  follows-form (Rule a b p n) h = e ∙ sym h
-  follows-form (Root l) h = records-new (records t')
-  follows-form (Child m) h = inserted place.Append m rootAlone h
-  follows-form (User n) h = e ∙ sym h
-  follows-form View h = e ∙ sym h
-  follows-form (Query p) h = e ∙ sym h
-  follows-form (Find p) h = e ∙ sym h
-  follows-form (Rename p l) h = relabelled (bytesOf line l) (doneIn change.Rename s t (bytesOf line p)) h
-  follows-form (Update p l) h = relabelled (bytesOf line l) (doneIn change.Update s t (bytesOf line p)) h
-  follows-form (Append p m) h = inserted place.Append m (doneIn change.Append s t (bytesOf line p)) h
-  follows-form (Before p m) h = inserted place.Before m (doneIn change.Before s t (bytesOf line p)) h
-  follows-form (After p m) h = inserted place.After m (doneIn change.After s t (bytesOf line p)) h
-  follows-form (Remove p) h =
-      let ms : List ℕ = doneIn change.Remove s t (bytesOf line p) in
-      records-remove ms ns ∙ ap (removed ms) e ∙ sym h
-  follows-form NoForm h = e ∙ sym h
+-- the nodes after an effect are the records after it
+records-after : (e : Effect) (ns : List Tagged) → map (λ n. n .0) (afterEffect e ns) ≡ recordsAfter e (map (λ n. n .0) ns)
+records-after (policy p g) ns = refl
+records-after (root l) ns = refl
+records-after (insertion at ms m tree g) ns = records-insert at m tree ms ns
+records-after (renaming l ms) ns = records-rename l ms ns
+records-after (removal ms) ns = records-remove ms ns
+records-after (login u) ns = refl
+records-after reading ns = refl
 
 -- one line
 module _ (choice : Choice) (s t : List ℕ) (i : Input) (ns : List Tagged) (e : map (λ n. n .0) ns ≡ records t) where
@@ -95,15 +77,16 @@ module _ (choice : Choice) (s t : List ℕ) (i : Input) (ns : List Tagged) (e : 
   follows-line = go (line-cases choice s t (i .line) (i .room))
     where
       go : Refused s t (outcome choice s t i) ⊎ Accepted choice s t (i .line) (i .room)
-          → map (λ n. n .0) (afterReply (outcome choice s t i .reply) (readForm (i .line)) s t (outcome choice s t i .table) (i .line) ns) ≡ records (outcome choice s t i .table)
+          → map (λ n. n .0) (afterReply (outcome choice s t i .reply) (effectOf choice s t (i .line)) ns) ≡ records (outcome choice s t i .table)
       go (inl x) = rw (x .is) e
       go (inr x) =
-          rw (x .reply) (follows-form s t (i .line) (outcome choice s t i .table) ns e (readForm (i .line))
-          (table-after choice s t (i .line) (x .text) (outcome choice s t i .state) (outcome choice s t i .table) (x .taken) .held))
+          rw (x .is)
+          (records-after (effectOf choice s t (i .line)) ns ∙ ap (recordsAfter (effectOf choice s t (i .line))) e
+          ∙ sym (table-after (readForm (i .line)) (i .line) s t (store-held s t (x .passes) .table) (effectOf choice s t (i .line)) (x .sound) .held))
 
 -- any lines
 pub follows : Follows
-unfolding followAll tableAfter
+unfolding followAll tableAfterAll
 follows choice s t [] ns e = e
 follows choice s t (i ∷ is) ns e =
     follows choice (outcome choice s t i .state) (outcome choice s t i .table) is (follow choice s t i ns) (follows-line choice s t i ns e)
@@ -133,31 +116,22 @@ tags-relabel l ms ns = tags-rename taggedLevel tagOf (λ n. (relabel l (n .0), n
 same : {a b : List ℕ} → a ≡ b → Sublistᴰ a b
 same {b = b} e = rw e (Sublistᴰ·refl b)
 
-tags-form : (f : Form) (s t t' line : List ℕ) (ns : List Tagged) → Sublistᴰ (tags tagOf (afterForm f s t t' line ns)) (tags tagOf ns)
-tags-form (Subject n) s t t' line ns = Sublistᴰ·refl _
-tags-form (Isa n r) s t t' line ns = Sublistᴰ·refl _
-tags-form (Rule a b p n) s t t' line ns = Sublistᴰ·refl _
-tags-form (Root l) s t t' line ns = rw (none-new (records t')) (Sublistᴰ·nil-sublist _)
-tags-form (Child m) s t t' line ns = same (tags-insert place.Append m (recordsOf (treeIn line)) rootAlone ns)
-tags-form (User n) s t t' line ns = Sublistᴰ·refl _
-tags-form View s t t' line ns = Sublistᴰ·refl _
-tags-form (Query p) s t t' line ns = Sublistᴰ·refl _
-tags-form (Find p) s t t' line ns = Sublistᴰ·refl _
-tags-form (Rename p l) s t t' line ns = same (tags-relabel (bytesOf line l) (doneIn change.Rename s t (bytesOf line p)) ns)
-tags-form (Update p l) s t t' line ns = same (tags-relabel (bytesOf line l) (doneIn change.Update s t (bytesOf line p)) ns)
-tags-form (Append p m) s t t' line ns = same (tags-insert place.Append m (recordsOf (treeIn line)) (doneIn change.Append s t (bytesOf line p)) ns)
-tags-form (Before p m) s t t' line ns = same (tags-insert place.Before m (recordsOf (treeIn line)) (doneIn change.Before s t (bytesOf line p)) ns)
-tags-form (After p m) s t t' line ns = same (tags-insert place.After m (recordsOf (treeIn line)) (doneIn change.After s t (bytesOf line p)) ns)
-tags-form (Remove p) s t t' line ns = tags-remove taggedLevel tagOf (marksOf (doneIn change.Remove s t (bytesOf line p))) ns
-tags-form NoForm s t t' line ns = Sublistᴰ·refl _
+tags-effect : (e : Effect) (ns : List Tagged) → Sublistᴰ (tags tagOf (afterEffect e ns)) (tags tagOf ns)
+tags-effect (policy p g) ns = Sublistᴰ·refl _
+tags-effect (root l) ns = rw (none-new (nodeRecord 0 l ∷ [])) (Sublistᴰ·nil-sublist _)
+tags-effect (insertion at ms m tree g) ns = same (tags-insert at m tree ms ns)
+tags-effect (renaming l ms) ns = same (tags-relabel l ms ns)
+tags-effect (removal ms) ns = tags-remove taggedLevel tagOf (marksOf ms) ns
+tags-effect (login u) ns = Sublistᴰ·refl _
+tags-effect reading ns = Sublistᴰ·refl _
 
-tags-reply : (r : Reply) (f : Form) (s t t' line : List ℕ) (ns : List Tagged) → Sublistᴰ (tags tagOf (afterReply r f s t t' line ns)) (tags tagOf ns)
-tags-reply (says b) f s t t' line ns = tags-form f s t t' line ns
-tags-reply (refuses n) f s t t' line ns = Sublistᴰ·refl _
+tags-reply : (r : Reply) (e : Effect) (ns : List Tagged) → Sublistᴰ (tags tagOf (afterReply r e ns)) (tags tagOf ns)
+tags-reply (says b) e ns = tags-effect e ns
+tags-reply (refuses n) e ns = Sublistᴰ·refl _
 
 pub tags-follow : (choice : Choice) (s t : List ℕ) (i : Input) (ns : List Tagged) → Sublistᴰ (tags tagOf (follow choice s t i ns)) (tags tagOf ns)
 unfolding follow
-tags-follow choice s t i ns = tags-reply (outcome choice s t i .reply) (readForm (i .line)) s t (outcome choice s t i .table) (i .line) ns
+tags-follow choice s t i ns = tags-reply (outcome choice s t i .reply) (effectOf choice s t (i .line)) ns
 
 -- after any lines, whatever the store: the kept nodes are some of those at first, in order
 pub none-back : NoneBack
@@ -167,37 +141,31 @@ none-back choice s t (i ∷ is) ns =
     Sublistᴰ·trans (none-back choice (outcome choice s t i .state) (outcome choice s t i .table) is (follow choice s t i ns)) (tags-follow choice s t i ns)
 
 -- "A change keeps every node that it does not remove"
-tags-same : (f : Form) (s t t' line : List ℕ) (ns : List Tagged) → inStage (stageOf f) (stage s) ≡ true → stageC ≤ stage s → ((p : Part) → f ≡ Remove p → ⊥)
-    → tags tagOf (afterForm f s t t' line ns) ≡ tags tagOf ns
-tags-same (Subject n) s t t' line ns i h k = refl
-tags-same (Isa n r) s t t' line ns i h k = refl
-tags-same (Rule a b p n) s t t' line ns i h k = refl
-tags-same (Root l) s t t' line ns i h k = absurd (omega (arith, before-root (stage s) i))
-tags-same (Child m) s t t' line ns i h k = tags-insert place.Append m (recordsOf (treeIn line)) rootAlone ns
-tags-same (User n) s t t' line ns i h k = refl
-tags-same View s t t' line ns i h k = refl
-tags-same (Query p) s t t' line ns i h k = refl
-tags-same (Find p) s t t' line ns i h k = refl
-tags-same (Rename p l) s t t' line ns i h k = tags-relabel (bytesOf line l) (doneIn change.Rename s t (bytesOf line p)) ns
-tags-same (Update p l) s t t' line ns i h k = tags-relabel (bytesOf line l) (doneIn change.Update s t (bytesOf line p)) ns
-tags-same (Append p m) s t t' line ns i h k = tags-insert place.Append m (recordsOf (treeIn line)) (doneIn change.Append s t (bytesOf line p)) ns
-tags-same (Before p m) s t t' line ns i h k = tags-insert place.Before m (recordsOf (treeIn line)) (doneIn change.Before s t (bytesOf line p)) ns
-tags-same (After p m) s t t' line ns i h k = tags-insert place.After m (recordsOf (treeIn line)) (doneIn change.After s t (bytesOf line p)) ns
-tags-same (Remove p) s t t' line ns i h k = absurd (k p refl)
-tags-same NoForm s t t' line ns i h k = refl
+tags-same : (f : Form) (line s t : List ℕ) → stageC ≤ stage s → ((p : Part) → f ≡ Remove p → ⊥) → (e : Effect) → Sound f line s t e → (ns : List Tagged)
+    → tags tagOf (afterEffect e ns) ≡ tags tagOf ns
+tags-same f line s t h k (policy p g) x ns = refl
+tags-same f line s t h k (root l) x ns = absurd (omega (arith, x .early))
+tags-same f line s t h k (insertion at ms m tree g) x ns = tags-insert at m tree ms ns
+tags-same f line s t h k (renaming l ms) x ns = tags-relabel l ms ns
+tags-same f line s t h k (removal ms) x ns = absurd (k (x .path) (x .form))
+tags-same f line s t h k (login u) x ns = refl
+tags-same f line s t h k reading x ns = refl
 
 pub nodes-kept : NodesKept
 unfolding follow
 nodes-kept choice s t h i ns k = go (line-cases choice s t (i .line) (i .room))
   where
     go : Refused s t (outcome choice s t i) ⊎ Accepted choice s t (i .line) (i .room)
-        → tags tagOf (afterReply (outcome choice s t i .reply) (readForm (i .line)) s t (outcome choice s t i .table) (i .line) ns) ≡ tags tagOf ns
+        → tags tagOf (afterReply (outcome choice s t i .reply) (effectOf choice s t (i .line)) ns) ≡ tags tagOf ns
     go (inl x) = rw (x .is)
-    go (inr x) = rw (x .reply) (tags-same (readForm (i .line)) s t (outcome choice s t i .table) (i .line) ns (x .taken .in-stage) h k)
+    go (inr x) = rw (x .is) (tags-same (readForm (i .line)) (i .line) s t h k (effectOf choice s t (i .line)) (x .sound) ns)
 
 pub nodes-removed : NodesRemoved
 unfolding follow
-nodes-removed choice s t i ns p text e q = rw (q, e) (remove-only taggedLevel (marksOf (doneIn change.Remove s t (bytesOf (i .line) p))) ns)
+nodes-removed choice s t i ns p text e q =
+    rw q
+    (ap (λ (f : Form). afterEffect (workOf choice f s t (i .line) (recordsOf (treeIn (i .line))) .effect) ns) e
+    ∙ remove-only taggedLevel (marksOf (doneIn change.Remove s t (bytesOf (i .line) p))) ns)
 
 -- Numbers as tags
 

@@ -1,85 +1,36 @@
--- One line on two stores with the same user, the same policy and the same low projection: the same reply, and the same low projection afterwards, unless one of the
--- two is refused for want of free records. Assumes nothing.
-use Prim.Native.Nat.{ℕ, zero, suc, _+_, _-_, _<_}
-use mathlib.Core.Path.{_≡_, refl, ap, ap₂, sym, _∙_, subst}
-use mathlib.Core.Bool.{Bool, true, false, cond, not, _||_, false≢true, true≢false}
-use mathlib.Core.List.{List}
+-- One line on two stores with the same user, the same policy and the same low projection: where the checks fail alike, the answers are the same and the effects mark
+-- the same shown nodes, there is the same reply, and the same low projection afterwards, unless one of the two is refused for want of free records. Assumes nothing.
+use Prim.Native.Nat.{ℕ, _<_}
+use mathlib.Core.Path.{_≡_, refl, ap, sym, _∙_, subst}
+use mathlib.Core.Bool.{Bool, true, false, false≢true, true≢false}
+use mathlib.Core.List.{List, [], _∷_, _++_}
+use mathlib.Core.Logic.{_⊎_, inl, inr}
 use native.Mathlib.Omega.{arith}
-use lib.Dec.{leb, eqb}
+use lib.Dec.{eqb}
 use lib.ListN.{length}
-use Rattle.rights.specs.Labels.{sameLabel, restricted}
-use Rattle.rights.specs.PathReader.{pathOf}
 use Rattle.rights.specs.Policy.{Policy, policyWord}
-use Rattle.rights.specs.PolicyBytes.{policyOf, subjectCount, namesFrom}
-use Rattle.rights.specs.Table.{records, tableOk}
-use Rattle.views.specs.Change.{chunks, lower, deepest, tooDeep, hasRoom}
+use Rattle.rights.specs.PolicyBytes.{policyOf, subjectCount}
+use Rattle.rights.specs.Table.{records, label, tableOk}
+use Rattle.views.specs.Change.{tooDeep}
 use Rattle.views.specs.Marks.{marksOf}
-use Rattle.views.specs.Nodes.{TreeOk, LabelOk}
+use Rattle.views.specs.Pass.{AtDone}
 use Rattle.views.specs.declared.done.Change.{Change}
-use Rattle.views.specs.declared.done.Change.the-variants as change
 use Rattle.views.specs.declared.insert.Place.{Place}
-use Rattle.views.specs.declared.insert.Place.the-variants as place
-use Rattle.answers.specs.Answer.{okText, viewText, queryText, hitsOf}
-use Rattle.answers.specs.AnswerChoice.{Choice, findText}
-use Rattle.forms.specs.TreeText.{GoodLabel}
-use Rattle.forms.specs.Form.{readForm, treeIn}
-use Rattle.lines.specs.PolicyEdit.{subjectNamed}
-use Rattle.lines.specs.State.{stageE, stage, userByte, withSession, policyBytes, policyIn, storeOk}
-use Rattle.lines.specs.Step.{says, refuses, Outcome, refusal, refuse, finish, noUser, viewIn, marksIn, notPath, loggedIn, stepView, stepQuery, stepFind, stepUser}
-use Rattle.lines.specs.StepTree.{treeRestricted, inserting, doneIn, countText, changeAt, stepRename, stepInsert, stepRemove}
-use Rattle.forms.specs.Text.{lineOk}
-use Rattle.forms.specs.Tree.{recordsOf}
-use Rattle.store.specs.Line.{stageOf, inStage, isNoForm, bytesOf, stepForm, stepRead, step}
 use Rattle.forms.specs.declared.form.Form.{Form}
-use Rattle.forms.specs.declared.form.Form.the-variants.{Subject, Isa, Rule, Root, Child, User, View, Query, Find, Rename, Update, Append, Before, After, Remove, NoForm}
-use Rattle.lines.specs.declared.policy_edit.Found.{Found}
-use Rattle.lines.specs.declared.policy_edit.Found.the-variants as found
+use Rattle.lines.specs.State.{policyBytes, policyIn, storeOk}
+use Rattle.lines.specs.Effect.{Effect, insertion, renaming, removal, login, reading, tableAfter, Work}
+use Rattle.lines.specs.Outcome.{refuses, Outcome}
+use Rattle.lines.specs.Refusal.{tableFull, Check, checked, Passed}
+use Rattle.lines.specs.UserView.{noUser, viewIn, marksIn, doneIn}
+use Rattle.lines.specs.Work.{countText}
+use Rattle.lines.proofs.EditTests.{names-length}
 use Rattle.lines.proofs.StateLaws.{store-held}
 use Rattle.guarantee.specs.Alike.{SamePolicy, UserIs}
-use Rattle.guarantee.proofs.SamePolicy.{same-named, same-word}
-use Rattle.guarantee.proofs.FormParts.{PartsGood, parts-good}
-use Rattle.guarantee.proofs.TreeRecords.{tree-ok}
-use Rattle.guarantee.proofs.LineLaws.{user-stage}
-use Rattle.guarantee.proofs.LowTable.{lowOf, nodesOf}
-use Rattle.guarantee.proofs.LineLow.{selectLow, deepLow, Frees, rename-frees, update-frees, doneBy, countLow, removeLow, renameLow}
-use Rattle.guarantee.proofs.LineLow.{placeLow, view-in, marks-in, text-in, deep-in, removed-low, renamed-low, placed-low}
-
--- What is compared of two outcomes
-
-module _ (P : Policy) (u : ℕ) where
-  pub record Agrees (o o' : Outcome) : Type 0 where
-    pub reply : o .reply ≡ o' .reply
-    pub low : lowOf P u (records (o .table)) ≡ lowOf P u (records (o' .table))
-
-  -- they agree, unless one is a refusal with 11
-  abbrev pub Match : Outcome → Outcome → Type 0
-  Match o o' = (o .reply ≡ refuses 11 → ⊥) → (o' .reply ≡ refuses 11 → ⊥) → Agrees o o'
-
-  module _ (s t s' t' : List ℕ) (start : lowOf P u (records t) ≡ lowOf P u (records t')) where
-    refused-both : (n : ℕ) → Match (refusal n s t) (refusal n s' t')
-    refused-both n a b = record { reply = refl; low = start }
-
-    refuse-both : (b b' : Bool) (n : ℕ) (o o' : Outcome) → b ≡ b' → (b ≡ false → b' ≡ false → Match o o') → Match (refuse b n s t o) (refuse b' n s' t' o')
-    refuse-both true true n o o' e k = refused-both n
-    refuse-both true false n o o' e k = absurd (true≢false e)
-    refuse-both false true n o o' e k = absurd (false≢true e)
-    refuse-both false false n o o' e k = k refl refl
-
-    room-both : (b b' : Bool) (o o' : Outcome) → (b ≡ false → b' ≡ false → Match o o') → Match (refuse b 11 s t o) (refuse b' 11 s' t' o')
-    room-both true b' o o' k = λ x y. absurd (x refl)
-    room-both false true o o' k = λ x y. absurd (y refl)
-    room-both false false o o' k = k refl refl
-
-    finish-both : (room : ℕ) (text text' s1 t1 s2 t2 : List ℕ) → text ≡ text' → lowOf P u (records t1) ≡ lowOf P u (records t2)
-        → Match (finish room text s1 t1 s t) (finish room text' s2 t2 s' t')
-    finish-both room text text' s1 t1 s2 t2 e l = go (leb (length text) room) (leb (length text') room) (ap (λ x. leb (length x) room) e)
-      where
-        go : (b b' : Bool) → b ≡ b'
-            → Match (cond b (record { reply = says text; state = s1; table = t1 }) (refusal 12 s t)) (cond b' (record { reply = says text'; state = s2; table = t2 }) (refusal 12 s' t'))
-        go true true q = λ x y. record { reply = ap says e; low = l }
-        go true false q = absurd (true≢false q)
-        go false true q = absurd (false≢true q)
-        go false false q = refused-both 12
+use Rattle.guarantee.proofs.SamePolicy.{same-word}
+use Rattle.guarantee.proofs.Sound.{Sound}
+use Rattle.guarantee.proofs.TableAfter.{recordsAfter, table-after}
+use Rattle.guarantee.proofs.LowTable.{PublicRecord, lowOf, nodesOf, doneLow}
+use Rattle.guarantee.proofs.LineLow.{selectLow, deepLow, doneBy, countLow, Marked, removeLow, renameLow, placeLow, view-in, marks-in, done-in, text-in, deep-in, removed-low, renamed-low, placed-low}
 
 -- Two stores of the same user, with the same policy and the same low projection
 pub record Tied (u : ℕ) (s t s' t' : List ℕ) : Type 0 where
@@ -89,11 +40,6 @@ pub record Tied (u : ℕ) (s t s' t' : List ℕ) : Type 0 where
   pub user' : UserIs u s'
   pub policy : SamePolicy (policyIn s) (policyIn s')
   pub low : lowOf (policyIn s) u (records t) ≡ lowOf (policyIn s) u (records t')
-
-names-length : (p : List ℕ) (n i : ℕ) → length (namesFrom p n i) ≡ n
-unfolding namesFrom
-names-length p zero i = refl
-names-length p (suc n) i = ap suc (names-length p n (suc i))
 
 -- a session's user is a declared subject
 pub user-declared : (u : ℕ) (s t : List ℕ) → storeOk s t ≡ true → UserIs u s → u < length (policyIn s .names)
@@ -106,23 +52,77 @@ user-declared u s t e q =
 pub same-self : (P : Policy) → SamePolicy P P
 same-self P = record { names = refl; isa = λ n r. refl; rules = refl }
 
-label-ok : (l : List ℕ) → GoodLabel l → sameLabel l restricted ≡ false → LabelOk l
-label-ok l g e = record { some = g .0; short = g .1; bytes = g .2; free = e }
+-- Checks that fail alike, but for 11
 
-neither : (a b : Bool) → a || b ≡ false → (a ≡ false) × (b ≡ false)
-neither true b e = absurd (true≢false e)
-neither false b e = (refl, e)
+abbrev pub CheckAlike : Check → Check → Type 0
+CheckAlike c c' = (c .number ≡ c' .number) × ((c .fails ≡ c' .fails) ⊎ (c .number ≡ tableFull))
 
-has : (b : Bool) → not b ≡ false → b ≡ true
-has true e = refl
-has false e = absurd (true≢false e)
+unfoldable pub ChecksAlike : List Check → List Check → Type 0
+ChecksAlike [] [] = Unit {0}
+ChecksAlike [] (c' ∷ cs') = ⊥
+ChecksAlike (c ∷ cs) [] = ⊥
+ChecksAlike (c ∷ cs) (c' ∷ cs') = CheckAlike c c' × ChecksAlike cs cs'
 
-module _ (choice : Choice) (u : ℕ) (s t s' t' : List ℕ) (h : Tied u s t s' t') (room : ℕ) where
+pub alike-both : (cs cs' ds ds' : List Check) → ChecksAlike cs cs' → ChecksAlike ds ds' → ChecksAlike (cs ++ ds) (cs' ++ ds')
+unfolding ChecksAlike
+alike-both [] [] ds ds' a b = b
+alike-both [] (c' ∷ cs') ds ds' a b = absurd a
+alike-both (c ∷ cs) [] ds ds' a b = absurd a
+alike-both (c ∷ cs) (c' ∷ cs') ds ds' a b = (a .0, alike-both cs cs' ds ds' (a .1) b)
+
+-- Effects that differ in their marks alone, and mark the same shown nodes
+
+pub record SameMarks (P : Policy) (u : ℕ) (t t' ms ms' : List ℕ) : Type 0 where
+  pub shown : List PublicRecord → List Bool
+  pub here : Marked P u shown ms t
+  pub there : Marked P u shown ms' t'
+
+pub data EffectAlike (P : Policy) (u : ℕ) (t t' : List ℕ) : Effect → Effect → Type 0 where
+  readings : EffectAlike P u t t' reading reading
+  logins : (v : ℕ) → EffectAlike P u t t' (login v) (login v)
+  insertions : (at : Place) (m : ℕ) (tree : List ℕ) (g g' : ℕ) (ms ms' : List ℕ) → SameMarks P u t t' ms ms'
+      → EffectAlike P u t t' (insertion at ms m tree g) (insertion at ms' m tree g')
+  renamings : (l ms ms' : List ℕ) → SameMarks P u t t' ms ms' → EffectAlike P u t t' (renaming l ms) (renaming l ms')
+  removals : (ms ms' : List ℕ) → SameMarks P u t t' ms ms' → EffectAlike P u t t' (removal ms) (removal ms')
+
+pub record WorkAlike (P : Policy) (u : ℕ) (t t' : List ℕ) (w w' : Work) : Type 0 where
+  pub checks : ChecksAlike (w .checks) (w' .checks)
+  pub text : w .text ≡ w' .text
+  pub effect : EffectAlike P u t t' (w .effect) (w' .effect)
+
+-- What is compared of two outcomes
+
+pub record Agrees (P : Policy) (u : ℕ) (o o' : Outcome) : Type 0 where
+  pub reply : o .reply ≡ o' .reply
+  pub low : lowOf P u (records (o .table)) ≡ lowOf P u (records (o' .table))
+
+-- they agree, unless one is a refusal with 11
+abbrev pub Match : Policy → ℕ → Outcome → Outcome → Type 0
+Match P u o o' = (o .reply ≡ refuses tableFull → ⊥) → (o' .reply ≡ refuses tableFull → ⊥) → Agrees P u o o'
+
+module _ (P : Policy) (u : ℕ) (s t s' t' : List ℕ) (start : lowOf P u (records t) ≡ lowOf P u (records t')) where
+  -- checks that fail alike refuse alike
+  pub match-checked : (cs cs' : List Check) (o o' : Outcome) → ChecksAlike cs cs' → (Passed cs → Passed cs' → Match P u o o')
+      → Match P u (checked cs s t o) (checked cs' s' t' o')
+  unfolding checked ChecksAlike
+  match-checked [] [] o o' a k = k tt tt
+  match-checked [] (c' ∷ cs') o o' a k = absurd a
+  match-checked (c ∷ cs) [] o o' a k = absurd a
+  match-checked (c ∷ cs) (c' ∷ cs') o o' a k = go (c .fails) (c' .fails) refl refl (a .0 .1) (λ e e'. match-checked cs cs' o o' (a .1) (λ p p'. k (e, p) (e', p')))
+    where
+      go : (b b' : Bool) → c .fails ≡ b → c' .fails ≡ b' → (c .fails ≡ c' .fails) ⊎ (c .number ≡ tableFull)
+          → (c .fails ≡ false → c' .fails ≡ false → Match P u (checked cs s t o) (checked cs' s' t' o')) → Match P u (checked (c ∷ cs) s t o) (checked (c' ∷ cs') s' t' o')
+      go true true e e' q r = rw (e, e') (λ x y. record { reply = ap refuses (a .0 .0); low = start })
+      go false false e e' q r = rw (e, e') (r e e')
+      go true false e e' (inl q) r = absurd (true≢false (sym e ∙ q ∙ e'))
+      go false true e e' (inl q) r = absurd (false≢true (sym e ∙ q ∙ e'))
+      go true false e e' (inr q) r = rw e (λ x y. absurd (x (ap refuses q)))
+      go false true e e' (inr q) r = rw e' (λ x y. absurd (y (ap refuses (sym (a .0 .0) ∙ q))))
+
+-- what both stores give a line
+module _ (u : ℕ) (s t s' t' : List ℕ) (h : Tied u s t s' t') where
   abbrev P : Policy
   P = policyIn s
-
-  abbrev Matches : Outcome → Outcome → Type 0
-  Matches o o' = Match P u o o'
 
   ok : tableOk t ≡ true
   ok = store-held s t (h .passes) .table
@@ -133,145 +133,59 @@ module _ (choice : Choice) (u : ℕ) (s t s' t' : List ℕ) (h : Tied u s t s' t
   declared : u < length (P .names)
   declared = user-declared u s t (h .passes) (h .user)
 
-  view-both : viewIn s t ≡ viewIn s' t'
+  pub user-both : noUser s ≡ noUser s'
+  user-both = ap (λ v. eqb v 0) (h .user ∙ sym (h .user'))
+
+  pub view-both : viewIn s t ≡ viewIn s' t'
   view-both = view-in P u declared s t (same-self P) ok (h .user) ∙ ap nodesOf (h .low) ∙ sym (view-in P u declared s' t' (h .policy) ok' (h .user'))
 
-  marks-both : (path : List ℕ) → marksIn s t path ≡ marksIn s' t' path
+  pub marks-both : (path : List ℕ) → marksIn s t path ≡ marksIn s' t' path
   marks-both path =
       marks-in P u declared s t (same-self P) ok (h .user) path
       ∙ ap (λ ps. selectLow P u path ps) (h .low)
       ∙ sym (marks-in P u declared s' t' (h .policy) ok' (h .user') path)
 
-  text-both : (c : Change) (path : List ℕ) → countText c s t path ≡ countText c s' t' path
+  pub text-both : (c : Change) (path : List ℕ) → countText c s t path ≡ countText c s' t' path
   text-both c path =
       text-in P u declared s t (same-self P) ok (h .user) c path
       ∙ ap (λ ps. countLow P u c path ps) (h .low)
       ∙ sym (text-in P u declared s' t' (h .policy) ok' (h .user') c path)
 
-  deep-both : (k : ℕ) (c : Change) (path : List ℕ) → tooDeep k (marksOf (doneIn c s t path)) (records t) ≡ tooDeep k (marksOf (doneIn c s' t' path)) (records t')
+  pub deep-both : (k : ℕ) (c : Change) (path : List ℕ) → tooDeep k (marksOf (doneIn c s t path)) (records t) ≡ tooDeep k (marksOf (doneIn c s' t' path)) (records t')
   deep-both k c path =
       deep-in P u declared s t (same-self P) ok (h .user) k c path
       ∙ ap (λ ps. deepLow k (doneBy P u c path ps) ps) (h .low)
       ∙ sym (deep-in P u declared s' t' (h .policy) ok' (h .user') k c path)
 
-  user-both : noUser s ≡ noUser s'
-  user-both = ap (λ v. eqb v 0) (h .user ∙ sym (h .user'))
+  pub done-both : (c : Change) (path : List ℕ) → SameMarks P u t t' (doneIn c s t path) (doneIn c s' t' path)
+  done-both c path = record {
+    shown = doneLow P u c (marksOf (selectLow P u path (lowOf P u (records t))));
+    here = done-in P u declared s t (same-self P) ok (h .user) c path;
+    there =
+        subst (λ ps. Marked P u (doneLow P u c (marksOf (selectLow P u path ps))) (doneIn c s' t' path) t') (sym (h .low))
+        (done-in P u declared s' t' (h .policy) ok' (h .user') c path);
+  }
 
-  -- refused with n on the same condition in both
-  refuse-same : (b : Bool) (n : ℕ) (o o' : Outcome) → (b ≡ false → Matches o o') → Matches (refuse b n s t o) (refuse b n s' t' o')
-  refuse-same b n o o' k = refuse-both P u s t s' t' (h .low) b b n o o' refl (λ e q. k e)
-
-  unless-user : (o o' : Outcome) → Matches o o' → Matches (refuse (noUser s) 8 s t o) (refuse (noUser s') 8 s' t' o')
-  unless-user o o' k = refuse-both P u s t s' t' (h .low) (noUser s) (noUser s') 8 o o' user-both (λ e q. k)
-
-  match-user : (name : List ℕ) → Matches (stepUser s t room name) (stepUser s' t' room name)
-  unfolding stepUser
-  match-user name =
-      subst (λ f. Matches (loggedIn (subjectNamed (policyIn s) name) s t room) (loggedIn f s' t' room)) (same-named (policyIn s) (policyIn s') (h .policy) name)
-      (go (subjectNamed (policyIn s) name))
+  -- Effects alike leave the same low projection.
+  pub low-effect : (f : Form) (line : List ℕ) (e e' : Effect) → EffectAlike P u t t' e e' → Sound f line s t e → Sound f line s' t' e'
+      → lowOf P u (records (tableAfter e t)) ≡ lowOf P u (records (tableAfter e' t'))
+  low-effect f line e e' a x x' =
+      ap (lowOf P u) (table-after f line s t ok e x .held) ∙ by a x x' ∙ sym (ap (lowOf P u) (table-after f line s' t' ok' e' x' .held))
     where
-      go : (f : Found) → Matches (loggedIn f s t room) (loggedIn f s' t' room)
-      go (found.Subject v) = finish-both P u s t s' t' (h .low) room okText okText (withSession stageE (v + 1) s) t (withSession stageE (v + 1) s') t' refl (h .low)
-      go found.Unknown = refused-both P u s t s' t' (h .low) 5
-
-  match-view : Matches (stepView s t room) (stepView s' t' room)
-  unfolding stepView
-  match-view = unless-user _ _ (finish-both P u s t s' t' (h .low) room _ _ s t s' t' (ap viewText view-both) (h .low))
-
-  match-query : (path : List ℕ) → Matches (stepQuery s t room path) (stepQuery s' t' room path)
-  unfolding stepQuery
-  match-query path =
-      refuse-same (notPath (pathOf path)) 4 _ _ λ a.
-      unless-user _ _
-      (finish-both P u s t s' t' (h .low) room _ _ s t s' t' (ap₂ (λ m v. queryText (hitsOf m v)) (marks-both path) view-both) (h .low))
-
-  match-find : (path : List ℕ) → Matches (stepFind choice s t room path) (stepFind choice s' t' room path)
-  unfolding stepFind
-  match-find path =
-      refuse-same (notPath (pathOf path)) 4 _ _ λ a.
-      unless-user _ _
-      (finish-both P u s t s' t' (h .low) room _ _ s t s' t' (ap₂ (λ m v. findText (choice m v)) (marks-both path) view-both) (h .low))
-
-  match-rename : (c : Change) (path l : List ℕ) → Frees c → GoodLabel l → Matches (stepRename c s t room path l) (stepRename c s' t' room path l)
-  unfolding stepRename
-  match-rename c path l f g =
-      refuse-same (notPath (pathOf path)) 4 _ _ λ a.
-      unless-user _ _
-      (refuse-both P u s t s' t' (h .low) (sameLabel l restricted || policyWord (policyIn s) l) (sameLabel l restricted || policyWord (policyIn s') l) 9 _ _
-      (ap (λ w. sameLabel l restricted || w l) (same-word (policyIn s) (policyIn s') (h .policy)))
-      λ e q.
-      let n = neither (sameLabel l restricted) (policyWord (policyIn s) l) e in
-      let k = label-ok l g (n .0) in
-      finish-both P u s t s' t' (h .low) room _ _ s _ s' _ (text-both c path)
-      (renamed-low P u declared s t (same-self P) ok (h .user) c path l f k (n .1)
-      ∙ ap (λ ps. renameLow P u c path l ps) (h .low)
-      ∙ sym (renamed-low P u declared s' t' (h .policy) ok' (h .user') c path l f k (n .1))))
-
-  match-remove : (path : List ℕ) → Matches (stepRemove s t room path) (stepRemove s' t' room path)
-  unfolding stepRemove
-  match-remove path =
-      refuse-same (notPath (pathOf path)) 4 _ _ λ a.
-      unless-user _ _
-      (finish-both P u s t s' t' (h .low) room _ _ s _ s' _ (text-both change.Remove path)
-      (removed-low P u declared s t (same-self P) ok (h .user) path
-      ∙ ap (λ ps. removeLow P u path ps) (h .low)
-      ∙ sym (removed-low P u declared s' t' (h .policy) ok' (h .user') path)))
-
-  -- the places are not too deep, and there is room in both
-  abbrev insertingIn : Place → List ℕ → ℕ → List ℕ → List ℕ → List ℕ → Outcome
-  insertingIn at path m tree s t = inserting at (doneIn (changeAt at) s t path) m tree (countText (changeAt at) s t path) s s t room
-
-  match-inserting : (at : Place) (path : List ℕ) (m : ℕ) (tree : List ℕ) → TreeOk (chunks m tree) → Matches (insertingIn at path m tree s t) (insertingIn at path m tree s' t')
-  match-inserting at path m tree good =
-      refuse-both P u s t s' t' (h .low) (tooDeep (lower at + deepest (chunks m tree)) (marksOf (doneIn (changeAt at) s t path)) (records t))
-      (tooDeep (lower at + deepest (chunks m tree)) (marksOf (doneIn (changeAt at) s' t' path)) (records t')) 10 _ _
-      (deep-both (lower at + deepest (chunks m tree)) (changeAt at) path)
-      λ d d'.
-      room-both P u s t s' t' (h .low) (not (hasRoom t (doneIn (changeAt at) s t path) m)) (not (hasRoom t' (doneIn (changeAt at) s' t' path) m)) _ _
-      λ r r'.
-      finish-both P u s t s' t' (h .low) room _ _ s _ s' _ (text-both (changeAt at) path)
-      (placed-low P u declared s t (same-self P) ok (h .user) at path m tree good d (has _ r)
-      ∙ ap (λ ps. placeLow P u at path m tree ps) (h .low)
-      ∙ sym (placed-low P u declared s' t' (h .policy) ok' (h .user') at path m tree good d' (has _ r')))
-
-  match-insert : (at : Place) (path : List ℕ) (m : ℕ) (tree : List ℕ) → (treeRestricted m tree ≡ false → TreeOk (chunks m tree))
-      → Matches (stepInsert at s t room path m tree) (stepInsert at s' t' room path m tree)
-  unfolding stepInsert
-  match-insert at path m tree good =
-      refuse-same (notPath (pathOf path)) 4 _ _ λ a.
-      unless-user _ _ (refuse-same (treeRestricted m tree) 9 (insertingIn at path m tree s t) (insertingIn at path m tree s' t') λ f. match-inserting at path m tree (good f))
-
-  match-form : (line : List ℕ) (f : Form) → inStage (stageOf f) 4 ≡ true → PartsGood f line
-      → Matches (stepForm choice f s t room line (recordsOf (treeIn line))) (stepForm choice f s' t' room line (recordsOf (treeIn line)))
-  unfolding stepForm
-  match-form line (Subject n) i g = absurd (false≢true i)
-  match-form line (Isa n r) i g = absurd (false≢true i)
-  match-form line (Rule a b p n) i g = absurd (false≢true i)
-  match-form line (Root l) i g = absurd (false≢true i)
-  match-form line (Child m) i g = absurd (false≢true i)
-  match-form line (User n) i g = match-user (bytesOf line n)
-  match-form line View i g = match-view
-  match-form line (Query p) i g = match-query (bytesOf line p)
-  match-form line (Find p) i g = match-find (bytesOf line p)
-  match-form line (Rename p l) i g = match-rename change.Rename (bytesOf line p) (bytesOf line l) rename-frees g
-  match-form line (Update p l) i g = match-rename change.Update (bytesOf line p) (bytesOf line l) update-frees g
-  match-form line (Append p m) i g = match-insert place.Append (bytesOf line p) m (recordsOf (treeIn line)) (tree-ok line m g)
-  match-form line (Before p m) i g = match-insert place.Before (bytesOf line p) m (recordsOf (treeIn line)) (tree-ok line m g)
-  match-form line (After p m) i g = match-insert place.After (bytesOf line p) m (recordsOf (treeIn line)) (tree-ok line m g)
-  match-form line (Remove p) i g = match-remove (bytesOf line p)
-  match-form line NoForm i g = refused-both P u s t s' t' (h .low) 2
-
-  -- One line: accepted in both with the same answer or refused in both with the same number, and the low projections stay equal, unless one is refused with 11.
-  pub match-step : (line : List ℕ) → Matches (step choice s t line room) (step choice s' t' line room)
-  unfolding step stepRead
-  match-step line =
-      let f : Form = readForm line in
-      let g = user-stage s t (h .passes) u (h .user) in
-      let g' = user-stage s' t' (h .passes') u (h .user') in
-      refuse-both P u s t s' t' (h .low) (not (storeOk s t)) (not (storeOk s' t')) 13 _ _ (ap not (h .passes ∙ sym (h .passes')))
-      λ a a'.
-      refuse-same (not (lineOk line)) 1 _ _ λ b.
-      refuse-same (isNoForm f) 2 _ _ λ d.
-      refuse-both P u s t s' t' (h .low) (not (inStage (stageOf f) (stage s))) (not (inStage (stageOf f) (stage s'))) 3 _ _ (ap (λ k. not (inStage (stageOf f) k)) (g ∙ sym g'))
-      λ e e'.
-      match-form line f (sym (ap (λ k. inStage (stageOf f) k) g) ∙ has _ e) (parts-good line d)
+      by : {e e' : Effect} → EffectAlike P u t t' e e' → Sound f line s t e → Sound f line s' t' e'
+          → lowOf P u (recordsAfter e (records t)) ≡ lowOf P u (recordsAfter e' (records t'))
+      by readings x x' = h .low
+      by (logins v) x x' = h .low
+      by (insertions at m tree g g' ms ms' w) x x' =
+          placed-low P u t ok (w .shown) ms (w .here) at m tree (x .good .nested)
+          ∙ ap (placeLow P u at m tree (w .shown)) (h .low)
+          ∙ sym (placed-low P u t' ok' (w .shown) ms' (w .there) at m tree (x' .good .nested))
+      by (renamings l ms ms' w) x x' =
+          let q : policyWord P ≡ policyWord (policyIn s') = same-word P (policyIn s') (h .policy) in
+          renamed-low P u t ok (w .shown) ms (w .here) l (x .no-word) (x .no-words)
+          ∙ ap (renameLow P u l (w .shown)) (h .low)
+          ∙ sym (renamed-low P u t' ok' (w .shown) ms' (w .there) l (x .no-word) (subst (λ word. AtDone (λ r. word (label r) ≡ false) (marksOf ms') (records t')) (sym q) (x' .no-words)))
+      by (removals ms ms' w) x x' =
+          removed-low P u t ok (w .shown) ms (w .here)
+          ∙ ap (removeLow P u (w .shown)) (h .low)
+          ∙ sym (removed-low P u t' ok' (w .shown) ms' (w .there))

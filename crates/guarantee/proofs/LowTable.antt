@@ -37,7 +37,7 @@ map-map : {A B C : Type 0} (f : B → C) (g : A → B) (xs : List A) → map f (
 map-map f g [] = refl
 map-map f g (x ∷ xs) = ap (λ r. f (g x) ∷ r) (map-map f g xs)
 
-map-take : {A B : Type 0} (f : A → B) (n : ℕ) (xs : List A) → map f (take n xs) ≡ take n (map f xs)
+pub map-take : {A B : Type 0} (f : A → B) (n : ℕ) (xs : List A) → map f (take n xs) ≡ take n (map f xs)
 map-take f zero xs = refl
 map-take f (suc n) [] = refl
 map-take f (suc n) (x ∷ xs) = ap (λ r. f x ∷ r) (map-take f n xs)
@@ -150,7 +150,7 @@ module _ (P : Policy) (u : ℕ) where
   abbrev pub doneLow : Change → List Bool → List PublicRecord → List Bool
   doneLow c ms ps = doneSeen publicLevel (publicGrant grantBy) publicSet publicWord c ms ps
 
-  chain-keys : (c : List (List ℕ)) (r : List ℕ) → map (keyOf P) (take (level r) c ++ (label r ∷ [])) ≡ chain level keyIn (map (keyOf P) c) r
+  pub chain-keys : (c : List (List ℕ)) (r : List ℕ) → map (keyOf P) (take (level r) c ++ (label r ∷ [])) ≡ chain level keyIn (map (keyOf P) c) r
   unfolding chain
   chain-keys c r = map-snoc (keyOf P) (take (level r) c) (label r) ∙ ap (λ l. l ++ (keyIn r ∷ [])) (map-take (keyOf P) (level r) c)
 

@@ -7,75 +7,42 @@ use mathlib.Core.List.{List, [], _∷_, map, Sublistᴰ, Sublistᴰ·refl, Subli
 use mathlib.Core.Option.{none, some}
 use native.Mathlib.Omega.{arith}
 use lib.ListN.{length, getD, length-map}
-use Rattle.rights.specs.Labels.{sameLabel, restricted}
-use Rattle.rights.specs.Policy.{Policy, policyWord}
+use Rattle.rights.specs.Policy.{Policy}
 use Rattle.rights.specs.PolicyBytes.{policyOf}
 use Rattle.rights.specs.Rights.{rightsBy, chains, rightsOn}
-use Rattle.rights.specs.Table.{records, level}
-use Rattle.views.specs.Nodes.{All, Nested, tags}
-use Rattle.views.specs.declared.done.Change.{Change}
-use Rattle.views.specs.declared.done.Change.the-variants as change
-use Rattle.views.specs.declared.insert.Place.{Place}
-use Rattle.views.specs.declared.insert.Place.the-variants as place
+use Rattle.rights.specs.Table.{records, tableOk}
+use Rattle.views.specs.Nodes.{All, tags}
 use Rattle.answers.specs.AnswerChoice.{Choice}
-use Rattle.forms.specs.Form.{readForm, treeIn}
-use Rattle.lines.specs.State.{stageC, stage, policyIn, storeOk}
-use Rattle.lines.specs.StepTree.{rootAlone, doneIn}
-use Rattle.forms.specs.Tree.{recordsOf}
-use Rattle.store.specs.Line.{stageOf, inStage, bytesOf}
+use Rattle.forms.specs.Form.{readForm}
+use Rattle.lines.specs.State.{stageC, stage, policyIn}
 use Rattle.forms.specs.declared.form.Form.{Form}
-use Rattle.forms.specs.declared.form.Form.the-variants.{Subject, Isa, Rule, Root, Child, User, View, Query, Find, Rename, Update, Append, Before, After, Remove, NoForm}
 use Rattle.lines.proofs.StateLaws.{store-held}
-use Rattle.lines.proofs.StoredSteps.{or-none}
 use Rattle.guarantee.specs.Alike.{Input, outcome}
-use Rattle.guarantee.specs.Identity.{Tagged, afterInsert, afterRename, afterForm, afterReply, follow, followAll, kept, beside, keptRights, stateAfter, RightsKept, numbered, tagAt, SameRights}
-use Rattle.guarantee.proofs.Accepted.{RenameTaken, Inserted, Taken, Refused, Accepted, line-cases}
-use Rattle.guarantee.proofs.SessionKept.{before-root, policy-kept, rooted-kept}
-use Rattle.guarantee.proofs.FormParts.{TreeSaid, PartsGood, parts-good}
-use Rattle.guarantee.proofs.TreeRecords.{tree-ok}
+use Rattle.guarantee.specs.Identity.{Tagged, afterEffect, afterReply, effectOf, follow, followAll, kept, beside, keptRights, stateAfterAll, RightsKept, numbered, tagAt, SameRights}
+use Rattle.lines.specs.Effect.{Effect, policy, root, insertion, renaming, removal, login, reading}
+use Rattle.guarantee.proofs.CheckLaws.{Refused}
+use Rattle.guarantee.proofs.Sound.{Sound}
+use Rattle.guarantee.proofs.Accepted.{Accepted, line-cases}
+use Rattle.guarantee.proofs.SessionKept.{policy-kept, rooted-kept}
 use Rattle.guarantee.proofs.Identity.{all-part, follows-line, follows}
-use Rattle.guarantee.proofs.KeptNodes.{Renames, rename-renames, update-renames, done-free, nodes-nested, kept-remove, kept-insert, kept-rename}
+use Rattle.guarantee.proofs.KeptNodes.{nodes-nested, nodes-free, kept-remove, kept-insert, kept-rename}
 
 same : {a b : List (ℕ × ℕ)} → a ≡ b → Sublistᴰ a b
 same {b = b} e = rw e (Sublistᴰ·refl b)
 
--- the rights on the kept nodes after an accepted line, the root line taken before
-module _ (choice : Choice) (s t line text s' t' : List ℕ) (ok : storeOk s t ≡ true) (rooted : stageC ≤ stage s) (ns : List Tagged) (e : map (λ n. n .0) ns ≡ records t)
-    (u : ℕ) (d : u < length (policyIn s .names)) where
-  abbrev Part : List Tagged → Type 0
-  Part ns' = Sublistᴰ (keptRights (policyIn s) u ns') (keptRights (policyIn s) u ns)
-
-  nested : Nested (λ (n : Tagged). level (n .0)) 0 ns
-  nested = nodes-nested t ns (store-held s t ok .table) e
-
-  inserted-part : (at : Place) (m : ℕ) (ms : List ℕ) → TreeSaid line m → Inserted at ms m (recordsOf (treeIn line)) t t'
-      → Part (afterInsert at m (recordsOf (treeIn line)) ms ns)
-  inserted-part at m ms w x = same (kept-insert (policyIn s) u d at m (recordsOf (treeIn line)) ms ns (tree-ok line m w (x .free) .nested) nested)
-
-  renamed-part : (c : Change) → Renames c → (path l : List ℕ) → RenameTaken c s t path l text s' t' → Part (afterRename l (doneIn c s t path) ns)
-  renamed-part c r path l x =
-      same (kept-rename (policyIn s) u d l (doneIn c s t path) ns
-      (or-none (sameLabel l restricted) (policyWord (policyIn s) l) (x .free) .1)
-      (done-free c r s t path ns e))
-
-  rights-form : (f : Form) → inStage (stageOf f) (stage s) ≡ true → PartsGood f line → Taken choice f s t line (recordsOf (treeIn line)) text s' t'
-      → Part (afterForm f s t t' line ns)
-  rights-form (Subject n) i w x = Sublistᴰ·refl _
-  rights-form (Isa n r) i w x = Sublistᴰ·refl _
-  rights-form (Rule a b p n) i w x = Sublistᴰ·refl _
-  rights-form (Root l) i w x = absurd (omega (arith, before-root (stage s) i))
-  rights-form (Child m) i w x = inserted-part place.Append m rootAlone w (x .inserted)
-  rights-form (User n) i w x = Sublistᴰ·refl _
-  rights-form View i w x = Sublistᴰ·refl _
-  rights-form (Query p) i w x = Sublistᴰ·refl _
-  rights-form (Find p) i w x = Sublistᴰ·refl _
-  rights-form (Rename p l) i w x = renamed-part change.Rename rename-renames (bytesOf line p) (bytesOf line l) x
-  rights-form (Update p l) i w x = renamed-part change.Update update-renames (bytesOf line p) (bytesOf line l) x
-  rights-form (Append p m) i w x = inserted-part place.Append m (doneIn change.Append s t (bytesOf line p)) w (x .inserted)
-  rights-form (Before p m) i w x = inserted-part place.Before m (doneIn change.Before s t (bytesOf line p)) w (x .inserted)
-  rights-form (After p m) i w x = inserted-part place.After m (doneIn change.After s t (bytesOf line p)) w (x .inserted)
-  rights-form (Remove p) i w x = kept-remove (policyIn s) u d (doneIn change.Remove s t (bytesOf line p)) ns nested
-  rights-form NoForm i w x = Sublistᴰ·refl _
+-- the rights on the kept nodes after an effect, the root line taken before
+rights-effect : (f : Form) (line s t : List ℕ) → tableOk t ≡ true → stageC ≤ stage s → (ns : List Tagged) → map (λ n. n .0) ns ≡ records t
+    → (u : ℕ) → u < length (policyIn s .names) → (e : Effect) → Sound f line s t e
+    → Sublistᴰ (keptRights (policyIn s) u (afterEffect e ns)) (keptRights (policyIn s) u ns)
+rights-effect f line s t ok rooted ns q u d (policy p g) x = Sublistᴰ·refl _
+rights-effect f line s t ok rooted ns q u d (root l) x = absurd (omega (arith, x .early))
+rights-effect f line s t ok rooted ns q u d (insertion at ms m tree g) x =
+    same (kept-insert (policyIn s) u d at m tree ms ns (x .good .nested) (nodes-nested t ns ok q))
+rights-effect f line s t ok rooted ns q u d (renaming l ms) x =
+    same (kept-rename (policyIn s) u d l ms ns (x .no-word) (nodes-free (policyIn s) t ms ns q (x .no-words)))
+rights-effect f line s t ok rooted ns q u d (removal ms) x = kept-remove (policyIn s) u d ms ns (nodes-nested t ns ok q)
+rights-effect f line s t ok rooted ns q u d (login v) x = Sublistᴰ·refl _
+rights-effect f line s t ok rooted ns q u d reading x = Sublistᴰ·refl _
 
 -- With numbers as tags
 
@@ -118,16 +85,16 @@ module _ (choice : Choice) (s t : List ℕ) (i : Input) (ns : List Tagged) (e : 
   rights-line rooted u d = go (line-cases choice s t (i .line) (i .room))
     where
       go : Refused s t (outcome choice s t i) ⊎ Accepted choice s t (i .line) (i .room)
-          → Sublistᴰ (keptRights (policyIn s) u (afterReply (outcome choice s t i .reply) (readForm (i .line)) s t (outcome choice s t i .table) (i .line) ns)) (keptRights (policyIn s) u ns)
+          → Sublistᴰ (keptRights (policyIn s) u (afterReply (outcome choice s t i .reply) (effectOf choice s t (i .line)) ns)) (keptRights (policyIn s) u ns)
       go (inl x) = rw (x .is) (Sublistᴰ·refl _)
       go (inr x) =
-          rw (x .reply) (rights-form choice s t (i .line) (x .text) (outcome choice s t i .state) (outcome choice s t i .table) (x .taken .passes) rooted ns e u d
-          (readForm (i .line)) (x .taken .in-stage) (parts-good (i .line) (x .taken .form)) (x .taken .taken))
+          rw (x .is)
+          (rights-effect (readForm (i .line)) (i .line) s t (store-held s t (x .passes) .table) rooted ns e u d (effectOf choice s t (i .line)) (x .sound))
 
 -- Any lines
 
 pub rights-kept : RightsKept
-unfolding followAll stateAfter
+unfolding followAll stateAfterAll
 rights-kept choice s t rooted [] ns e u d = Sublistᴰ·refl _
 rights-kept choice s t rooted (i ∷ is) ns e u d =
     let s' : List ℕ = outcome choice s t i .state in
@@ -142,7 +109,7 @@ pub same-rights : SameRights
 same-rights choice s t rooted is u d k i w =
     let ns : List Tagged = numbered 0 (records t) in
     let ns' : List Tagged = followAll choice s t is ns in
-    let P' : Policy = policyIn (stateAfter choice s t is) in
+    let P' : Policy = policyIn (stateAfterAll choice s t is) in
     let sets : List ℕ = rightsOn (policyIn s) u (records t) in
     let n : map (λ x. x .0) ns ≡ records t = records-numbered 0 (records t) in
     let z : (j : ℕ) → getD sets j 0 ≡ getD sets (0 + j) 0 = λ j. let y : 0 + j ≡ j = omega arith in rw y in

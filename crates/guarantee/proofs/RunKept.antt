@@ -6,23 +6,22 @@ use mathlib.Core.List.{List, [], _∷_}
 use Rattle.answers.specs.AnswerChoice.{Choice}
 use Rattle.lines.specs.State.{stageC, stage, policyBytes, storeOk}
 use Rattle.guarantee.specs.Alike.{Input, outcome}
-use Rattle.guarantee.specs.Identity.{stateAfter, tableAfter}
-use Rattle.guarantee.proofs.SessionKept.{policy-kept, rooted-kept}
-use Rattle.guarantee.proofs.StoreKept.{store-kept}
+use Rattle.guarantee.specs.Identity.{stateAfterAll, tableAfterAll}
+use Rattle.guarantee.proofs.SessionKept.{store-kept, policy-kept, rooted-kept}
 
 module _ (choice : Choice) where
-  pub run-passes : (s t : List ℕ) (is : List Input) → storeOk s t ≡ true → storeOk (stateAfter choice s t is) (tableAfter choice s t is) ≡ true
-  unfolding stateAfter tableAfter
+  pub run-passes : (s t : List ℕ) (is : List Input) → storeOk s t ≡ true → storeOk (stateAfterAll choice s t is) (tableAfterAll choice s t is) ≡ true
+  unfolding stateAfterAll tableAfterAll
   run-passes s t [] ok = ok
   run-passes s t (i ∷ is) ok = run-passes (outcome choice s t i .state) (outcome choice s t i .table) is (store-kept choice s t (i .line) (i .room) ok)
 
-  pub run-rooted : (s t : List ℕ) (is : List Input) → stageC ≤ stage s → stageC ≤ stage (stateAfter choice s t is)
-  unfolding stateAfter
+  pub run-rooted : (s t : List ℕ) (is : List Input) → stageC ≤ stage s → stageC ≤ stage (stateAfterAll choice s t is)
+  unfolding stateAfterAll
   run-rooted s t [] h = h
   run-rooted s t (i ∷ is) h = run-rooted (outcome choice s t i .state) (outcome choice s t i .table) is (rooted-kept choice s t (i .line) (i .room) h)
 
-  pub run-policy : (s t : List ℕ) (is : List Input) → stageC ≤ stage s → policyBytes (stateAfter choice s t is) ≡ policyBytes s
-  unfolding stateAfter
+  pub run-policy : (s t : List ℕ) (is : List Input) → stageC ≤ stage s → policyBytes (stateAfterAll choice s t is) ≡ policyBytes s
+  unfolding stateAfterAll
   run-policy s t [] h = refl
   run-policy s t (i ∷ is) h =
       run-policy (outcome choice s t i .state) (outcome choice s t i .table) is (rooted-kept choice s t (i .line) (i .room) h)

@@ -13,13 +13,13 @@ use Rattle.rights.specs.Table.{level, label, recordOk}
 use Rattle.rights.proofs.RecordMade.{length-node, node-ok, level-made, label-made}
 use Rattle.views.specs.Change.{chunks}
 use Rattle.views.specs.Nodes.{All, Nested, TreeOk}
-use Rattle.lines.specs.StepTree.{treeRestricted}
+use Rattle.lines.specs.Work.{treeRestricted}
 use Rattle.rights.specs.Nodes.{Node, node}
 use Rattle.forms.specs.Tree.{held, recordsOf}
 use Rattle.forms.specs.TreeText.{Tree, tree, Trees, none, more, GoodLabel, GoodTree, GoodTrees, nodesOf, nodesIn}
 use Rattle.forms.specs.Form.{treeIn}
 use Rattle.lines.proofs.StoredSteps.{or-none}
-use Rattle.guarantee.proofs.FormParts.{TreeSaid}
+use Rattle.store.proofs.FormParts.{TreePart}
 
 abbrev nodeLevel : Node → ℕ
 nodeLevel (node l x) = l
@@ -91,14 +91,14 @@ nodes-storable (node l x ∷ ns) a e =
     (record-storable (held l) x (a .0) f, nodes-storable ns (a .1) (p .1))
 
 -- the records that a line's tree has
-said-labels : (line : List ℕ) (m : ℕ) (x : TreeSaid line m) → All Labelled (nodesOf 0 (x .is))
+said-labels : (line : List ℕ) (m : ℕ) (x : TreePart line m) → All Labelled (nodesOf 0 (x .is))
 said-labels line m x = rw (append-nil (nodesOf 0 (x .is))) at (tree-labels (x .is) 0 [] (x .good) tt)
 
-pub tree-records : (line : List ℕ) (m : ℕ) (x : TreeSaid line m) → chunks m (recordsOf (treeIn line)) ≡ nodeRecords (nodesOf 0 (x .is))
-tree-records line m x = rw (x .nodes, x .size) (chunks-nodes (nodesOf 0 (x .is)) (said-labels line m x))
+pub tree-records : (line : List ℕ) (m : ℕ) (x : TreePart line m) → chunks m (recordsOf (treeIn line)) ≡ nodeRecords (nodesOf 0 (x .is))
+tree-records line m x = rw (x .size, x .nodes) (chunks-nodes (nodesOf 0 (x .is)) (said-labels line m x))
 
 -- "9 RESTRICTED as a label of .. child, inserted tree": a line's tree that is not refused so may be inserted.
-pub tree-ok : (line : List ℕ) (m : ℕ) → TreeSaid line m → treeRestricted m (recordsOf (treeIn line)) ≡ false → TreeOk (chunks m (recordsOf (treeIn line)))
+pub tree-ok : (line : List ℕ) (m : ℕ) → TreePart line m → treeRestricted m (recordsOf (treeIn line)) ≡ false → TreeOk (chunks m (recordsOf (treeIn line)))
 unfolding treeRestricted
 tree-ok line m x e =
     let ns : List Node = nodesOf 0 (x .is) in

@@ -7,7 +7,7 @@ use mathlib.Core.List.{List, [], _∷_}
 use mathlib.Core.Logic.{_⊎_}
 use Rattle.rights.specs.Labels.{sameLabel, restricted}
 use Rattle.rights.specs.Nodes.{Nodes}
-use Rattle.rights.specs.Policy.{Policy, Rule, policyWord}
+use Rattle.rights.specs.Policy.{Policy, policyWord}
 use Rattle.rights.specs.Rights.{rightsOn}
 use Rattle.rights.specs.Table.{records, label}
 use Rattle.views.specs.Shown.{Stored, stored, shown, keep, carried, view}
@@ -16,7 +16,8 @@ use Rattle.answers.specs.AnswerChoice.{Choice}
 use Rattle.lines.specs.PolicyEdit.{isaHeld, subjectNamed}
 use Rattle.forms.specs.Form.{readForm}
 use Rattle.lines.specs.State.{stageC, stage, userByte, policyIn, storeOk}
-use Rattle.lines.specs.Step.{Reply, says, refuses, Outcome}
+use Rattle.lines.specs.Outcome.{says, refuses, Outcome}
+use Rattle.lines.specs.Refusal.{tableFull}
 use Rattle.store.specs.Line.{bytesOf, step}
 use Rattle.forms.specs.declared.form.Part.{Part}
 use Rattle.forms.specs.declared.form.Form.the-variants.{User}
@@ -95,8 +96,8 @@ abbrev pub RunAlike : Choice → ℕ → List ℕ → List ℕ → List ℕ → 
 RunAlike choice u s t s' t' [] = Unit {0}
 RunAlike choice u s t s' t' (i ∷ is) =
     ((v : ℕ) → LogsIn v s (i .line) (outcome choice s t i) → v ≡ u)
-    → (outcome choice s t i .reply ≡ refuses 11 → ⊥)
-    → (outcome choice s' t' i .reply ≡ refuses 11 → ⊥)
+    → (outcome choice s t i .reply ≡ refuses tableFull → ⊥)
+    → (outcome choice s' t' i .reply ≡ refuses tableFull → ⊥)
     → (outcome choice s t i .reply ≡ outcome choice s' t' i .reply)
     × Alike u (outcome choice s t i .state) (outcome choice s t i .table) (outcome choice s' t' i .state) (outcome choice s' t' i .table)
     × (UserIs u (outcome choice s t i .state) × UserIs u (outcome choice s' t' i .state))

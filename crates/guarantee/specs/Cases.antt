@@ -8,7 +8,7 @@ use mathlib.Core.List.{List, [], _∷_, _++_, map}
 use lib.ListN.{replicate}
 use Rattle.views.specs.Nodes.{All}
 use Rattle.answers.specs.AnswerChoice.{Choice}
-use Rattle.lines.specs.Step.{Reply, says, refuses}
+use Rattle.lines.specs.Outcome.{Reply, says, refuses}
 use Rattle.guarantee.specs.Alike.{Input, outcome}
 
 -- the bytes of a text in ASCII

@@ -19,14 +19,15 @@ use Rattle.views.specs.declared.insert.Place.the-variants as place
 use Rattle.answers.specs.AnswerChoice.{Choice}
 use Rattle.forms.specs.Form.{readForm, treeIn}
 use Rattle.lines.specs.State.{stageC, stage, policyIn}
-use Rattle.lines.specs.Step.{Reply, says, refuses}
-use Rattle.lines.specs.StepTree.{rootAlone, doneIn}
+use Rattle.lines.specs.Effect.{Effect, policy, root, insertion, renaming, removal, login, reading}
+use Rattle.lines.specs.Outcome.{Reply, says, refuses}
+use Rattle.lines.specs.UserView.{doneIn}
 use Rattle.forms.specs.Tree.{recordsOf}
-use Rattle.store.specs.Line.{bytesOf}
+use Rattle.store.specs.Line.{bytesOf, workOf}
 use Rattle.forms.specs.declared.form.Part.{Part}
-use Rattle.forms.specs.declared.form.Form.{Form}
-use Rattle.forms.specs.declared.form.Form.the-variants.{Subject, Isa, Rule, Root, Child, User, View, Query, Find, Rename, Update, Append, Before, After, Remove, NoForm}
+use Rattle.forms.specs.declared.form.Form.the-variants.{Remove}
 use Rattle.guarantee.specs.Alike.{Input, outcome}
+use Rattle.rights.specs.Record.{nodeRecord}
 
 -- a record and the tag of its node, a number
 abbrev pub Tagged : Type 0
@@ -57,33 +58,27 @@ afterRename l ms ns = rename taggedLevel (λ n. (relabel l (n .0), n .1)) (marks
 abbrev pub afterRemove : List ℕ → List Tagged → List Tagged
 afterRemove ms ns = remove taggedLevel (marksOf ms) ns
 
--- the nodes after an accepted line of each form; no line but a change, a child or the root touches any
-abbrev pub afterForm : Form → List ℕ → List ℕ → List ℕ → List ℕ → List Tagged → List Tagged
-afterForm (Subject n) s t t' line ns = ns
-afterForm (Isa n r) s t t' line ns = ns
-afterForm (Rule a b p n) s t t' line ns = ns
-afterForm (Root l) s t t' line ns = new (records t')
-afterForm (Child m) s t t' line ns = afterInsert place.Append m (recordsOf (treeIn line)) rootAlone ns
-afterForm (User n) s t t' line ns = ns
-afterForm View s t t' line ns = ns
-afterForm (Query p) s t t' line ns = ns
-afterForm (Find p) s t t' line ns = ns
-afterForm (Rename p l) s t t' line ns = afterRename (bytesOf line l) (doneIn change.Rename s t (bytesOf line p)) ns
-afterForm (Update p l) s t t' line ns = afterRename (bytesOf line l) (doneIn change.Update s t (bytesOf line p)) ns
-afterForm (Append p m) s t t' line ns = afterInsert place.Append m (recordsOf (treeIn line)) (doneIn change.Append s t (bytesOf line p)) ns
-afterForm (Before p m) s t t' line ns = afterInsert place.Before m (recordsOf (treeIn line)) (doneIn change.Before s t (bytesOf line p)) ns
-afterForm (After p m) s t t' line ns = afterInsert place.After m (recordsOf (treeIn line)) (doneIn change.After s t (bytesOf line p)) ns
-afterForm (Remove p) s t t' line ns = afterRemove (doneIn change.Remove s t (bytesOf line p)) ns
-afterForm NoForm s t t' line ns = ns
+-- the nodes after an effect: no line but a change, a child or the root touches any
+abbrev pub afterEffect : Effect → List Tagged → List Tagged
+afterEffect (policy p g) ns = ns
+afterEffect (root l) ns = new (nodeRecord 0 l ∷ [])
+afterEffect (insertion at ms m tree g) ns = afterInsert at m tree ms ns
+afterEffect (renaming l ms) ns = afterRename l ms ns
+afterEffect (removal ms) ns = afterRemove ms ns
+afterEffect (login u) ns = ns
+afterEffect reading ns = ns
 
 -- a refused line keeps every node
-abbrev pub afterReply : Reply → Form → List ℕ → List ℕ → List ℕ → List ℕ → List Tagged → List Tagged
-afterReply (says b) f s t t' line ns = afterForm f s t t' line ns
-afterReply (refuses n) f s t t' line ns = ns
+abbrev pub afterReply : Reply → Effect → List Tagged → List Tagged
+afterReply (says b) e ns = afterEffect e ns
+afterReply (refuses n) e ns = ns
 
--- the nodes after a line
+-- the effect of a line that is accepted, and the nodes after a line
+abbrev pub effectOf : Choice → List ℕ → List ℕ → List ℕ → Effect
+effectOf choice s t line = workOf choice (readForm line) s t line (recordsOf (treeIn line)) .effect
+
 unfoldable pub follow : Choice → List ℕ → List ℕ → Input → List Tagged → List Tagged
-follow choice s t i ns = afterReply (outcome choice s t i .reply) (readForm (i .line)) s t (outcome choice s t i .table) (i .line) ns
+follow choice s t i ns = afterReply (outcome choice s t i .reply) (effectOf choice s t (i .line)) ns
 
 -- the nodes after a list of lines; and the state and the table then
 unfoldable pub followAll : Choice → List ℕ → List ℕ → List Input → List Tagged → List Tagged
@@ -104,13 +99,13 @@ beside (n ∷ ns) (s ∷ ss) = (n, s) ∷ beside ns ss
 abbrev pub keptRights : Policy → ℕ → List Tagged → List (ℕ × ℕ)
 keptRights P u ns = tags kept (beside ns (rightsOn P u (map (λ n. n .0) ns)))
 
-unfoldable pub stateAfter : Choice → List ℕ → List ℕ → List Input → List ℕ
-stateAfter choice s t [] = s
-stateAfter choice s t (i ∷ is) = stateAfter choice (outcome choice s t i .state) (outcome choice s t i .table) is
+unfoldable pub stateAfterAll : Choice → List ℕ → List ℕ → List Input → List ℕ
+stateAfterAll choice s t [] = s
+stateAfterAll choice s t (i ∷ is) = stateAfterAll choice (outcome choice s t i .state) (outcome choice s t i .table) is
 
-unfoldable pub tableAfter : Choice → List ℕ → List ℕ → List Input → List ℕ
-tableAfter choice s t [] = t
-tableAfter choice s t (i ∷ is) = tableAfter choice (outcome choice s t i .state) (outcome choice s t i .table) is
+unfoldable pub tableAfterAll : Choice → List ℕ → List ℕ → List Input → List ℕ
+tableAfterAll choice s t [] = t
+tableAfterAll choice s t (i ∷ is) = tableAfterAll choice (outcome choice s t i .state) (outcome choice s t i .table) is
 
 -- "A change keeps every node that it does not remove": from the root line on, only `(remove P)` takes nodes away;
 abbrev pub NodesKept : Type 0
@@ -134,7 +129,7 @@ NoneBack =
 abbrev pub Follows : Type 0
 Follows =
     (choice : Choice) (s t : List ℕ) (is : List Input) (ns : List Tagged)
-    → map (λ n. n .0) ns ≡ records t → map (λ n. n .0) (followAll choice s t is ns) ≡ records (tableAfter choice s t is)
+    → map (λ n. n .0) ns ≡ records t → map (λ n. n .0) (followAll choice s t is ns) ≡ records (tableAfterAll choice s t is)
 
 -- Demand 3, its sentence on rights: from every start with the root line taken (one that 13 does not let pass stays as it is), for every list of lines, whoever works
 -- and whatever is refused: what every declared subject may do on the kept nodes afterwards is a part, in order, of what it could do on them before. So no right on a
@@ -143,7 +138,7 @@ abbrev pub RightsKept : Type 0
 RightsKept =
     (choice : Choice) (s t : List ℕ) → stageC ≤ stage s → (is : List Input) (ns : List Tagged)
     → map (λ n. n .0) ns ≡ records t → (u : ℕ) → u < length (policyIn s .names)
-    → Sublistᴰ (keptRights (policyIn (stateAfter choice s t is)) u (followAll choice s t is ns)) (keptRights (policyIn s) u ns)
+    → Sublistᴰ (keptRights (policyIn (stateAfterAll choice s t is)) u (followAll choice s t is ns)) (keptRights (policyIn s) u ns)
 
 -- The same in plain words, with the nodes of the first table numbered 0, 1, 2, ..
 
@@ -170,4 +165,4 @@ abbrev pub SameRights : Type 0
 SameRights =
     (choice : Choice) (s t : List ℕ) → stageC ≤ stage s → (is : List Input) (u : ℕ) → u < length (policyIn s .names)
     → (k i : ℕ) → Was choice s t is k i
-    → getD (rightsOn (policyIn (stateAfter choice s t is)) u (records (tableAfter choice s t is))) k 0 ≡ getD (rightsOn (policyIn s) u (records t)) i 0
+    → getD (rightsOn (policyIn (stateAfterAll choice s t is)) u (records (tableAfterAll choice s t is))) k 0 ≡ getD (rightsOn (policyIn s) u (records t)) i 0

@@ -1,13 +1,13 @@
 -- One line, by the tests that it meets and the form that was read. Assumes nothing.
-use Prim.Native.Nat.{ℕ, zero, suc, _+_, _-_, _*_, _≤_, _<_}
+use Prim.Native.Nat.{ℕ, suc, _+_, _*_, _≤_, _<_}
 use mathlib.Core.Path.{_≡_, refl, sym, ap, _∙_, subst}
 use mathlib.Core.List.{List, [], _∷_, _++_, append-assoc}
-use mathlib.Core.Bool.{Bool, true, false, cond, not, _&&_, Bool·beq, and-eq-true-iff}
+use mathlib.Core.Bool.{Bool, true, false, _&&_, Bool·beq, and-eq-true-iff}
 use native.Mathlib.Omega.{arith}
-use borrow.Author.Tests.{leb-true, le-leb, lt-leb, lt-ltb, leb-false}
+use borrow.Author.Tests.{leb-true, le-leb, lt-leb, leb-false, not-false}
 use lib.Dec.{leb, ltb}
-use lib.ListN.{length, take, drop, replicate, length-append, length-drop, length-take, length-replicate}
-use lib.Seq.{take-at, length-take-le}
+use lib.ListN.{length, take, drop, replicate, length-append, length-drop, length-replicate}
+use lib.Seq.{take-at}
 use Rattle.rights.specs.Record.{nodeRecord, pasted}
 use Rattle.rights.proofs.Lists.{byCase}
 use Rattle.rights.proofs.RecordMade.{length-node}
@@ -20,13 +20,20 @@ use Rattle.forms.specs.Text.{lineOk}
 use Rattle.rights.specs.Nodes.{Node, node}
 use Rattle.forms.specs.Tree.{held, recordsOf}
 use Rattle.forms.specs.TreeText as text
-use Rattle.forms.specs.TreeText.{GoodTree, GoodTrees, GoodLabel, nodesOf, nodesIn}
+use Rattle.forms.specs.TreeText.{GoodTree, GoodTrees, nodesOf, nodesIn}
 use Rattle.forms.specs.Form.{readForm, treeIn}
 use Rattle.answers.specs.AnswerChoice.{Choice}
 use Rattle.lines.specs.State.{stage, storeOk}
-use Rattle.lines.specs.Step.{Outcome, refusal, stepSubject, stepIsa, stepRule, stepUser, stepView, stepQuery, stepFind}
-use Rattle.lines.specs.StepTree.{stepRoot, stepChild, stepRename, stepInsert, stepRemove}
-use Rattle.store.specs.Line.{stageOf, inStage, isNoForm, bytesOf, acceptByte, stepForm, stepRead, step}
+use Rattle.lines.specs.Outcome.{Made}
+use Rattle.lines.specs.Refusal.{Passed, firstRefusal}
+use Rattle.lines.specs.Effect.{Work, guarded, performed, Performs}
+use Rattle.lines.specs.declared.line.Answer.{Answer}
+use Rattle.lines.specs.declared.line.Answer.the-variants.{Refused}
+use Rattle.lines.specs.declared.queries.Ask.the-variants as ask
+use Rattle.lines.proofs.OutcomeLaws.{made-at}
+use Rattle.lines.proofs.RefusalLaws.{first-behind, first-front, passed, passed-append, performs-refused, performed-guarded}
+use Rattle.lines.specs.Work.{workSubject, workIsa, workRule, workRoot, workChild, workUser, workView, workAsk, workRename, workInsert, workRemove}
+use Rattle.store.specs.Line.{stageOf, inStage, isNoForm, bytesOf, acceptByte, workOf, textChecks, formChecks, lineChecks, step}
 use Rattle.store.proofs.FormParts.{Within, LabelPart, TreePart, Fits, form-fits}
 
 -- the parts of a form that was read, where its variant is known
@@ -106,9 +113,6 @@ stage-late k g h = rw (lt-leb g k h)
 pub stage-even : (k g : ℕ) → g ≤ k → Bool·beq (ltb 2 k) (leb 2 g) ≡ inStage k g
 stage-even k g h = rw (le-leb g k h)
 
-pub stage-tested : (f : Form) (g k : ℕ) {b x : Bool} → k ≡ stageOf f → b ≡ inStage k g → b ≡ x → inStage (stageOf f) g ≡ x
-stage-tested f g k p q r = ap (λ j. inStage j g) (sym p) ∙ sym q ∙ r
-
 -- a line that is short enough finds room for its tree
 pub form-room : (line : List ℕ) → lineOk line ≡ true → 16 * length line ≤ length (replicate {A = ℕ} 16384 0)
 unfolding lineOk
@@ -116,96 +120,127 @@ form-room line ok =
     let f = simp (lineOk, and-eq-true-iff) at ok in
     omega (arith, leb-true (length line) 1024 (f .0), length-replicate {A = ℕ} 16384 0)
 
+-- The refusals before a form's own
+
+module _ (s t line : List ℕ) where
+  pub at-store : storeOk s t ≡ false → 13 ≡ firstRefusal (textChecks s t line)
+  at-store e = rw e
+
+  pub at-line : storeOk s t ≡ true → lineOk line ≡ false → 1 ≡ firstRefusal (textChecks s t line)
+  at-line a e = rw (a, e)
+
+  pub at-text : storeOk s t ≡ true → lineOk line ≡ true → 0 ≡ firstRefusal (textChecks s t line)
+  at-text a e = rw (a, e)
+
+  pub text-passed : {d : ℕ} → d ≡ firstRefusal (textChecks s t line) → d ≡ 0 → (storeOk s t ≡ true) × (lineOk line ≡ true)
+  text-passed {d} e z = let p = passed (textChecks s t line) d refl e z in (not-false (storeOk s t) (p .0), not-false (lineOk line) (p .1 .0))
+
+module _ (f : Form) (g : ℕ) where
+  pub at-none : isNoForm f ≡ true → 2 ≡ firstRefusal (formChecks f g)
+  at-none e = rw e
+
+  module _ {k : ℕ} {b : Bool} (n : isNoForm f ≡ false) (e : k ≡ stageOf f) (q : b ≡ inStage k g) where
+    pub at-stage : b ≡ false → 3 ≡ firstRefusal (formChecks f g)
+    at-stage r = let z : inStage (stageOf f) g ≡ false = ap (λ j. inStage j g) (sym e) ∙ sym q ∙ r in rw (n, z)
+
+    pub at-form : b ≡ true → 0 ≡ firstRefusal (formChecks f g)
+    at-form r = let z : inStage (stageOf f) g ≡ true = ap (λ j. inStage j g) (sym e) ∙ sym q ∙ r in rw (n, z)
+
+  pub form-passed : {d : ℕ} → d ≡ firstRefusal (formChecks f g) → d ≡ 0 → inStage (stageOf f) g ≡ true
+  form-passed {d} e z = not-false (inStage (stageOf f) g) (passed (formChecks f g) d refl e z .1 .0)
+
 -- Each form's own work
 
-module _ (choice : Choice) (f : Form) (s t : List ℕ) (room : ℕ) (line tree : List ℕ) where
-  pub run-subject : {n : Part} (x : List ℕ) → f ≡ Subject n → x ≡ bytesOf line n → stepForm choice f s t room line tree ≡ stepSubject s t room x
-  unfolding stepForm
-  run-subject x e q = rw (e, q)
+pub performs-at : {w w' : Work} {s t area s' t' area' : List ℕ} {r : Answer} → w ≡ w' → Performs w' s t area r s' t' area' → Performs w s t area r s' t' area'
+performs-at {s = s} {t = t} {area = area} e k = made-at (ap (λ w. performed w (length area) s t) e) k
 
-  pub run-isa : {n r : Part} (x y : List ℕ) → f ≡ Isa n r → x ≡ bytesOf line n → y ≡ bytesOf line r → stepForm choice f s t room line tree ≡ stepIsa s t room x y
-  unfolding stepForm
-  run-isa x y e q w = rw (e, q, w)
+module _ (choice : Choice) (f : Form) (s t line tree : List ℕ) where
+  abbrev work : Work
+  work = workOf choice f s t line tree
+
+  at : {g : Form} → f ≡ g → work ≡ workOf choice g s t line tree
+  at e = ap (λ g. workOf choice g s t line tree) e
+
+  pub run-subject : {n : Part} (x : List ℕ) → f ≡ Subject n → x ≡ bytesOf line n → work ≡ workSubject s x
+  run-subject x e q = at e ∙ (λ i. workSubject s (sym q i))
+
+  pub run-isa : {n r : Part} (x y : List ℕ) → f ≡ Isa n r → x ≡ bytesOf line n → y ≡ bytesOf line r → work ≡ workIsa s x y
+  run-isa x y e q w = at e ∙ (λ i. workIsa s (sym q i) (sym w i))
 
   pub run-rule : {a : Bool} {b : ℕ} {p n : Part} (k : ℕ) (x y : List ℕ) → f ≡ Rule a b p n → k ≡ acceptByte a → x ≡ bytesOf line p → y ≡ bytesOf line n
-      → stepForm choice f s t room line tree ≡ stepRule s t room k b x y
-  unfolding stepForm
-  run-rule k x y e z q w = rw (e, z, q, w)
+      → work ≡ workRule s k b x y
+  run-rule {b = b} k x y e z q w = at e ∙ (λ i. workRule s (sym z i) b (sym q i) (sym w i))
 
-  pub run-root : {l : Part} (x : List ℕ) → f ≡ Root l → x ≡ bytesOf line l → stepForm choice f s t room line tree ≡ stepRoot s t room x
-  unfolding stepForm
-  run-root x e q = rw (e, q)
+  pub run-root : {l : Part} (x : List ℕ) → f ≡ Root l → x ≡ bytesOf line l → work ≡ workRoot t x
+  run-root x e q = at e ∙ (λ i. workRoot t (sym q i))
 
-  pub run-child : {m : ℕ} (x : List ℕ) → f ≡ Child m → x ≡ tree → stepForm choice f s t room line tree ≡ stepChild s t room m x
-  unfolding stepForm
-  run-child x e q = rw (e, q)
+  pub run-child : {m : ℕ} (x : List ℕ) → f ≡ Child m → x ≡ tree → work ≡ workChild t m x
+  run-child {m} x e q = at e ∙ (λ i. workChild t m (sym q i))
 
-  pub run-user : {n : Part} (x : List ℕ) → f ≡ User n → x ≡ bytesOf line n → stepForm choice f s t room line tree ≡ stepUser s t room x
-  unfolding stepForm
-  run-user x e q = rw (e, q)
+  pub run-user : {n : Part} (x : List ℕ) → f ≡ User n → x ≡ bytesOf line n → work ≡ workUser s x
+  run-user x e q = at e ∙ (λ i. workUser s (sym q i))
 
-  pub run-view : f ≡ View → stepForm choice f s t room line tree ≡ stepView s t room
-  unfolding stepForm
-  run-view e = rw e
+  pub run-view : f ≡ View → work ≡ workView s t
+  run-view e = at e
 
-  pub run-query : {p : Part} (x : List ℕ) → f ≡ Query p → x ≡ bytesOf line p → stepForm choice f s t room line tree ≡ stepQuery s t room x
-  unfolding stepForm
-  run-query x e q = rw (e, q)
+  pub run-query : {p : Part} (x : List ℕ) → f ≡ Query p → x ≡ bytesOf line p → work ≡ workAsk choice ask.Query s t x
+  run-query x e q = at e ∙ (λ i. workAsk choice ask.Query s t (sym q i))
 
-  pub run-find : {p : Part} (x : List ℕ) → f ≡ Find p → x ≡ bytesOf line p → stepForm choice f s t room line tree ≡ stepFind choice s t room x
-  unfolding stepForm
-  run-find x e q = rw (e, q)
+  pub run-find : {p : Part} (x : List ℕ) → f ≡ Find p → x ≡ bytesOf line p → work ≡ workAsk choice ask.Find s t x
+  run-find x e q = at e ∙ (λ i. workAsk choice ask.Find s t (sym q i))
 
-  pub run-rename : {p l : Part} (x y : List ℕ) → f ≡ Rename p l → x ≡ bytesOf line p → y ≡ bytesOf line l → stepForm choice f s t room line tree ≡ stepRename change.Rename s t room x y
-  unfolding stepForm
-  run-rename x y e q w = rw (e, q, w)
+  pub run-rename : {p l : Part} (x y : List ℕ) → f ≡ Rename p l → x ≡ bytesOf line p → y ≡ bytesOf line l → work ≡ workRename change.Rename s t x y
+  run-rename x y e q w = at e ∙ (λ i. workRename change.Rename s t (sym q i) (sym w i))
 
-  pub run-update : {p l : Part} (x y : List ℕ) → f ≡ Update p l → x ≡ bytesOf line p → y ≡ bytesOf line l → stepForm choice f s t room line tree ≡ stepRename change.Update s t room x y
-  unfolding stepForm
-  run-update x y e q w = rw (e, q, w)
+  pub run-update : {p l : Part} (x y : List ℕ) → f ≡ Update p l → x ≡ bytesOf line p → y ≡ bytesOf line l → work ≡ workRename change.Update s t x y
+  run-update x y e q w = at e ∙ (λ i. workRename change.Update s t (sym q i) (sym w i))
 
-  pub run-append : {p : Part} {m : ℕ} (x y : List ℕ) → f ≡ Append p m → x ≡ bytesOf line p → y ≡ tree → stepForm choice f s t room line tree ≡ stepInsert place.Append s t room x m y
-  unfolding stepForm
-  run-append x y e q w = rw (e, q, w)
+  pub run-append : {p : Part} {m : ℕ} (x y : List ℕ) → f ≡ Append p m → x ≡ bytesOf line p → y ≡ tree → work ≡ workInsert place.Append s t x m y
+  run-append {m = m} x y e q w = at e ∙ (λ i. workInsert place.Append s t (sym q i) m (sym w i))
 
-  pub run-before : {p : Part} {m : ℕ} (x y : List ℕ) → f ≡ Before p m → x ≡ bytesOf line p → y ≡ tree → stepForm choice f s t room line tree ≡ stepInsert place.Before s t room x m y
-  unfolding stepForm
-  run-before x y e q w = rw (e, q, w)
+  pub run-before : {p : Part} {m : ℕ} (x y : List ℕ) → f ≡ Before p m → x ≡ bytesOf line p → y ≡ tree → work ≡ workInsert place.Before s t x m y
+  run-before {m = m} x y e q w = at e ∙ (λ i. workInsert place.Before s t (sym q i) m (sym w i))
 
-  pub run-after : {p : Part} {m : ℕ} (x y : List ℕ) → f ≡ After p m → x ≡ bytesOf line p → y ≡ tree → stepForm choice f s t room line tree ≡ stepInsert place.After s t room x m y
-  unfolding stepForm
-  run-after x y e q w = rw (e, q, w)
+  pub run-after : {p : Part} {m : ℕ} (x y : List ℕ) → f ≡ After p m → x ≡ bytesOf line p → y ≡ tree → work ≡ workInsert place.After s t x m y
+  run-after {m = m} x y e q w = at e ∙ (λ i. workInsert place.After s t (sym q i) m (sym w i))
 
-  pub run-remove : {p : Part} (x : List ℕ) → f ≡ Remove p → x ≡ bytesOf line p → stepForm choice f s t room line tree ≡ stepRemove s t room x
-  unfolding stepForm
-  run-remove x e q = rw (e, q)
+  pub run-remove : {p : Part} (x : List ℕ) → f ≡ Remove p → x ≡ bytesOf line p → work ≡ workRemove s t x
+  run-remove x e q = at e ∙ (λ i. workRemove s t (sym q i))
 
-  pub run-none : f ≡ NoForm → stepForm choice f s t room line tree ≡ refusal 2 s t
-  unfolding stepForm
-  run-none e = rw e
+  -- a form that was not read is turned down
+  pub run-none : f ≡ NoForm → {area : List ℕ} → Performs work s t area (Refused 2) s t area
+  run-none e = performs-at (at e) (performs-refused (workOf choice NoForm s t line tree) s t refl (λ z. omega (arith, z)))
 
 -- The whole line
 
-module _ (choice : Choice) (s t line : List ℕ) (room : ℕ) where
-  pub at-store : storeOk s t ≡ false → step choice s t line room ≡ refusal 13 s t
+module _ (choice : Choice) (s t line : List ℕ) where
+  abbrev whole : Work
+  whole = guarded (lineChecks s t line (readForm line)) (workOf choice (readForm line) s t line (recordsOf (treeIn line)))
+
+  -- refused before it is read
+  pub text-refused : {d : ℕ} {area : List ℕ} → d ≡ firstRefusal (textChecks s t line) → (d ≡ 0 → ⊥) → Made (step choice s t line (length area)) area (Refused d) s t area
   unfolding step
-  at-store e = rw e
+  text-refused {d} e h = performs-refused whole s t (first-front (textChecks s t line) _ d e h) h
 
-  module _ (a : storeOk s t ≡ true) where
-    pub at-line : lineOk line ≡ false → step choice s t line room ≡ refusal 1 s t
+  -- refused for its form
+  module _ {d : ℕ} (e : d ≡ firstRefusal (textChecks s t line)) (z : d ≡ 0) {f : Form} (q : f ≡ readForm line) {g : ℕ} (k : g ≡ firstRefusal (formChecks f (stage s))) where
+    passed-text : Passed (textChecks s t line)
+    passed-text = passed (textChecks s t line) d refl e z
+
+    read : g ≡ firstRefusal (formChecks (readForm line) (stage s))
+    read = k ∙ ap (λ f. firstRefusal (formChecks f (stage s))) q
+
+    pub form-refused : {area : List ℕ} → (g ≡ 0 → ⊥) → Made (step choice s t line (length area)) area (Refused g) s t area
     unfolding step
-    at-line e = rw (a, e)
+    form-refused h =
+        performs-refused whole s t (first-front (formChecks (readForm line) (stage s)) _ g read h ∙ sym (first-behind (textChecks s t line) _ passed-text)) h
 
-    module _ (b : lineOk line ≡ true) (f : Form) (q : f ≡ readForm line) where
-      pub at-none : isNoForm f ≡ true → step choice s t line room ≡ refusal 2 s t
-      unfolding step stepRead
-      at-none e = rw (a, b, ← q, e)
-
-      module _ (d : isNoForm f ≡ false) where
-        pub at-stage : inStage (stageOf f) (stage s) ≡ false → step choice s t line room ≡ refusal 3 s t
-        unfolding step stepRead
-        at-stage e = rw (a, b, ← q, d, e)
-
-        pub at-form : inStage (stageOf f) (stage s) ≡ true → step choice s t line room ≡ stepForm choice f s t room line (recordsOf (treeIn line))
-        unfolding step stepRead
-        at-form e = rw (a, b, ← q, d, e)
+    -- taken to the form's own work
+    pub line-run : {area s' t' area' : List ℕ} {r : Answer} → g ≡ 0 → Performs (workOf choice f s t line (recordsOf (treeIn line))) s t area r s' t' area'
+        → Made (step choice s t line (length area)) area r s' t' area'
+    unfolding step
+    line-run {area} w m =
+        made-at
+        (performed-guarded (lineChecks s t line (readForm line)) (workOf choice (readForm line) s t line (recordsOf (treeIn line))) (length area) s t
+        (passed-append (textChecks s t line) (formChecks (readForm line) (stage s)) passed-text (passed (formChecks (readForm line) (stage s)) g refl read w)))
+        (subst (λ f. Performs (workOf choice f s t line (recordsOf (treeIn line))) s t area _ _ _ _) q m)

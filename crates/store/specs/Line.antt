@@ -90,14 +90,15 @@ workOf choice (After p m) s t line tree = workInsert place.After s t (bytesOf li
 workOf choice (Remove p) s t line tree = workRemove s t (bytesOf line p)
 workOf choice NoForm s t line tree = record { checks = check noForm true ∷ []; text = []; effect = reading }
 
--- what comes before a form's own checks
+-- what comes before a line is read, and before the own checks of the form that was read, in stage g
+abbrev pub textChecks : List ℕ → List ℕ → List ℕ → List Check
+textChecks s t line = check badStore (not (storeOk s t)) ∷ check badLine (not (lineOk line)) ∷ []
+
+abbrev pub formChecks : Form → ℕ → List Check
+formChecks f g = check noForm (isNoForm f) ∷ check wrongStage (not (inStage (stageOf f) g)) ∷ []
+
 abbrev pub lineChecks : List ℕ → List ℕ → List ℕ → Form → List Check
-lineChecks s t line f =
-    check badStore (not (storeOk s t))
-    ∷ check badLine (not (lineOk line))
-    ∷ check noForm (isNoForm f)
-    ∷ check wrongStage (not (inStage (stageOf f) (stage s)))
-    ∷ []
+lineChecks s t line f = textChecks s t line ++ formChecks f (stage s)
 
 -- What a line answers and leaves, from the state s, the table t and an area of `room` bytes, at a choice of `find`.
 unfoldable pub step : Choice → List ℕ → List ℕ → List ℕ → ℕ → Outcome

@@ -16,9 +16,13 @@ use lines::line::Answer;
 use lines::policy_lines::declare;
 use lines::policy_lines::relate;
 use lines::policy_lines::rule;
-use lines::queries::find;
-use lines::queries::query;
+use lines::queries::Ask;
+use lines::queries::ask_path;
 use lines::queries::view;
+use lines::refusals::BAD_LINE;
+use lines::refusals::BAD_STORE;
+use lines::refusals::NO_FORM;
+use lines::refusals::WRONG_STAGE;
 use lines::session::log_in;
 use lines::state::store_ok;
 use lines::tree_lines::child;
@@ -27,7 +31,7 @@ use rights::limits::RECORD_BYTES;
 use views::done::Change;
 use views::insert::Place;
 ghost use mathlib.Core.Path.{_≡_};
-ghost use mathlib.Core.Bool.{true, false, not};
+ghost use mathlib.Core.Bool.{true};
 ghost use Prim.Native.Nat.{_*_, _≤_};
 ghost use lib.ListN.{length, take, replicate};
 ghost use Rattle.rights.specs.Record.{pasted};
@@ -36,8 +40,10 @@ ghost use Rattle.forms.specs.Tree.{recordsOf};
 ghost use Rattle.forms.specs.Form.{readForm, treeIn};
 ghost use Rattle.answers.specs.AnswerChoice.{chosen};
 ghost use Rattle.lines.specs.State.{stage, storeOk};
-ghost use Rattle.lines.specs.Step.{Made};
-ghost use Rattle.store.specs.Line.{stageOf, inStage, isNoForm, bytesOf, acceptByte, stepForm, step};
+ghost use Rattle.lines.specs.Outcome.{Made};
+ghost use Rattle.lines.specs.Refusal.{firstRefusal};
+ghost use Rattle.lines.specs.Effect.{Performs};
+ghost use Rattle.store.specs.Line.{stageOf, inStage, isNoForm, bytesOf, acceptByte, workOf, textChecks, formChecks, step};
 
 // The stage that a form belongs to.
 fn stage_of(f: Form) -> u8
@@ -73,28 +79,37 @@ fn in_stage(k: u8, g: u8) -> bool
     (STAGE_C < k) == (STAGE_C <= g)
 }
 
-// Whether the line was no form (refusal 2).
+// Whether the line was no form.
 fn is_no_form(f: Form) -> bool
     ensures { λ r. ⌜ r ≡ isNoForm f ⌝ }
 {
-    match f {
-        Form::Subject(_) => false,
-        Form::Isa(_, _) => false,
-        Form::Rule(_, _, _, _) => false,
-        Form::Root(_) => false,
-        Form::Child(_) => false,
-        Form::User(_) => false,
-        Form::View => false,
-        Form::Query(_) => false,
-        Form::Find(_) => false,
-        Form::Rename(_, _) => false,
-        Form::Update(_, _) => false,
-        Form::Append(_, _) => false,
-        Form::Before(_, _) => false,
-        Form::After(_, _) => false,
-        Form::Remove(_) => false,
-        Form::NoForm => true,
+    if let Form::NoForm = f { true } else { false }
+}
+
+// The refusal of a store or of a line's bytes.
+fn text_refusal(state: &[u8], table: &[u8], line: &[u8]) -> u8
+    ensures { λ r. ⌜ r ≡ firstRefusal (textChecks (now (state .entry)) (now (table .entry)) (now (line .entry))) ⌝ }
+{
+    if !store_ok(state, table) {
+        return BAD_STORE;
     }
+    if !line_ok(line) {
+        return BAD_LINE;
+    }
+    0
+}
+
+// The refusal of the form that was read, in stage g.
+fn form_refusal(f: Form, g: u8) -> u8
+    ensures { λ r. ⌜ r ≡ firstRefusal (formChecks f g) ⌝ }
+{
+    if is_no_form(f) {
+        return NO_FORM;
+    }
+    if in_stage(stage_of(f), g) {
+        return 0;
+    }
+    WRONG_STAGE
 }
 
 // 1 for accept, 0 for deny.
@@ -132,8 +147,10 @@ fn run(
     area: &mut [u8],
     f: Form,
 ) -> Answer
-    requires { ⌜ (storeOk (now state) (now table) ≡ true) × (lineOk (now line) ≡ true) × (f ≡ readForm (now line)) × (isNoForm f ≡ false) × (inStage (stageOf f) (stage (now state)) ≡ true) × (now tree ≡ pasted (replicate 16384 0) 0 (recordsOf (treeIn (now line)))) ⌝ }
-    ensures { λ r. ⌜ Made (stepForm chosen f (now (state .entry)) (now (table .entry)) (length (now (area .entry))) (now (line .entry)) (recordsOf (treeIn (now (line .entry))))) (now (area .entry)) r (now (state .exit)) (now (table .exit)) (now (area .exit)) ⌝ }
+    requires { ⌜ (storeOk (now state) (now table) ≡ true) × (lineOk (now line) ≡ true) × (f ≡ readForm (now line)) × (inStage (stageOf f) (stage (now state)) ≡ true)
+        × (now tree ≡ pasted (replicate 16384 0) 0 (recordsOf (treeIn (now line)))) ⌝ }
+    ensures { λ r. ⌜ Performs (workOf chosen f (now (state .entry)) (now (table .entry)) (now (line .entry)) (recordsOf (treeIn (now (line .entry)))))
+        (now (state .entry)) (now (table .entry)) (now (area .entry)) r (now (state .exit)) (now (table .exit)) (now (area .exit)) ⌝ }
 {
     match f {
         Form::Subject(n) => declare(state, table, part_of(line, n), area),
@@ -151,8 +168,8 @@ fn run(
         Form::Child(m) => child(state, table, tree_of(tree, m), m, area),
         Form::User(n) => log_in(state, table, part_of(line, n), area),
         Form::View => view(state, table, area),
-        Form::Query(p) => query(state, table, part_of(line, p), area),
-        Form::Find(p) => find(state, table, part_of(line, p), area),
+        Form::Query(p) => ask_path(Ask::Query, state, table, part_of(line, p), area),
+        Form::Find(p) => ask_path(Ask::Find, state, table, part_of(line, p), area),
         Form::Rename(p, l) => rename(
             state,
             table,
@@ -197,27 +214,24 @@ fn run(
             area,
         ),
         Form::Remove(p) => remove(state, table, part_of(line, p), area),
-        Form::NoForm => Answer::Refused(2),
+        Form::NoForm => Answer::Refused(NO_FORM),
     }
 }
 
 // One line: the answer's bytes are put at the front of the area. Whatever is lent, what is returned and left is `step` at the program's choice of a hit for `find`.
 pub fn line(state: &mut [u8], table: &mut [u8], line: &[u8], area: &mut [u8]) -> Answer
-    ensures { λ r. ⌜ Made (step chosen (now (state .entry)) (now (table .entry)) (now (line .entry)) (length (now (area .entry)))) (now (area .entry)) r (now (state .exit)) (now (table .exit)) (now (area .exit)) ⌝ }
+    ensures { λ r. ⌜ Made (step chosen (now (state .entry)) (now (table .entry)) (now (line .entry)) (length (now (area .entry))))
+        (now (area .entry)) r (now (state .exit)) (now (table .exit)) (now (area .exit)) ⌝ }
 {
-    if !store_ok(state, table) {
-        return Answer::Refused(13);
-    }
-    if !line_ok(line) {
-        return Answer::Refused(1);
+    let down = text_refusal(state, table, line);
+    if down != 0 {
+        return Answer::Refused(down);
     }
     let mut tree = [0u8; TREE_BYTES];
     let f = read_form(line, &mut tree);
-    if is_no_form(f) {
-        return Answer::Refused(2);
-    }
-    if !in_stage(stage_of(f), state[0]) {
-        return Answer::Refused(3);
+    let turned = form_refusal(f, state[0]);
+    if turned != 0 {
+        return Answer::Refused(turned);
     }
     run(state, table, line, &tree, area, f)
 }

@@ -1,0 +1,161 @@
+-- Each form of a line: where its checks pass its effect is sound, and on two stores that are alike to the user its work is alike. Both go by form, in one law with one
+-- clause a form; all else that is said of a line goes by its effect. Assumes nothing.
+use Prim.Native.Nat.{ℕ, _+_}
+use mathlib.Core.Path.{_≡_, refl, ap, ap₂, subst}
+use mathlib.Core.Bool.{Bool, true, false, _||_, false≢true}
+use mathlib.Core.List.{List, []}
+use mathlib.Core.Logic.{inl, inr}
+use Rattle.rights.specs.Labels.{sameLabel, restricted}
+use Rattle.rights.specs.Policy.{Policy}
+use Rattle.views.specs.Change.{chunks, lower, deepest}
+use Rattle.views.specs.declared.done.Change.{Change}
+use Rattle.views.specs.declared.done.Change.the-variants as change
+use Rattle.views.specs.declared.insert.Place.{Place}
+use Rattle.views.specs.declared.insert.Place.the-variants as place
+use Rattle.answers.specs.Answer.{viewText}
+use Rattle.answers.specs.AnswerChoice.{Choice}
+use Rattle.forms.specs.Form.{readForm, treeIn}
+use Rattle.forms.specs.Tree.{recordsOf}
+use Rattle.forms.specs.declared.form.Form.{Form}
+use Rattle.forms.specs.declared.form.Form.the-variants.{Subject, Isa, Rule, Root, Child, User, View, Query, Find, Rename, Update, Append, Before, After, Remove, NoForm}
+use Rattle.lines.specs.PolicyEdit.{subjectNamed, isUnknown, numberIn}
+use Rattle.lines.specs.State.{stageE, stage, policyIn, storeOk}
+use Rattle.lines.specs.Effect.{login, Work}
+use Rattle.lines.specs.Refusal.{check, Passed}
+use Rattle.lines.specs.UserView.{noUser, doneIn}
+use Rattle.lines.specs.Work.{changeAt, answerTo, onView, workUser, workView, workAsk, workRename, workInsert, workRemove}
+use Rattle.lines.specs.declared.queries.Ask.{Ask}
+use Rattle.lines.specs.declared.queries.Ask.the-variants as ask
+use Rattle.store.specs.Line.{stageOf, inStage, bytesOf, workOf}
+use Rattle.store.proofs.FormParts.{Fits, form-fits}
+use Rattle.guarantee.proofs.SamePolicy.{same-named, same-word}
+use Rattle.guarantee.proofs.Sound.{Sound}
+use Rattle.guarantee.proofs.FormSound.{rename-frees, update-frees, subject-sound, isa-sound, rule-sound, root-sound, child-sound, user-sound, rename-sound, insert-sound, remove-sound}
+use Rattle.guarantee.proofs.LineAlike.{Tied, CheckAlike, ChecksAlike, EffectAlike, readings, logins, insertions, renamings, removals, WorkAlike, user-both, view-both, marks-both, text-both, deep-both, done-both}
+
+-- The works of the user's forms on two stores that are alike
+
+same : (n : ℕ) (b : Bool) → CheckAlike (check n b) (check n b)
+same n b = (refl, inl refl)
+
+module _ (u : ℕ) (s t s' t' : List ℕ) (h : Tied u s t s' t') where
+  abbrev Alike : Work → Work → Type 0
+  Alike w w' = WorkAlike (policyIn s) u t t' w w'
+
+  has-user : (n : ℕ) → CheckAlike (check n (noUser s)) (check n (noUser s'))
+  has-user n = (refl, inl (user-both u s t s' t' h))
+
+  user-alike : (name : List ℕ) → Alike (workUser s name) (workUser s' name)
+  unfolding ChecksAlike
+  user-alike name =
+      let q = same-named (policyIn s) (policyIn s') (h .policy) name in
+      record {
+        checks = ((refl, inl (ap isUnknown q)), tt);
+        text = refl;
+        effect =
+            subst (λ f. EffectAlike (policyIn s) u t t' (login (numberIn (subjectNamed (policyIn s) name))) (login (numberIn f))) q
+            (logins (numberIn (subjectNamed (policyIn s) name)));
+      }
+
+  view-alike : Alike (workView s t) (workView s' t')
+  unfolding ChecksAlike
+  view-alike = record { checks = (has-user _, tt); text = ap viewText (view-both u s t s' t' h); effect = readings }
+
+  on-view : (path : List ℕ) → ChecksAlike (onView path s) (onView path s')
+  unfolding ChecksAlike
+  on-view path = (same _ _, (has-user _, tt))
+
+  ask-alike : (choice : Choice) (what : Ask) (path : List ℕ) → Alike (workAsk choice what s t path) (workAsk choice what s' t' path)
+  ask-alike choice what path = record {
+    checks = on-view path;
+    text = ap₂ (answerTo choice what) (marks-both u s t s' t' h path) (view-both u s t s' t' h);
+    effect = readings;
+  }
+
+  rename-alike : (c : Change) (path l : List ℕ) → Alike (workRename c s t path l) (workRename c s' t' path l)
+  unfolding ChecksAlike
+  rename-alike c path l = record {
+    checks = (same _ _, (has-user _, ((refl, inl (ap (λ word. sameLabel l restricted || word l) (same-word (policyIn s) (policyIn s') (h .policy)))), tt)));
+    text = text-both u s t s' t' h c path;
+    effect = renamings l (doneIn c s t path) (doneIn c s' t' path) (done-both u s t s' t' h c path);
+  }
+
+  insert-alike : (at : Place) (path : List ℕ) (m : ℕ) (tree : List ℕ) → Alike (workInsert at s t path m tree) (workInsert at s' t' path m tree)
+  unfolding ChecksAlike
+  insert-alike at path m tree = record {
+    checks =
+        (same _ _, (has-user _, (same _ _, ((refl, inl (deep-both u s t s' t' h (lower at + deepest (chunks m tree)) (changeAt at) path)), ((refl, inr refl), tt)))));
+    text = text-both u s t s' t' h (changeAt at) path;
+    effect =
+        insertions at m tree (stage s) (stage s') (doneIn (changeAt at) s t path) (doneIn (changeAt at) s' t' path) (done-both u s t s' t' h (changeAt at) path);
+  }
+
+  remove-alike : (path : List ℕ) → Alike (workRemove s t path) (workRemove s' t' path)
+  remove-alike path = record {
+    checks = on-view path;
+    text = text-both u s t s' t' h change.Remove path;
+    effect = removals (doneIn change.Remove s t path) (doneIn change.Remove s' t' path) (done-both u s t s' t' h change.Remove path);
+  }
+
+  none-alike : (choice : Choice) (line : List ℕ) → Alike (workOf choice NoForm s t line []) (workOf choice NoForm s' t' line [])
+  unfolding ChecksAlike
+  none-alike choice line = record { checks = (same _ _, tt); text = refl; effect = readings }
+
+-- The law of a form
+
+abbrev pub workIn : Choice → List ℕ → Form → List ℕ → List ℕ → Work
+workIn choice line f s t = workOf choice f s t line (recordsOf (treeIn line))
+
+pub record FormLaw (choice : Choice) (line : List ℕ) (f : Form) : Type 0 where
+  pub sound : (s t : List ℕ) → storeOk s t ≡ true → inStage (stageOf f) (stage s) ≡ true → Passed (workIn choice line f s t .checks)
+      → Sound f line s t (workIn choice line f s t .effect)
+  pub alike : (u : ℕ) (s t s' t' : List ℕ) → Tied u s t s' t' → inStage (stageOf f) stageE ≡ true
+      → WorkAlike (policyIn s) u t t' (workIn choice line f s t) (workIn choice line f s' t')
+
+module _ (choice : Choice) (line : List ℕ) where
+  -- the lines before stage E are out of a user's reach
+  early : {P : Policy} {u : ℕ} {t t' : List ℕ} {w w' : Work} → false ≡ true → WorkAlike P u t t' w w'
+  early i = absurd (false≢true i)
+
+  form-law : (f : Form) → Fits line f → FormLaw choice line f
+  form-law (Subject n) w = record { sound = λ s t ok i p. subject-sound s t ok (bytesOf line n) i (w .good) p; alike = λ u s t s' t' h i. early i }
+  form-law (Isa n r) w = record { sound = λ s t ok i p. isa-sound s t ok (bytesOf line n) (bytesOf line r) i p; alike = λ u s t s' t' h i. early i }
+  form-law (Rule a b p n) w = record {
+    sound = λ s t ok i q. rule-sound s t ok a b (bytesOf line p) (bytesOf line n) i (w .2 .0) (w .2 .1) q;
+    alike = λ u s t s' t' h i. early i;
+  }
+  form-law (Root l) w = record { sound = λ s t ok i p. root-sound s t ok (bytesOf line l) i (w .good) p; alike = λ u s t s' t' h i. early i }
+  form-law (Child m) w = record { sound = λ s t ok i p. child-sound s t ok line m i w p; alike = λ u s t s' t' h i. early i }
+  form-law (User n) w = record { sound = λ s t ok i p. user-sound s t ok line n i p; alike = λ u s t s' t' h i. user-alike u s t s' t' h (bytesOf line n) }
+  form-law View w = record { sound = λ s t ok i p. tt; alike = λ u s t s' t' h i. view-alike u s t s' t' h }
+  form-law (Query p) w = record { sound = λ s t ok i q. tt; alike = λ u s t s' t' h i. ask-alike u s t s' t' h choice ask.Query (bytesOf line p) }
+  form-law (Find p) w = record { sound = λ s t ok i q. tt; alike = λ u s t s' t' h i. ask-alike u s t s' t' h choice ask.Find (bytesOf line p) }
+  form-law (Rename p l) w = record {
+    sound = λ s t ok i q. rename-sound s t ok change.Rename (bytesOf line p) (bytesOf line l) i rename-frees (w .1 .good) q;
+    alike = λ u s t s' t' h i. rename-alike u s t s' t' h change.Rename (bytesOf line p) (bytesOf line l);
+  }
+  form-law (Update p l) w = record {
+    sound = λ s t ok i q. rename-sound s t ok change.Update (bytesOf line p) (bytesOf line l) i update-frees (w .1 .good) q;
+    alike = λ u s t s' t' h i. rename-alike u s t s' t' h change.Update (bytesOf line p) (bytesOf line l);
+  }
+  form-law (Append p m) w = record {
+    sound = λ s t ok i q. insert-sound s t ok line place.Append (bytesOf line p) m i (w .1) q;
+    alike = λ u s t s' t' h i. insert-alike u s t s' t' h place.Append (bytesOf line p) m (recordsOf (treeIn line));
+  }
+  form-law (Before p m) w = record {
+    sound = λ s t ok i q. insert-sound s t ok line place.Before (bytesOf line p) m i (w .1) q;
+    alike = λ u s t s' t' h i. insert-alike u s t s' t' h place.Before (bytesOf line p) m (recordsOf (treeIn line));
+  }
+  form-law (After p m) w = record {
+    sound = λ s t ok i q. insert-sound s t ok line place.After (bytesOf line p) m i (w .1) q;
+    alike = λ u s t s' t' h i. insert-alike u s t s' t' h place.After (bytesOf line p) m (recordsOf (treeIn line));
+  }
+  form-law (Remove p) w = record {
+    sound = λ s t ok i q. remove-sound s t ok p line i;
+    alike = λ u s t s' t' h i. remove-alike u s t s' t' h (bytesOf line p);
+  }
+  form-law NoForm w = record { sound = λ s t ok i p. tt; alike = λ u s t s' t' h i. none-alike u s t s' t' h choice line }
+
+  -- the law of the form that was read
+  pub read-law : FormLaw choice line (readForm line)
+  read-law = form-law (readForm line) (form-fits line)

@@ -1,0 +1,81 @@
+-- What the effect of a line may lean on where the line is taken: the facts that its form and the checks that it passed give. Every law about a line that is taken
+-- goes by its effect and these facts.
+use Prim.Native.Nat.{ℕ, _+_, _≤_, _<_}
+use mathlib.Core.Path.{_≡_}
+use mathlib.Core.Bool.{true, false, _||_}
+use mathlib.Core.List.{List}
+use lib.Dec.{leb, eqb, ltb}
+use Rattle.rights.specs.Policy.{Policy, policyWord}
+use Rattle.rights.specs.PolicyBytes.{ruleCount}
+use Rattle.rights.specs.PolicyCheck.{policyOk}
+use Rattle.rights.specs.Table.{records, label}
+use Rattle.views.specs.Change.{isDone, chunks, lower, deepest, tooDeep, hasRoom, free}
+use Rattle.views.specs.Marks.{marksOf}
+use Rattle.views.specs.Nodes.{TreeOk, LabelOk}
+use Rattle.views.specs.Pass.{AtDone}
+use Rattle.views.specs.declared.insert.Place.{Place}
+use Rattle.lines.specs.PolicyEdit.{subjectNamed}
+use Rattle.lines.specs.State.{stageB, stageC, stageE, stage, policyIn}
+use Rattle.lines.specs.declared.policy_edit.Found.the-variants as found
+use Rattle.forms.specs.declared.form.Part.{Part}
+use Rattle.forms.specs.declared.form.Form.{Form}
+use Rattle.forms.specs.declared.form.Form.the-variants.{User, Remove}
+use Rattle.store.specs.Line.{bytesOf}
+use Rattle.lines.specs.Effect.{Effect, policy, root, insertion, renaming, removal, login, reading}
+
+-- the label of a record is no policy word
+abbrev pub NoWord : Policy → List ℕ → Type 0
+NoWord P r = policyWord P (label r) ≡ false
+
+-- a policy that passes, before the root line; a rule is held from stage B on
+pub record PolicySound (s p : List ℕ) (g : ℕ) : Type 0 where
+  pub early : stage s < stageC
+  pub before-root : g < stageC
+  pub ok : policyOk p ≡ true
+  pub rules : (eqb (ruleCount p) 0 || leb stageB g) ≡ true
+
+pub record RootSound (s t l : List ℕ) : Type 0 where
+  pub early : stage s < stageC
+  pub label : LabelOk l
+  pub has-room : ltb (free t) 1 ≡ false
+
+-- a tree that fits into the table; the root has no place beside it; stage E is neither reached nor left
+pub record InsertSound (s t : List ℕ) (at : Place) (ms : List ℕ) (m : ℕ) (tree : List ℕ) (g : ℕ) : Type 0 where
+  pub rooted : stageC ≤ stage s
+  pub behind-root : stageC ≤ g
+  pub stages : g ≤ stageE
+  pub session : eqb g stageE ≡ eqb (stage s) stageE
+  pub good : TreeOk (chunks m tree)
+  pub shallow : tooDeep (lower at + deepest (chunks m tree)) (marksOf ms) (records t) ≡ false
+  pub has-room : hasRoom t ms m ≡ true
+  pub spared : lower at ≡ 0 → isDone (marksOf ms) ≡ false
+
+-- neither the new label nor an old one is a policy word
+pub record RenameSound (s t l ms : List ℕ) : Type 0 where
+  pub rooted : stageC ≤ stage s
+  pub label : LabelOk l
+  pub no-word : policyWord (policyIn s) l ≡ false
+  pub no-words : AtDone (NoWord (policyIn s)) (marksOf ms) (records t)
+
+-- `(remove P)` alone removes, and never the root
+pub record RemoveSound (f : Form) (s t ms : List ℕ) : Type 0 where
+  pub path : Part
+  pub form : f ≡ Remove path
+  pub rooted : stageC ≤ stage s
+  pub spared : isDone (marksOf ms) ≡ false
+
+-- `(user N)` alone logs in, and N is declared
+pub record LoginSound (f : Form) (line s : List ℕ) (u : ℕ) : Type 0 where
+  pub name : Part
+  pub form : f ≡ User name
+  pub named : subjectNamed (policyIn s) (bytesOf line name) ≡ found.Subject u
+  pub rooted : stageC ≤ stage s
+
+abbrev pub Sound : Form → List ℕ → List ℕ → List ℕ → Effect → Type 0
+Sound f line s t (policy p g) = PolicySound s p g
+Sound f line s t (root l) = RootSound s t l
+Sound f line s t (insertion at ms m tree g) = InsertSound s t at ms m tree g
+Sound f line s t (renaming l ms) = RenameSound s t l ms
+Sound f line s t (removal ms) = RemoveSound f s t ms
+Sound f line s t (login u) = LoginSound f line s u
+Sound f line s t reading = Unit {0}
