@@ -1,4 +1,5 @@
 pub mod Ranges
+pub mod BoolLaws
 pub mod Facts
 pub mod Lists
 pub mod LabelLaws

@@ -1,7 +1,7 @@
 -- The vocabulary: a label's number among the words, one step of the search, and a word more. Assumes nothing.
 use Prim.Native.Nat.{ℕ, zero, suc, _+_, _-_, _/_, _≤_, _<_}
-use mathlib.Core.Bool.{Bool, true, false, cond, _||_, or-false}
-use mathlib.Core.Logic.{_⊎_, ⊎-elim}
+use mathlib.Core.Bool.{Bool, true, false, cond, _||_, or-assoc, or-false}
+use mathlib.Core.Logic.{⊎-elim}
 use mathlib.Core.Path.{_≡_, refl, sym, ap, _∙_, subst}
 use mathlib.Core.List.{List, _∷_}
 use native.Mathlib.Nat.{eq-or-lt-of-le, le-of-suc-le-suc}
@@ -16,22 +16,8 @@ use Rattle.rights.specs.Table.{recAt, label}
 use Rattle.rights.specs.PolicyBytes.{Text}
 use Rattle.rights.specs.Vocabulary.{order, labelOrder, wordAt, wordNumber, numberIn, isWord, Words, Inserted, Added}
 use Rattle.rights.proofs.LabelLaws.{same-sym, same-left, same-right, same-order, order-flip, order-through, order-same, order-other}
-use Rattle.rights.proofs.Lists.{byCase, bool-ext}
-
-or-first : (a b : Bool) → a ≡ true → a || b ≡ true
-or-first a b e = rw e
-
-or-second : (a b : Bool) → b ≡ true → a || b ≡ true
-or-second true b e = refl
-or-second false b e = e
-
-or-case : {C : Type 0} (a b : Bool) → a || b ≡ true → (a ≡ true → C) → (b ≡ true → C) → C
-or-case true b e f g = f refl
-or-case false b e f g = g e
-
-or-in : (a b c : Bool) → (a || b) || c ≡ a || (b || c)
-or-in true b c = refl
-or-in false b c = refl
+use Rattle.rights.proofs.BoolLaws.{both-ways, or-left, or-right, or-split}
+use Rattle.rights.proofs.Lists.{byCase}
 
 -- A label's number
 
@@ -241,16 +227,16 @@ module _ (p ws ws' : List ℕ) (n i at : ℕ) (k : Words p ws n) (room : n < 211
     -- a label is a word now if it was one or is the new one
     pub holds-more : (w : List ℕ) → isWord p ws' (n + 1) w ≡ isWord p ws n w || sameLabel w x
     holds-more w =
-        bool-ext _ _
+        both-ways _ _
         (λ h. let j = numberIn p ws' (n + 1) w - 1 in
         let pos = ltb-true 0 (numberIn p ws' (n + 1) w) h in
         let o = number-word (wordAt p ws') (n + 1) j w (omega (arith, pos)) in
         place (λ (j : ℕ). sameLabel (wordAt p ws' j) w ≡ true → isWord p ws n w || sameLabel w x ≡ true)
-        (λ j l e. or-first _ _ (lt-ltb 0 _ (number-there (wordAt p ws) n j w (omega arith) (rw (word-low j l) at e))))
-        (λ e. or-second (isWord p ws n w) _ (same-sym w x ∙ (rw word-here at e)))
-        (λ j l m e. or-first _ _ (lt-ltb 0 _ (number-there (wordAt p ws) n j w m (rw (word-high j l m) at e))))
+        (λ j l e. or-left _ _ (lt-ltb 0 _ (number-there (wordAt p ws) n j w (omega arith) (rw (word-low j l) at e))))
+        (λ e. or-right (isWord p ws n w) _ (same-sym w x ∙ (rw word-here at e)))
+        (λ j l m e. or-left _ _ (lt-ltb 0 _ (number-there (wordAt p ws) n j w m (rw (word-high j l m) at e))))
         j (o .0) (o .1))
-        (λ h. or-case (isWord p ws n w) (sameLabel w x) h
+        (λ h. or-split (isWord p ws n w) (sameLabel w x) h
         (λ e. let j = numberIn p ws n w - 1 in
         let pos = ltb-true 0 (numberIn p ws n w) e in
         let o = number-word (wordAt p ws) n j w (omega (arith, pos)) in
@@ -267,7 +253,7 @@ pub added-old : (p ws : List ℕ) (n i : ℕ) (x : List ℕ) → Words p ws n �
 added-old p ws n i x k h e = record {
   words = k;
   holds = λ w. byCase (sameLabel w x)
-      (λ d. let b : isWord p ws n w ≡ true = lt-ltb 0 _ (number-there (wordAt p ws) n i w h (same-right w x d (wordAt p ws i) ∙ e)) in b ∙ sym (or-first (isWord p ws n w) (sameLabel w x) b))
+      (λ d. let b : isWord p ws n w ≡ true = lt-ltb 0 _ (number-there (wordAt p ws) n i w h (same-right w x d (wordAt p ws i) ∙ e)) in b ∙ sym (or-left (isWord p ws n w) (sameLabel w x) b))
       (λ d. rw d (sym (or-false _)));
 }
 
@@ -278,7 +264,7 @@ pub added-then : (p ws : List ℕ) (n : ℕ) (ws' : List ℕ) (n' : ℕ) (ws'' :
     → Added p ws n ws' n' f → Added p ws' n' ws'' n'' g → Added p ws n ws'' n'' h
 added-then p ws n ws' n' ws'' n'' f g h e a b = record {
   words = b .words;
-  holds = λ x. b .holds x ∙ ap (λ (v : Bool). v || g x) (a .holds x) ∙ or-in (isWord p ws n x) (f x) (g x) ∙ ap (λ (v : Bool). isWord p ws n x || v) (sym (e x));
+  holds = λ x. b .holds x ∙ ap (λ (v : Bool). v || g x) (a .holds x) ∙ or-assoc (isWord p ws n x) (f x) (g x) ∙ ap (λ (v : Bool). isWord p ws n x || v) (sym (e x));
 }
 
 pub added-alike : (p ws : List ℕ) (n : ℕ) (ws' : List ℕ) (n' : ℕ) (f g : List ℕ → Bool) → ((x : List ℕ) → f x ≡ g x) → Added p ws n ws' n' f → Added p ws n ws' n' g

@@ -1,3 +1,4 @@
+-- The words hold the names before u; each name adds one word at most.
 use Prim.Native.Nat.{ℕ, _+_, _-_, _≤_}
 use mathlib.Core.Path.{_≡_, refl, sym, _∙_}
 use mathlib.Core.List.{List}

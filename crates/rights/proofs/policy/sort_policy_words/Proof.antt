@@ -1,3 +1,4 @@
+-- The labels that the rules name, and the names of the subjects if some rule uses `$`.
 use mathlib.Core.Bool.{Bool, _||_}
 use mathlib.Core.List.{[]}
 use mathlib.Core.Path.{sym, _∙_, ap}

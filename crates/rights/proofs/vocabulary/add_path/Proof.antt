@@ -1,3 +1,4 @@
+-- The words hold what the steps before j name; each step adds one word at most.
 use Prim.Native.Nat.{ℕ, _+_, _-_, _≤_}
 use mathlib.Core.Bool.{false}
 use mathlib.Core.Path.{_≡_, refl, sym, _∙_}

@@ -1,3 +1,4 @@
+-- The numbers before i are written, and those from i on are as they were.
 use Prim.Native.Nat.{ℕ, _-_, _≤_}
 use mathlib.Core.Path.{_≡_, refl, _∙_}
 use native.Mathlib.Omega.{arith}

@@ -1,3 +1,4 @@
+-- A label that is found has its word's place; one that is missing stands between two words and is none of them.
 use mathlib.Core.Path.{_∙_, subst, sym}
 use native.Mathlib.Numerals.{add-one}
 use native.Mathlib.Omega.{arith}
@@ -7,15 +8,6 @@ use Rattle.rights.specs.Table.{recAt, label}
 use Rattle.rights.proofs.VocabularyLaws.{number-found, number-missing}
 use Rattle.rights.proofs.vocabulary.number_of.Statement.{statement}
 use Rattle.rights.proofs.vocabulary.number_of.Tie as tie
-
-search-requires : tie.Need-search-requires
-search-requires c κs = search needs
-
-enum-known-i : tie.Need-enum-known-i
-enum-known-i c = search needs
-
-enum-told : tie.Need-enum-told
-enum-told c = search needs
 
 returns : tie.Need-returns
 returns c =
@@ -44,4 +36,5 @@ returns-2 c =
 
 pub number-of-spec : {M : Type 1} → statement M
 number-of-spec =
-    tie.close (tie.spec search-requires enum-known-i enum-told returns add-result returns-2)
+    tie.close
+    (tie.spec (λ c κs. search needs) (λ c. search needs) (λ c. search needs) returns add-result returns-2)
