@@ -1,0 +1,15 @@
+use mathlib.Core.Path.{refl}
+use borrow.Author.Needs.{needs}
+use Rattle.rights.proofs.passes.mark_reached.Statement.{statement}
+use Rattle.rights.proofs.passes.mark_reached.Tie as tie
+
+returns : tie.Need-returns
+returns c = rw (c .before .before .before .before .if1 .taken) (λ f p. c .before .before .mark-start .ensures)
+
+returns-2 : tie.Need-returns-2
+returns-2 c = rw (c .before .before .before .before .if1 .left) (λ f p. c .before .before .mark-under .ensures f (p refl))
+
+pub mark-reached-spec : {M : Type 1} → statement M
+mark-reached-spec =
+    tie.close
+    (tie.spec (λ c κs. search needs) (λ c. search needs) returns (λ c κs. search needs) (λ c. search needs) returns-2)
