@@ -1,124 +1,227 @@
--- A form's reader, case by case, as the code goes through it. Assumes nothing.
-use Prim.Native.Nat.{ℕ, _+_, _≤_, _<_}
+-- A form's reader, turn by turn, as the code goes through it. Assumes nothing.
+use Prim.Native.Nat.{ℕ, zero, suc, _+_, _-_, _≤_, _<_}
 use mathlib.Core.Path.{_≡_, refl, sym, ap, _∙_}
-use mathlib.Core.List.{List, []}
-use mathlib.Core.Bool.{Bool, true, false, cond}
+use mathlib.Core.List.{List, [], _∷_, _++_, map, append-assoc}
+use mathlib.Core.Bool.{Bool, true, false, cond, _&&_}
 use native.Mathlib.Omega.{arith}
-use lib.Dec.{eqb, ltb}
-use lib.ListN.{length}
-use borrow.Author.Tests.{ne-eqb, lt-ltb, le-ltb}
+use native.Mathlib.Numerals.{add-one}
+use lib.Dec.{eqb, leb}
+use lib.ListN.{length, getD, set, take, drop, replicate, length-append, length-replicate, length-set}
+use lib.Seq.{take-suc-set, getD-set-same, getD-set-other}
+use borrow.Author.Tests.{ne-eqb, eqb-true, eqb-false}
 use Rattle.rights.specs.Bytes.{byteAt}
 use Rattle.rights.specs.Labels.{labelByte}
-use Rattle.rights.specs.PathReader.{runAt}
+use Rattle.rights.specs.Record.{pasted}
 use Rattle.rights.specs.declared.path.Read.{Read}
-use Rattle.rights.specs.declared.path.Read.the-variants.{At, Bad as NotRead}
+use Rattle.rights.specs.declared.path.Read.the-variants.{At, Bad}
+use Rattle.rights.proofs.Lists.{byCase}
+use Rattle.rights.proofs.PathLaws.{inside}
+use Rattle.rights.proofs.PathTexts.{and-left}
+use Rattle.rights.proofs.RecordLaws.{pasted-none}
 use Rattle.forms.specs.declared.word.Word.{Word}
 use Rattle.forms.specs.declared.form.Form.{Form}
-use Rattle.forms.specs.declared.form.Kind.{Kind}
-use Rattle.forms.specs.declared.form.Shape.{Shape}
-use Rattle.forms.specs.declared.form.PartEnds.{PartEnds}
-use Rattle.forms.specs.declared.form.PartEnds.the-variants.{Are, Bad}
-use Rattle.forms.specs.Word.{wordAt}
-use Rattle.rights.specs.Record.{pasted}
-use Rattle.rights.proofs.RecordLaws.{pasted-none}
 use Rattle.forms.specs.declared.form.Form.the-variants.{NoForm}
-use Rattle.forms.specs.Tree.{recordsOf}
-use Rattle.forms.specs.Form.{isNothing, partEnd, onePart, _onTo_, partsOf, Parts, shapeOf, treePlace, nodesAt, wordEnd, endsIn, formWith, formBy, nodesBy, readForm, treeIn}
+use Rattle.forms.specs.Word.{wordAt}
+use Rattle.forms.specs.Part.{runEnd}
+use Rattle.forms.specs.Kind.{Kind, Label, Path, Tree, Sign, Right, codeOf, isTree, partEnd, endBy}
+use Rattle.forms.specs.Tree.{_andThen_, recordsOf}
+use Rattle.forms.specs.Form.{shapeOf, codesOf, onePart, oneBy, Places, are, none, _onTo_, closes, partsOf, placeIn, treePlace, nodesAt, formWith, formBy, nodesBy, endsIn, readForm, treeIn, PartsPut}
 
-module _ (s : List ℕ) (at : ℕ) (k : Kind) where
-  pub part-absent : isNothing k ≡ true → onePart k s at ≡ At at
-  unfolding onePart
-  part-absent e = rw e
+-- A shape's kinds by their numbers
 
-  pub part-unparted : isNothing k ≡ false → (byteAt s at ≡ 32 → ⊥) → onePart k s at ≡ NotRead
-  unfolding onePart
-  part-unparted e h = rw (e, ne-eqb _ 32 h)
+pub code-end : (k : Kind) (s : List ℕ) (at : ℕ) → endBy (codeOf k) s at ≡ partEnd k s at
+unfolding endBy
+code-end Label s at = refl
+code-end Path s at = refl
+code-end Tree s at = refl
+code-end Sign s at = refl
+code-end Right s at = refl
 
-  pub part-there : isNothing k ≡ false → byteAt s at ≡ 32 → onePart k s at ≡ partEnd k s (at + 1)
-  unfolding onePart
-  part-there e h = rw (e, h)
+code-some : (k : Kind) → codeOf k ≡ 0 → ⊥
+code-some Label e = omega arith
+code-some Path e = omega arith
+code-some Tree e = omega arith
+code-some Sign e = omega arith
+code-some Right e = omega arith
 
-pub bad-parts : {want : PartEnds} {from end : ℕ} → want ≡ Bad → Parts want Bad from end
-bad-parts e = record { is = sym e; on = λ e1 e2 e3 e4 q. absurd (let z : _≡_ {A = ℕ} 0 1 = cc in omega arith) }
+pub zeros : (m j : ℕ) → getD {A = ℕ} (replicate m 0) j 0 ≡ 0
+zeros zero j = refl
+zeros (suc m) zero = refl
+zeros (suc m) (suc j) = zeros m j
 
-pub are-parts : {want : PartEnds} {from end a b d f : ℕ} → want ≡ Are a b d f → from ≤ a → a ≤ b → b ≤ d → d ≤ f → f < end → Parts want (Are a b d f) from end
-are-parts {want} {from} {end} {a} {b} {d} {f} e h1 h2 h3 h4 h5 =
-    record {
-      is = sym e;
-      on = λ e1 e2 e3 e4 q.
-          let z1 : a ≡ e1 = cc in let z2 : b ≡ e2 = cc in let z3 : d ≡ e3 = cc in let z4 : f ≡ e4 = cc in
-          (omega arith, omega arith, omega arith, omega arith, omega arith);
-    }
+-- where a number stands, a kind does; where 0 stands, the shape is over
+module _ (m : ℕ) where
+  more-at : (ks : List Kind) (i : ℕ) → (getD (map codeOf ks ++ replicate m 0) i 0 ≡ 0 → ⊥)
+      → (k : Kind) × (drop i ks ≡ k ∷ drop (suc i) ks) × (getD (map codeOf ks ++ replicate m 0) i 0 ≡ codeOf k) × (i < length ks)
+  more-at [] i h = absurd (h (zeros m i))
+  more-at (k ∷ ks) zero h = (k, refl, refl, omega arith)
+  more-at (k ∷ ks) (suc i) h = let x = more-at ks i h in (x .0, x .1, x .2, omega (arith, x .3))
 
--- the parts of a shape, one after the other
-module _ (k : Shape) (s : List ℕ) (at : ℕ) where
-  pub first-bad : onePart (k .first) s at ≡ NotRead → partsOf k s at ≡ Bad
-  unfolding partsOf
-  first-bad a = rw a
+  over-at : (ks : List Kind) (i : ℕ) → getD (map codeOf ks ++ replicate m 0) i 0 ≡ 0 → drop i ks ≡ []
+  over-at [] zero h = refl
+  over-at [] (suc i) h = refl
+  over-at (k ∷ ks) zero h = absurd (code-some k h)
+  over-at (k ∷ ks) (suc i) h = over-at ks i h
 
-  module _ (e1 : ℕ) (a : onePart (k .first) s at ≡ At e1) where
-    pub second-bad : onePart (k .second) s e1 ≡ NotRead → partsOf k s at ≡ Bad
+  length-codes : (ks : List Kind) → length (map codeOf ks) ≡ length ks
+  length-codes [] = refl
+  length-codes (k ∷ ks) = ap suc (length-codes ks)
+
+pub kind-at : (ks : List Kind) (i : ℕ) → (getD (codesOf ks) i 0 ≡ 0 → ⊥)
+    → (k : Kind) × (drop i ks ≡ k ∷ drop (suc i) ks) × (getD (codesOf ks) i 0 ≡ codeOf k) × (i < length ks)
+unfolding codesOf
+kind-at ks i h = more-at (1 + (4 - length ks)) ks i h
+
+pub kinds-over : (ks : List Kind) (i : ℕ) → getD (codesOf ks) i 0 ≡ 0 → drop i ks ≡ []
+unfolding codesOf
+kinds-over ks i h = over-at (1 + (4 - length ks)) ks i h
+
+pub few-kinds : (ks : List Kind) → length (codesOf ks) ≡ 5 → length ks ≤ 4
+unfolding codesOf
+few-kinds ks e =
+    omega (arith, e, length-append (map codeOf ks) (replicate {A = ℕ} (1 + (4 - length ks)) 0), length-codes 0 ks, length-replicate {A = ℕ} (1 + (4 - length ks)) 0)
+
+-- The places of the parts
+
+onto-none : (p : Places) → [] onTo p ≡ p
+onto-none (are es) = refl
+onto-none none = refl
+
+onto-onto : (xs ys : List ℕ) (p : Places) → (xs ++ ys) onTo p ≡ xs onTo (ys onTo p)
+onto-onto xs ys (are es) = ap are (append-assoc xs ys es)
+onto-onto xs ys none = refl
+
+-- what stands past n is 0, as it is past the end
+cut : (xs : List ℕ) (n : ℕ) → ((j : ℕ) → n ≤ j → getD xs j 0 ≡ 0) → (j : ℕ) → getD (take n xs) j 0 ≡ getD xs j 0
+cut [] zero h j = refl
+cut [] (suc n) h j = refl
+cut (x ∷ xs) zero h j = sym (h j (omega arith))
+cut (x ∷ xs) (suc n) h zero = refl
+cut (x ∷ xs) (suc n) h (suc j) = cut xs n (λ k l. h (suc k) (omega arith)) j
+
+set-under : (xs : List ℕ) (i e : ℕ) → i < length xs → ((j : ℕ) → getD xs j 0 ≤ e) → (j : ℕ) → getD (set xs i e) j 0 ≤ e
+set-under xs i e l h j =
+    byCase (eqb j i)
+    (λ b. let q = eqb-true j i b in rw q (omega (arith, getD-set-same xs i e 0 l)))
+    (λ b. omega (arith, getD-set-other xs i j e 0 (eqb-false j i b), h j))
+
+set-past : (xs : List ℕ) (i e : ℕ) → ((j : ℕ) → i ≤ j → getD xs j 0 ≡ 0) → (j : ℕ) → i + 1 ≤ j → getD (set xs i e) j 0 ≡ 0
+set-past xs i e h j l = getD-set-other xs i j e 0 (λ z. omega arith) ∙ h j (omega arith)
+
+-- i parts of the shape ks are read, up to e, and their places stand in ends
+pub record Reading (ks : List Kind) (s : List ℕ) (at e i : ℕ) (ends : List ℕ) : Type 0 where
+  pub few : i ≤ length ks
+  pub size : length ends ≡ 5
+  pub on : e ≤ length s
+  pub read : partsOf ks s at ≡ take i ends onTo partsOf (drop i ks) s e
+  pub past : (j : ℕ) → i ≤ j → placeIn ends j ≡ 0
+  pub under : (j : ℕ) → placeIn ends j ≤ e
+
+pub reading-starts : (ks : List Kind) (s : List ℕ) (at : ℕ) (ends : List ℕ) → at ≤ length s → length ends ≡ 5 → ((j : ℕ) → placeIn ends j ≡ 0) → Reading ks s at at 0 ends
+reading-starts ks s at ends l e z =
+    record { few = omega arith; size = e; on = l; read = sym (onto-none (partsOf ks s at)); past = λ j _. z j; under = λ j. omega (arith, z j) }
+
+module _ (ks : List Kind) (s : List ℕ) (at e i : ℕ) (ends : List ℕ) (w : Reading ks s at e i ends) where
+  module _ (h : getD (codesOf ks) i 0 ≡ 0 → ⊥) where
+    one-at : oneBy (getD (codesOf ks) i 0) s e ≡ onePart (kind-at ks i h .0) s e
+    one-at = let x = kind-at ks i h in rw (x .2, code-end (x .0) s (e + 1))
+
+    pub part-missing : oneBy (getD (codesOf ks) i 0) s e ≡ Bad → partsOf ks s at ≡ none
     unfolding partsOf
-    second-bad b = rw (a, b)
+    part-missing b =
+        let x = kind-at ks i h in
+        let o = sym one-at ∙ b in
+        w .read ∙ rw (x .1, o)
 
-    module _ (e2 : ℕ) (b : onePart (k .second) s e1 ≡ At e2) where
-      pub third-bad : onePart (k .third) s e2 ≡ NotRead → partsOf k s at ≡ Bad
-      unfolding partsOf
-      third-bad d = rw (a, b, d)
+    pub part-taken : (n : ℕ) → oneBy (getD (codesOf ks) i 0) s e ≡ At n → e ≤ n → n ≤ length s → i < 5 → Reading ks s at n (i + 1) (set ends i e)
+    unfolding partsOf
+    part-taken n b l m f =
+        let x = kind-at ks i h in
+        let o = sym one-at ∙ b in
+        let g = w .size in
+        let t : take (suc i) (set ends i e) ≡ take i ends ++ (e ∷ []) = take-suc-set ends i e (omega arith) in
+        record {
+          few = omega (arith, x .3);
+          size = length-set ends i e ∙ g;
+          on = m;
+          read = w .read ∙ rw (x .1, o, add-one i, t) (sym (onto-onto (take i ends) (e ∷ []) (partsOf (drop (suc i) ks) s n)));
+          past = set-past ends i e (w .past);
+          under = λ j. omega (arith, set-under ends i e (omega arith) (w .under) j);
+        }
 
-      module _ (e3 : ℕ) (d : onePart (k .third) s e2 ≡ At e3) where
-        pub fourth-bad : onePart (k .fourth) s e3 ≡ NotRead → partsOf k s at ≡ Bad
-        unfolding partsOf
-        fourth-bad f = rw (a, b, d, f)
+  -- the shape is over, and `)` ends the line or does not
+  pub parts-over : getD (codesOf ks) i 0 ≡ 0 → i < 5 → (r : Bool) → r ≡ closes s e → PartsPut (partsOf ks s at) r (set ends i e) (length s)
+  unfolding partsOf
+  parts-over h f r q =
+      let g = w .size in
+      let z = kinds-over ks i h in
+      let t : take (suc i) (set ends i e) ≡ take i ends ++ (e ∷ []) = take-suc-set ends i e (omega arith) in
+      record {
+        there = λ y. (
+          take i ends ++ (e ∷ []),
+          w .read ∙ rw (z, sym q ∙ y),
+          λ j. ap (λ (xs : List ℕ). getD xs j 0) (sym t) ∙ cut (set ends i e) (suc i) (λ k l. set-past ends i e (w .past) k (omega arith)) j,
+        );
+        missing = λ y. w .read ∙ rw (z, sym q ∙ y);
+        inside = λ y j. omega (arith, set-under ends i e (omega arith) (w .under) j, inside s e 41 (omega arith) (eqb-true _ _ (and-left (eqb (byteAt s e) 41) (leb (length s) (e + 1)) (sym q ∙ y))));
+      }
 
-        module _ (e4 : ℕ) (f : onePart (k .fourth) s e3 ≡ At e4) where
-          pub unclosed : (byteAt s e4 ≡ 41 → ⊥) → partsOf k s at ≡ Bad
-          unfolding partsOf
-          unclosed h = rw (a, b, d, f, ne-eqb _ 41 h)
+pub parts-none : {want : Places} {ends : List ℕ} {end : ℕ} → want ≡ none → PartsPut want false ends end
+parts-none e = record { there = λ y. absurd (let z : _≡_ {A = ℕ} 0 1 = cc in omega arith); missing = λ _. e; inside = λ y. absurd (let z : _≡_ {A = ℕ} 0 1 = cc in omega arith) }
 
-          pub more-follows : byteAt s e4 ≡ 41 → e4 + 1 < length s → partsOf k s at ≡ Bad
-          unfolding partsOf
-          more-follows h l = rw (a, b, d, f, h, lt-ltb _ _ l)
+-- The tree's place
 
-          pub closed : byteAt s e4 ≡ 41 → length s ≤ e4 + 1 → partsOf k s at ≡ Are e1 e2 e3 e4
-          unfolding partsOf
-          closed h l = rw (a, b, d, f, h, le-ltb _ _ l)
+module _ (ks : List Kind) (i : ℕ) (p : ℕ → ℕ) where
+  pub tree-here : getD (codesOf ks) i 0 ≡ 3 → treePlace (drop i ks) i p ≡ At (p i + 1)
+  unfolding treePlace
+  tree-here e =
+      let x = kind-at ks i (λ z. omega arith) in
+      let c : codeOf (x .0) ≡ 3 = sym (x .2) ∙ e in
+      rw (x .1, c)
 
--- a line that does not begin with `(` is refused; of another, the form and its tree are those of its parts
-module _ (s : List ℕ) where
-  pub unbegun-form : (byteAt s 0 ≡ 40 → ⊥) → readForm s ≡ formBy (wordAt s 1) s (wordEnd s) Bad
-  unfolding readForm endsIn
-  unbegun-form h = rw (ne-eqb _ 40 h)
+  pub tree-later : (getD (codesOf ks) i 0 ≡ 0 → ⊥) → (getD (codesOf ks) i 0 ≡ 3 → ⊥) → treePlace (drop i ks) i p ≡ treePlace (drop (suc i) ks) (suc i) p
+  unfolding treePlace
+  tree-later h n =
+      let x = kind-at ks i h in
+      rw (x .1, ne-eqb (codeOf (x .0)) 3 (λ z. n (x .2 ∙ z)))
 
-  pub unbegun-tree : (byteAt s 0 ≡ 40 → ⊥) → treeIn s ≡ []
-  unfolding treeIn endsIn
-  unbegun-tree h = rw (ne-eqb _ 40 h)
+  pub tree-none : getD (codesOf ks) i 0 ≡ 0 → treePlace (drop i ks) i p ≡ Bad
+  unfolding treePlace
+  tree-none h = rw (kinds-over ks i h)
 
-  module _ (w : Word) (e : ℕ) (k : Shape) (r : PartEnds) (h : byteAt s 0 ≡ 40) (a : w ≡ wordAt s 1) (b : e ≡ 1 + runAt labelByte s 1) (d : k ≡ shapeOf w) (f : r ≡ partsOf k s e) where
-    pub begun-form : readForm s ≡ formBy w s e r
-    unfolding readForm endsIn
-    begun-form = rw (h, f, d, a, b)
+-- What the code promises of a refused line, and of one that is read
 
-    pub begun-tree : treeIn s ≡ nodesBy w s e r
-    unfolding treeIn endsIn
-    begun-tree = rw (h, f, d, a, b)
-
--- what the code promises of a refused line, and of one that is read
 module _ (s d : List ℕ) where
-  pub refused-first : (byteAt s 0 ≡ 40 → ⊥) → (NoForm ≡ readForm s) × (d ≡ pasted d 0 (recordsOf (treeIn s)))
-  unfolding recordsOf
-  refused-first h = (sym (unbegun-form s h), rw (unbegun-tree s h) (pasted-none d 0))
+  refused : endsIn s ≡ none → (NoForm ≡ readForm s) × (d ≡ pasted d 0 (recordsOf (treeIn s)))
+  unfolding readForm treeIn recordsOf
+  refused e = (rw e, rw e (pasted-none d 0))
 
-  module _ (w : Word) (e : ℕ) (k : Shape) (r : PartEnds) (h : byteAt s 0 ≡ 40) (a : w ≡ wordAt s 1) (b : e ≡ 1 + runAt labelByte s 1) (x : k ≡ shapeOf w) (f : r ≡ partsOf k s e) where
-    pub refused-parts : r ≡ Bad → (NoForm ≡ readForm s) × (d ≡ pasted d 0 (recordsOf (treeIn s)))
-    unfolding recordsOf
-    refused-parts q = (sym (begun-form s w e k r h a b x f ∙ rw q), rw (begun-tree s w e k r h a b x f, q) (pasted-none d 0))
+  pub unbegun : (byteAt s 0 ≡ 40 → ⊥) → (NoForm ≡ readForm s) × (d ≡ pasted d 0 (recordsOf (treeIn s)))
+  unfolding endsIn
+  unbegun h = refused (rw (ne-eqb _ 40 h))
 
-    pub read-parts : (e1 e2 e3 e4 n : ℕ) (place : Read) (form : Form) (after : List ℕ) → r ≡ Are e1 e2 e3 e4 → place ≡ treePlace k e e1
-        → (n ≡ length (nodesAt s place)) × (after ≡ pasted d 0 (recordsOf (nodesAt s place))) → form ≡ formWith w s e e1 e2 e3 e4 n
-        → (form ≡ readForm s) × (after ≡ pasted d 0 (recordsOf (treeIn s)))
-    read-parts e1 e2 e3 e4 n place form after q p g y =
-        let z : place ≡ treePlace (shapeOf w) e e1 = rw x at p in (
-          y ∙ ap (formWith w s e e1 e2 e3 e4) (g .0 ∙ ap (λ (j : Read). length (nodesAt s j)) z) ∙ sym (begun-form s w e k r h a b x f ∙ rw q),
-          g .1 ∙ ap (λ (j : Read). pasted d 0 (recordsOf (nodesAt s j))) z ∙ sym (rw (begun-tree s w e k r h a b x f, q)),
-        )
+  module _ (h : byteAt s 0 ≡ 40) where
+    pub wordless : runEnd labelByte s 1 ≡ Bad → (NoForm ≡ readForm s) × (d ≡ pasted d 0 (recordsOf (treeIn s)))
+    unfolding endsIn
+    wordless e = refused (rw (h, e))
+
+    module _ (e : ℕ) (w : Word) (a : runEnd labelByte s 1 ≡ At e) (b : w ≡ wordAt s 1) where
+      ends-parts : endsIn s ≡ partsOf (shapeOf w) s e
+      unfolding endsIn
+      ends-parts = rw (h, a, b)
+
+      pub partless : partsOf (shapeOf w) s e ≡ none → (NoForm ≡ readForm s) × (d ≡ pasted d 0 (recordsOf (treeIn s)))
+      partless q = refused (ends-parts ∙ q)
+
+      pub read-parts : (ends es : List ℕ) → partsOf (shapeOf w) s e ≡ are es → ((i : ℕ) → placeIn es i ≡ placeIn ends i)
+          → (n : ℕ) (place : Read) (form : Form) (after : List ℕ) → place ≡ treePlace (shapeOf w) 0 (placeIn ends)
+          → (n ≡ length (nodesAt s place)) × (after ≡ pasted d 0 (recordsOf (nodesAt s place))) → form ≡ formWith w s (placeIn ends) n
+          → (form ≡ readForm s) × (after ≡ pasted d 0 (recordsOf (treeIn s)))
+      unfolding readForm treeIn
+      read-parts ends es q same n place form after p g y =
+          let f : placeIn ends ≡ placeIn es = λ t i. sym (same i) t in
+          let z : place ≡ treePlace (shapeOf (wordAt s 1)) 0 (placeIn es) = p ∙ rw (f, b) in
+          let x : endsIn s ≡ are es = ends-parts ∙ q in (
+            y ∙ rw (x, f, b, g .0, z),
+            g .1 ∙ rw (x, z),
+          )

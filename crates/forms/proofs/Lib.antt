@@ -3,6 +3,5 @@ pub mod PartLaws
 pub mod TreeLaws
 pub mod ReaderLaws
 pub mod FormLaws
-pub mod TreeWritten
-pub mod FormWritten
-pub mod FormPlaces
+pub mod TreeTextLaws
+pub mod FormTextLaws

@@ -4,15 +4,17 @@ use mathlib.Core.Path.{_≡_, refl, sym, ap, _∙_}
 use mathlib.Core.List.{List}
 use mathlib.Core.Bool.{Bool, true, false, cond}
 use native.Mathlib.Omega.{arith}
-use lib.Dec.{eqb}
-use borrow.Author.Tests.{le-leb, lt-leb, ne-eqb}
+use lib.Dec.{eqb, leb}
+use lib.ListN.{length}
+use borrow.Author.Tests.{le-leb, lt-leb, leb-true, leb-false, ne-eqb}
 use Rattle.rights.specs.Bytes.{byteAt}
 use Rattle.rights.specs.Labels.{labelByte}
-use Rattle.rights.specs.PathReader.{runAt}
+use Rattle.rights.specs.PathReader.{runAt, Onward, Ends}
 use Rattle.rights.specs.declared.path.Read.{Read}
 use Rattle.rights.specs.declared.path.Read.the-variants.{At, Bad}
-use Rattle.forms.specs.Word.{signAt, rightAt}
-use Rattle.forms.specs.Part.{pathByte, labelEnd, pathEnd, isSign, signEnd, rightEnd}
+use Rattle.rights.proofs.Lists.{byCase}
+use Rattle.rights.proofs.PathLaws.{bad-onward, at-onward}
+use Rattle.forms.specs.Part.{labelEnd, runEnd, knownEnd, movedTo}
 use Rattle.forms.specs.Tree.{openEnd}
 
 module _ (s : List ℕ) (at n : ℕ) (e : n ≡ runAt labelByte s at) where
@@ -28,30 +30,23 @@ module _ (s : List ℕ) (at n : ℕ) (e : n ≡ runAt labelByte s at) where
   unfolding labelEnd
   label-good l m = rw (← e, le-leb 1 n l, le-leb n 24 m)
 
+-- a run that reading moved over
+pub moved-run : (f : ℕ → Bool) (s : List ℕ) (at e : ℕ) → Ends f s at e → Onward (runEnd f s at) (movedTo at e) (at + 1) (length s)
+unfolding runEnd
+moved-run f s at e x =
+    let q = x .is in
+    byCase (leb e at)
+    (λ b. rw (b, lt-leb 1 (runAt f s at) (omega (arith, leb-true e at b))) (bad-onward (at + 1) (length s) refl))
+    (λ b. rw (b, le-leb 1 (runAt f s at) (omega (arith, leb-false e at b))) (at-onward (at + 1) (length s) e (ap At (sym q)) (omega (arith, leb-false e at b)) (x .to)))
+
 module _ (s : List ℕ) (at : ℕ) where
-  pub path-none : runAt pathByte s at < 1 → pathEnd s at ≡ Bad
-  unfolding pathEnd
-  path-none l = rw (lt-leb 1 (runAt pathByte s at) l)
+  pub known-none : (n : ℕ) → n ≡ 0 → knownEnd n s at ≡ Bad
+  unfolding knownEnd
+  known-none n e = rw e
 
-  pub path-good : 1 ≤ runAt pathByte s at → pathEnd s at ≡ At (at + runAt pathByte s at)
-  unfolding pathEnd
-  path-good l = rw (le-leb 1 (runAt pathByte s at) l)
-
-  pub sign-none : isSign (signAt s at) ≡ false → signEnd s at ≡ Bad
-  unfolding signEnd
-  sign-none e = rw e
-
-  pub sign-good : isSign (signAt s at) ≡ true → signEnd s at ≡ At (at + runAt labelByte s at)
-  unfolding signEnd
-  sign-good e = rw e
-
-  pub right-none : rightAt s at ≡ 0 → rightEnd s at ≡ Bad
-  unfolding rightEnd
-  right-none e = rw e
-
-  pub right-good : (rightAt s at ≡ 0 → ⊥) → rightEnd s at ≡ At (at + runAt labelByte s at)
-  unfolding rightEnd
-  right-good e = rw (ne-eqb (rightAt s at) 0 e)
+  pub known-some : (n : ℕ) → (n ≡ 0 → ⊥) → knownEnd n s at ≡ runEnd labelByte s at
+  unfolding knownEnd
+  known-some n e = rw (ne-eqb n 0 e)
 
   pub open-not : (byteAt s at ≡ 40 → ⊥) → openEnd s at ≡ Bad
   unfolding openEnd

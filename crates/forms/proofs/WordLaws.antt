@@ -3,6 +3,7 @@ use Prim.Native.Nat.{ℕ, zero, suc, _+_, _-_, _*_, _^_, _≤_, _<_}
 use mathlib.Core.Path.{_≡_, refl, sym, ap, _∙_}
 use mathlib.Core.List.{List, [], _∷_}
 use mathlib.Core.Bool.{Bool, true, false, cond, _&&_, _||_}
+use mathlib.Core.Logic.{_⊎_, inl, inr}
 use native.Mathlib.Nat.{pow-succ', pow-le-pow-right}
 use native.Mathlib.Numerals.{add-one}
 use native.Mathlib.Omega.{arith}
@@ -140,3 +141,10 @@ unfolding among
 among-is R other [] s g o = o
 among-is R other ((w, x) ∷ rest) s g o =
     byCase (sameText s w) (λ e. rw (e, same-equal s w e) (g .0)) (λ e. rw e (among-is R other rest s (g .1) o))
+
+pub among-or : {A : Type 0} (R : A → List ℕ → Type 0) (other : A) (t : List (List ℕ × A)) (s : List ℕ) → Every R t → (among other t s ≡ other) ⊎ R (among other t s) s
+among-or {A} R other t s g = among-is (λ x w. (x ≡ other) ⊎ R x w) other t s (every t g) (inl refl)
+  where
+    every : (t : List (List ℕ × A)) → Every R t → Every (λ x w. (x ≡ other) ⊎ R x w) t
+    every [] g = tt
+    every ((w, x) ∷ rest) g = (inr (g .0), every rest (g .1))

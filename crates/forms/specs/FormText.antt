@@ -1,37 +1,36 @@
--- How a line is written (document 01, "Lines"), and which forms may be written.
+-- How a line is written (document 01, "Lines"), and which lines may be written.
 use Prim.Native.Nat.{ℕ, _≤_}
 use mathlib.Core.Path.{_≡_}
-use mathlib.Core.Bool.{Bool, true, false, cond}
+use mathlib.Core.Bool.{Bool, true, cond}
 use mathlib.Core.List.{List, [], _∷_, _++_}
 use lib.ListN.{length}
 use Rattle.rights.specs.Bytes.{all}
 use Rattle.rights.specs.Policy.{Right, position, read, insert, update, delete}
+use Rattle.rights.specs.Nodes.{Node}
 use Rattle.forms.specs.declared.word.Word.{Word}
-use Rattle.forms.specs.declared.word.Word.the-variants as word
 use Rattle.forms.specs.Word.{letters, accept, deny}
 use Rattle.forms.specs.Part.{pathByte}
-use Rattle.forms.specs.TreeText.{Tree, writeTree, GoodTree, GoodLabel}
+use Rattle.forms.specs.Kind.{Kind}
+use Rattle.forms.specs.Kind as kind
+use Rattle.forms.specs.Form.{shapeOf}
+use Rattle.forms.specs.TreeText.{Tree, writeTree, GoodTree, GoodLabel, nodesOf}
 
--- What a line says: names, labels and paths as texts, accept as true
-pub data Said : Type 0 where
-  subject : List ℕ → Said
-  isa : List ℕ → List ℕ → Said
-  rule : Bool → Right → List ℕ → List ℕ → Said
-  root : List ℕ → Said
-  child : Tree → Said
-  user : List ℕ → Said
-  view : Said
-  query find : List ℕ → Said
-  rename update-children : List ℕ → List ℕ → Said
-  append before after : List ℕ → Tree → Said
-  remove : List ℕ → Said
+-- What a part of each kind says: a label or a path its text, a tree, whether a sign accepts, a right
+abbrev pub Value : Kind → Type 0
+Value kind.Label = List ℕ
+Value kind.Path = List ℕ
+Value kind.Tree = Tree
+Value kind.Sign = Bool
+Value kind.Right = Right
 
--- the parts of a line
-pub data Piece : Type 0 where
-  label path : List ℕ → Piece
-  tree : Tree → Piece
-  sign : Bool → Piece
-  right : Right → Piece
+abbrev pub Values : List Kind → Type 0
+Values [] = Unit {0}
+Values (k ∷ ks) = Value k × Values ks
+
+-- What a line says: a form by its word, and what its parts say
+pub record Said : Type 0 where
+  pub word : Word
+  pub values : Values (shapeOf word)
 
 unfoldable pub writeRight : Right → List ℕ
 writeRight position = 112 ∷ 111 ∷ 115 ∷ 105 ∷ 116 ∷ 105 ∷ 111 ∷ 110 ∷ []
@@ -40,69 +39,47 @@ writeRight insert = 105 ∷ 110 ∷ 115 ∷ 101 ∷ 114 ∷ 116 ∷ []
 writeRight update = 117 ∷ 112 ∷ 100 ∷ 97 ∷ 116 ∷ 101 ∷ []
 writeRight delete = 100 ∷ 101 ∷ 108 ∷ 101 ∷ 116 ∷ 101 ∷ []
 
-unfoldable pub writePiece : Piece → List ℕ
-writePiece (label l) = l
-writePiece (path p) = p
-writePiece (tree t) = writeTree t
-writePiece (sign b) = cond b accept deny
-writePiece (right r) = writeRight r
-
--- "any run of one or more bytes without space or parenthesis passes as a path"
-unfoldable pub GoodPiece : Piece → Type 0
-GoodPiece (label l) = GoodLabel l
-GoodPiece (path p) = (1 ≤ length p) × (all pathByte p ≡ true)
-GoodPiece (tree t) = GoodTree t
-GoodPiece (sign b) = Unit {0}
-GoodPiece (right r) = Unit {0}
-
--- the word and the parts of each form
-abbrev pub wordIn : Said → Word
-wordIn (subject n) = word.Subject
-wordIn (isa n r) = word.Isa
-wordIn (rule b r p n) = word.Rule
-wordIn (root l) = word.Root
-wordIn (child t) = word.Child
-wordIn (user n) = word.User
-wordIn view = word.View
-wordIn (query p) = word.Query
-wordIn (find p) = word.Find
-wordIn (rename p l) = word.Rename
-wordIn (update-children p l) = word.Update
-wordIn (append p t) = word.Append
-wordIn (before p t) = word.Before
-wordIn (after p t) = word.After
-wordIn (remove p) = word.Remove
-
-abbrev pub piecesIn : Said → List Piece
-piecesIn (subject n) = label n ∷ []
-piecesIn (isa n r) = label n ∷ label r ∷ []
-piecesIn (rule b r p n) = sign b ∷ right r ∷ path p ∷ label n ∷ []
-piecesIn (root l) = label l ∷ []
-piecesIn (child t) = tree t ∷ []
-piecesIn (user n) = label n ∷ []
-piecesIn view = []
-piecesIn (query p) = path p ∷ []
-piecesIn (find p) = path p ∷ []
-piecesIn (rename p l) = path p ∷ label l ∷ []
-piecesIn (update-children p l) = path p ∷ label l ∷ []
-piecesIn (append p t) = path p ∷ tree t ∷ []
-piecesIn (before p t) = path p ∷ tree t ∷ []
-piecesIn (after p t) = path p ∷ tree t ∷ []
-piecesIn (remove p) = path p ∷ []
+unfoldable pub writeValue : (k : Kind) → Value k → List ℕ
+writeValue kind.Label l = l
+writeValue kind.Path p = p
+writeValue kind.Tree t = writeTree t
+writeValue kind.Sign b = cond b accept deny
+writeValue kind.Right r = writeRight r
 
 -- "Parts are parted by one space; no other spaces."
-abbrev pub writePieces : List Piece → List ℕ
-writePieces [] = 41 ∷ []
-writePieces (p ∷ ps) = 32 ∷ (writePiece p ++ writePieces ps)
+abbrev pub writeValues : (ks : List Kind) → Values ks → List ℕ
+writeValues [] vs = 41 ∷ []
+writeValues (k ∷ ks) (v, vs) = 32 ∷ (writeValue k v ++ writeValues ks vs)
 
 -- `(`, the word, the parts, `)`
 unfoldable pub write : Said → List ℕ
-write f = 40 ∷ (letters (wordIn f) ++ writePieces (piecesIn f))
+write f = 40 ∷ (letters (f .word) ++ writeValues (shapeOf (f .word)) (f .values))
 
-abbrev pub GoodPieces : List Piece → Type 0
-GoodPieces [] = Unit {0}
-GoodPieces (p ∷ ps) = GoodPiece p × GoodPieces ps
+-- "any run of one or more bytes without space or parenthesis passes as a path"
+unfoldable pub GoodValue : (k : Kind) → Value k → Type 0
+GoodValue kind.Label l = GoodLabel l
+GoodValue kind.Path p = (1 ≤ length p) × (all pathByte p ≡ true)
+GoodValue kind.Tree t = GoodTree t
+GoodValue kind.Sign b = Unit {0}
+GoodValue kind.Right r = Unit {0}
 
--- A form that may be written
-abbrev pub Good : Said → Type 0
-Good f = GoodPieces (piecesIn f)
+abbrev pub GoodValues : (ks : List Kind) → Values ks → Type 0
+GoodValues [] vs = Unit {0}
+GoodValues (k ∷ ks) (v, vs) = GoodValue k v × GoodValues ks vs
+
+-- What may be written: a word of a form, which has letters, and good parts
+pub record Good (f : Said) : Type 0 where
+  pub word : 1 ≤ length (letters (f .word))
+  pub values : GoodValues (shapeOf (f .word)) (f .values)
+
+-- the nodes of a line's tree
+unfoldable pub nodesOr : (k : Kind) → Value k → List Node → List Node
+nodesOr kind.Label l ns = ns
+nodesOr kind.Path p ns = ns
+nodesOr kind.Tree t ns = nodesOf 0 t
+nodesOr kind.Sign b ns = ns
+nodesOr kind.Right r ns = ns
+
+abbrev pub nodesSaid : (ks : List Kind) → Values ks → List Node
+nodesSaid [] vs = []
+nodesSaid (k ∷ ks) (v, vs) = nodesOr k v (nodesSaid ks vs)

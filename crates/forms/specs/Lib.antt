@@ -2,6 +2,7 @@ pub mod Text
 pub mod Word
 pub mod Part
 pub mod Tree
+pub mod Kind
 pub mod Reader
 pub mod Form
 pub mod TreeText

@@ -1,6 +1,6 @@
 -- Where the parts of a line end (document 01, "Lines"; for refusal 2 "any run of one or more bytes without space or parenthesis passes as a path").
 use Prim.Native.Nat.{ℕ, _+_}
-use mathlib.Core.Bool.{Bool, true, false, cond, _&&_, _||_}
+use mathlib.Core.Bool.{Bool, cond, _&&_, _||_}
 use mathlib.Core.List.{List}
 use lib.Dec.{leb, eqb}
 use Rattle.rights.specs.Bytes.{within}
@@ -8,9 +8,6 @@ use Rattle.rights.specs.Labels.{labelByte}
 use Rattle.rights.specs.PathReader.{runAt}
 use Rattle.rights.specs.declared.path.Read.{Read}
 use Rattle.rights.specs.declared.path.Read.the-variants.{At, Bad}
-use Rattle.forms.specs.declared.word.Sign.{Sign}
-use Rattle.forms.specs.declared.word.Sign.the-variants.{Accept, Deny, NoSign}
-use Rattle.forms.specs.Word.{signAt, rightAt}
 
 -- 33 to 126 without the parentheses 40 and 41
 unfoldable pub pathByte : ℕ → Bool
@@ -21,24 +18,14 @@ unfoldable pub labelEnd : List ℕ → ℕ → Read
 labelEnd s at =
     cond (leb 1 (runAt labelByte s at) && leb (runAt labelByte s at) 24) (At (at + runAt labelByte s at)) Bad
 
--- one byte or more
-unfoldable pub pathEnd : List ℕ → ℕ → Read
-pathEnd s at = cond (leb 1 (runAt pathByte s at)) (At (at + runAt pathByte s at)) Bad
+-- one byte or more of a class: a path's bytes, or a word's, which are label bytes
+unfoldable pub runEnd : (ℕ → Bool) → List ℕ → ℕ → Read
+runEnd f s at = cond (leb 1 (runAt f s at)) (At (at + runAt f s at)) Bad
 
--- accept or deny
-abbrev pub isSign : Sign → Bool
-isSign Accept = true
-isSign Deny = true
-isSign NoSign = false
+-- a word that a table has as n; 0 says that it has none
+unfoldable pub knownEnd : ℕ → List ℕ → ℕ → Read
+knownEnd n s at = cond (eqb n 0) Bad (runEnd labelByte s at)
 
-abbrev pub isAccept : Sign → Bool
-isAccept Accept = true
-isAccept Deny = false
-isAccept NoSign = false
-
-unfoldable pub signEnd : List ℕ → ℕ → Read
-signEnd s at = cond (isSign (signAt s at)) (At (at + runAt labelByte s at)) Bad
-
--- one of the five rights
-unfoldable pub rightEnd : List ℕ → ℕ → Read
-rightEnd s at = cond (eqb (rightAt s at) 0) Bad (At (at + runAt labelByte s at))
+-- the place that reading came to, if it moved on
+abbrev pub movedTo : ℕ → ℕ → Read
+movedTo from to = cond (leb to from) Bad (At to)

@@ -1,8 +1,6 @@
 -- Reading a line "from a place that only moves on" (document 01, "Lines").
 use Prim.Native.Nat.{ℕ, _+_, _≤_}
 use mathlib.Core.Path.{_≡_}
-use mathlib.Core.Bool.{cond}
-use lib.Dec.{leb}
 use Rattle.rights.specs.declared.path.Read.{Read}
 use Rattle.rights.specs.declared.path.Read.the-variants.{At, Bad}
 
@@ -10,10 +8,6 @@ use Rattle.rights.specs.declared.path.Read.the-variants.{At, Bad}
 abbrev pub placeAfter : ℕ → Read → ℕ
 placeAfter from (At i) = i
 placeAfter from Bad = from
-
--- the place that a reader came to, if it moved on
-abbrev pub movedTo : ℕ → ℕ → Read
-movedTo from to = cond (leb to from) Bad (At to)
 
 -- What a reader promises that takes a part: it stands after the part, or where it stood if there is none. Its place never falls and stays within the line,
 -- and a part is one byte or more.

@@ -9,8 +9,6 @@ use Rattle.rights.specs.PathReader.{runAt}
 use Rattle.rights.specs.Policy.{bitOf, position, read, insert, update, delete}
 use Rattle.forms.specs.declared.word.Word.{Word}
 use Rattle.forms.specs.declared.word.Word.the-variants.{Subject, Isa, Rule, Root, Child, User, View, Query, Find, Rename, Update, Append, Before, After, Remove, Other}
-use Rattle.forms.specs.declared.word.Sign.{Sign}
-use Rattle.forms.specs.declared.word.Sign.the-variants.{Accept, Deny, NoSign}
 
 -- how each form's word is written
 abbrev pub letters : Word → List ℕ
@@ -57,8 +55,8 @@ words =
     ∷ (letters Remove, Remove)
     ∷ []
 
-abbrev pub signs : List (List ℕ × Sign)
-signs = (accept, Accept) ∷ (deny, Deny) ∷ []
+abbrev pub signs : List (List ℕ × ℕ)
+signs = (accept, 1) ∷ (deny, 2) ∷ []
 
 -- position, read, insert, update, delete
 abbrev pub rights : List (List ℕ × ℕ)
@@ -86,12 +84,12 @@ among other ((w, x) ∷ rest) s = cond (sameText s w) x (among other rest s)
 abbrev pub labelAt : List ℕ → ℕ → List ℕ
 labelAt s at = take (runAt labelByte s at) (drop at s)
 
--- the word, the sign and the right's bit that they write
+-- the word that they write; the sign's number and the right's bit, and 0 if they write none
 unfoldable pub wordAt : List ℕ → ℕ → Word
 wordAt s at = among Other words (labelAt s at)
 
-unfoldable pub signAt : List ℕ → ℕ → Sign
-signAt s at = among NoSign signs (labelAt s at)
+unfoldable pub signAt : List ℕ → ℕ → ℕ
+signAt s at = among 0 signs (labelAt s at)
 
 unfoldable pub rightAt : List ℕ → ℕ → ℕ
 rightAt s at = among 0 rights (labelAt s at)

@@ -1,24 +1,25 @@
 // Reading a line's form (document 01, "Lines"): its word, then the parts of the word's shape.
-use crate::reader::next_label;
-use crate::reader::next_path;
-use crate::reader::next_tree;
-use crate::reader::next_word;
+use crate::kind::END;
+use crate::kind::LABEL;
+use crate::kind::PATH;
+use crate::kind::RIGHT;
+use crate::kind::SIGN;
+use crate::kind::TREE;
+use crate::kind::WORD;
+use crate::reader::next_part;
 use crate::tree::put_tree;
 use crate::word::Word;
-use crate::word::is_accept;
 use crate::word::right_at;
-use crate::word::right_end;
 use crate::word::sign_at;
-use crate::word::sign_end;
 use crate::word::word_at;
 use rights::path::Read;
 ghost use mathlib.Core.Path.{_≡_};
-ghost use Prim.Native.Nat.{_+_, _*_, _^_, _≤_, _<_};
+ghost use Prim.Native.Nat.{ℕ, _+_, _*_, _^_, _≤_, _<_};
 ghost use lib.ListN.{length};
 ghost use Rattle.rights.specs.PathReader.{Onward};
 ghost use Rattle.rights.specs.Record.{pasted};
 ghost use Rattle.forms.specs.Tree.{recordsOf};
-ghost use Rattle.forms.specs.Form.{shape, shapeOf, isNothing, isTree, partEnd, onePart, partsOf, Parts, nodesAt, treePlace, ruleWith, formWith, readForm, treeIn};
+ghost use Rattle.forms.specs.Form.{shapeOf, codesOf, oneBy, closes, partsOf, placeIn, partAt, PartsPut, nodesAt, treePlace, formWith, readForm, treeIn};
 
 // The bytes of the line from `at` up to `end`.
 pub struct Part {
@@ -48,167 +49,89 @@ pub enum Form {
     NoForm,
 }
 
-// What a part of a form is.
-pub enum Kind {
-    Label,
-    Path,
-    Tree,
-    Sign,
-    Right,
-    Nothing,
-}
-
-// The parts of a form, in order.
-pub struct Shape {
-    pub first: Kind,
-    pub second: Kind,
-    pub third: Kind,
-    pub fourth: Kind,
-}
-
-// The places after the parts.
-enum PartEnds {
-    Are(usize, usize, usize, usize),
-    Bad,
-}
-
-fn shaped(first: Kind, second: Kind, third: Kind, fourth: Kind) -> Shape
-    ensures { λ r. ⌜ r ≡ shape first second third fourth ⌝ }
-{
-    Shape {
-        first,
-        second,
-        third,
-        fourth,
-    }
-}
-
-fn shape_of(w: Word) -> Shape
-    ensures { λ r. ⌜ r ≡ shapeOf w ⌝ }
+// The kinds of the parts of a form, in order.
+fn shape_of(w: Word) -> [u8; 5]
+    ensures { λ r. ⌜ (r ≡ codesOf (shapeOf w)) × (length r ≡ 5) ⌝ }
 {
     match w {
-        Word::Subject => shaped(Kind::Label, Kind::Nothing, Kind::Nothing, Kind::Nothing),
-        Word::Isa => shaped(Kind::Label, Kind::Label, Kind::Nothing, Kind::Nothing),
-        Word::Rule => shaped(Kind::Sign, Kind::Right, Kind::Path, Kind::Label),
-        Word::Root => shaped(Kind::Label, Kind::Nothing, Kind::Nothing, Kind::Nothing),
-        Word::Child => shaped(Kind::Tree, Kind::Nothing, Kind::Nothing, Kind::Nothing),
-        Word::User => shaped(Kind::Label, Kind::Nothing, Kind::Nothing, Kind::Nothing),
-        Word::Query => shaped(Kind::Path, Kind::Nothing, Kind::Nothing, Kind::Nothing),
-        Word::Find => shaped(Kind::Path, Kind::Nothing, Kind::Nothing, Kind::Nothing),
-        Word::Rename => shaped(Kind::Path, Kind::Label, Kind::Nothing, Kind::Nothing),
-        Word::Update => shaped(Kind::Path, Kind::Label, Kind::Nothing, Kind::Nothing),
-        Word::Append => shaped(Kind::Path, Kind::Tree, Kind::Nothing, Kind::Nothing),
-        Word::Before => shaped(Kind::Path, Kind::Tree, Kind::Nothing, Kind::Nothing),
-        Word::After => shaped(Kind::Path, Kind::Tree, Kind::Nothing, Kind::Nothing),
-        Word::Remove => shaped(Kind::Path, Kind::Nothing, Kind::Nothing, Kind::Nothing),
-        Word::View => shaped(Kind::Nothing, Kind::Nothing, Kind::Nothing, Kind::Nothing),
-        Word::Other => shaped(Kind::Nothing, Kind::Nothing, Kind::Nothing, Kind::Nothing),
+        Word::Subject => [LABEL, END, END, END, END],
+        Word::Isa => [LABEL, LABEL, END, END, END],
+        Word::Rule => [SIGN, RIGHT, PATH, LABEL, END],
+        Word::Root => [LABEL, END, END, END, END],
+        Word::Child => [TREE, END, END, END, END],
+        Word::User => [LABEL, END, END, END, END],
+        Word::View => [END, END, END, END, END],
+        Word::Query => [PATH, END, END, END, END],
+        Word::Find => [PATH, END, END, END, END],
+        Word::Rename => [PATH, LABEL, END, END, END],
+        Word::Update => [PATH, LABEL, END, END, END],
+        Word::Append => [PATH, TREE, END, END, END],
+        Word::Before => [PATH, TREE, END, END, END],
+        Word::After => [PATH, TREE, END, END, END],
+        Word::Remove => [PATH, END, END, END, END],
+        Word::Other => [END, END, END, END, END],
     }
 }
 
-// The place after a part of kind k.
-fn part_end(s: &[u8], at: usize, k: Kind) -> Read
+// A space and a part of kind k.
+fn one_part(s: &[u8], at: usize, k: u8) -> Read
     requires { ⌜ at ≤ length (now s) ⌝ }
-    ensures { λ r. ⌜ Onward (partEnd k (now (s .entry)) at) r at (length (now (s .entry))) ⌝ }
+    ensures { λ r. ⌜ Onward (oneBy k (now (s .entry)) at) r (at + 1) (length (now (s .entry))) ⌝ }
 {
-    match k {
-        Kind::Label => next_label(s, at),
-        Kind::Path => next_path(s, at),
-        Kind::Tree => next_tree(s, at),
-        Kind::Sign => sign_end(s, at),
-        Kind::Right => right_end(s, at),
-        Kind::Nothing => Read::Bad,
-    }
-}
-
-fn is_nothing(k: Kind) -> bool
-    ensures { λ r. ⌜ r ≡ isNothing k ⌝ }
-{
-    match k {
-        Kind::Label => false,
-        Kind::Path => false,
-        Kind::Tree => false,
-        Kind::Sign => false,
-        Kind::Right => false,
-        Kind::Nothing => true,
-    }
-}
-
-// A space and a part of kind k; nothing where there is no part.
-fn one_part(s: &[u8], at: usize, k: Kind) -> Read
-    requires { ⌜ at ≤ length (now s) ⌝ }
-    ensures { λ r. ⌜ Onward (onePart k (now (s .entry)) at) r at (length (now (s .entry))) ⌝ }
-{
-    if is_nothing(k) {
-        return Read::At(at);
-    }
     if s.len() <= at {
         return Read::Bad;
     }
     if s[at] != b' ' {
         return Read::Bad;
     }
-    part_end(s, at + 1, k)
+    next_part(s, at + 1, k)
 }
 
-// The parts of a shape, and `)` as the last byte.
-fn parts(s: &[u8], at: usize, k: Shape) -> PartEnds
-    requires { ⌜ at ≤ length (now s) ⌝ }
-    ensures { λ r. ⌜ Parts (partsOf k (now (s .entry)) at) r at (length (now (s .entry))) ⌝ }
+// Whether `)` stands at `at` and ends the line.
+fn closed(s: &[u8], at: usize) -> bool
+    ensures { λ r. ⌜ r ≡ closes (now (s .entry)) at ⌝ }
 {
-    let first = k.first;
-    let Read::At(e1) = one_part(s, at, first) else {
-        return PartEnds::Bad;
-    };
-    let second = k.second;
-    let Read::At(e2) = one_part(s, e1, second) else {
-        return PartEnds::Bad;
-    };
-    let third = k.third;
-    let Read::At(e3) = one_part(s, e2, third) else {
-        return PartEnds::Bad;
-    };
-    let fourth = k.fourth;
-    let Read::At(e4) = one_part(s, e3, fourth) else {
-        return PartEnds::Bad;
-    };
-    if s.len() <= e4 {
-        return PartEnds::Bad;
+    if s.len() <= at {
+        return false;
     }
-    if s[e4] != b')' {
-        return PartEnds::Bad;
+    if s[at] != b')' {
+        return false;
     }
-    if e4 + 1 < s.len() {
-        return PartEnds::Bad;
-    }
-    PartEnds::Are(e1, e2, e3, e4)
+    s.len() <= at + 1
 }
 
-fn is_tree(k: Kind) -> bool
-    ensures { λ r. ⌜ r ≡ isTree k ⌝ }
+// Whether the parts of w's shape stand from `at` on, with `)` as the last byte. The places after the word and after each part are put into `ends`.
+fn parts(s: &[u8], at: usize, w: Word, ends: &mut [usize; 5]) -> bool
+    requires { ⌜ (at ≤ length (now s)) × (length (now ends) ≡ 5) × ((i : ℕ) → placeIn (now ends) i ≡ 0) ⌝ }
+    ensures { λ r. ⌜ PartsPut (partsOf (shapeOf w) (now (s .entry)) at) r (now (ends .exit)) (length (now (s .entry))) × (length (now (ends .exit)) ≡ 5) ⌝ }
 {
-    match k {
-        Kind::Label => false,
-        Kind::Path => false,
-        Kind::Tree => true,
-        Kind::Sign => false,
-        Kind::Right => false,
-        Kind::Nothing => false,
+    let kinds = shape_of(w);
+    let mut e = at;
+    let mut i = 0;
+    while kinds[i] != END {
+        ends[i] = e;
+        let Read::At(next) = one_part(s, e, kinds[i]) else {
+            return false;
+        };
+        e = next;
+        i += 1;
     }
+    ends[i] = e;
+    closed(s, e)
 }
 
-// Where the tree of a form stands whose word ends at e and whose first part ends at e1.
-fn tree_place(k: Shape, e: usize, e1: usize) -> Read
-    requires { ⌜ (e + 1 < 2 ^ 64) × (e1 + 1 < 2 ^ 64) ⌝ }
-    ensures { λ r. ⌜ r ≡ treePlace k e e1 ⌝ }
+// Where the tree of a form of word w stands.
+fn tree_place(w: Word, ends: &[usize; 5]) -> Read
+    requires { ⌜ (length (now ends) ≡ 5) × ((i : ℕ) → placeIn (now ends) i + 1 < 2 ^ 64) ⌝ }
+    ensures { λ r. ⌜ r ≡ treePlace (shapeOf w) 0 (placeIn (now (ends .entry))) ⌝ }
 {
-    let first = k.first;
-    if is_tree(first) {
-        return Read::At(e + 1);
-    }
-    let second = k.second;
-    if is_tree(second) {
-        return Read::At(e1 + 1);
+    let kinds = shape_of(w);
+    let mut i = 0;
+    while kinds[i] != END {
+        if kinds[i] == TREE {
+            return Read::At(ends[i] + 1);
+        }
+        i += 1;
     }
     Read::Bad
 }
@@ -224,66 +147,50 @@ fn put_tree_at(s: &[u8], place: Read, tree: &mut [u8]) -> usize
     put_tree(s, at, tree)
 }
 
-// The rule of a line whose word ends at e and whose parts end at e1 to e4.
-fn rule_form(s: &[u8], e: usize, e1: usize, e2: usize, e3: usize, e4: usize) -> Form
-    requires { ⌜ (e < length (now s)) × (e1 < length (now s)) × (e2 < length (now s)) × (e3 < length (now s)) ⌝ }
-    ensures { λ r. ⌜ r ≡ ruleWith (now (s .entry)) e e1 e2 e3 e4 ⌝ }
+// The part that stands after place i.
+fn part_at(ends: &[usize; 5], i: usize) -> Part
+    requires { ⌜ (i < 4) × (length (now ends) ≡ 5) × (placeIn (now ends) i + 1 < 2 ^ 64) ⌝ }
+    ensures { λ r. ⌜ r ≡ partAt (placeIn (now (ends .entry))) i ⌝ }
 {
-    let accept = is_accept(sign_at(s, e + 1));
-    let right = right_at(s, e1 + 1);
-    Form::Rule(
-        accept,
-        right,
-        Part {
-            at: e2 + 1,
-            end: e3,
-        },
-        Part {
-            at: e3 + 1,
-            end: e4,
-        },
-    )
+    Part {
+        at: ends[i] + 1,
+        end: ends[i + 1],
+    }
 }
 
-// The form of a line whose word ends at e and whose parts end at e1 to e4; its tree has n nodes.
-fn build(s: &[u8], w: Word, e: usize, e1: usize, e2: usize, e3: usize, e4: usize, n: usize) -> Form
-    requires { ⌜ (e < length (now s)) × (e1 < length (now s)) × (e2 < length (now s)) × (e3 < length (now s)) ⌝ }
-    ensures { λ r. ⌜ r ≡ formWith w (now (s .entry)) e e1 e2 e3 e4 n ⌝ }
+// The rule of a line.
+fn rule_form(s: &[u8], ends: &[usize; 5]) -> Form
+    requires { ⌜ (length (now ends) ≡ 5) × ((i : ℕ) → placeIn (now ends) i < length (now s)) ⌝ }
+    ensures { λ r. ⌜ r ≡ formWith Word.Rule (now (s .entry)) (placeIn (now (ends .entry))) 0 ⌝ }
 {
+    let accept = sign_at(s, ends[0] + 1) == 1;
+    let right = right_at(s, ends[1] + 1);
+    Form::Rule(accept, right, part_at(ends, 2), part_at(ends, 3))
+}
+
+// The form of a line of word w, whose tree has n nodes.
+fn build(s: &[u8], w: Word, ends: &[usize; 5], n: usize) -> Form
+    requires { ⌜ (length (now ends) ≡ 5) × ((i : ℕ) → placeIn (now ends) i < length (now s)) ⌝ }
+    ensures { λ r. ⌜ r ≡ formWith w (now (s .entry)) (placeIn (now (ends .entry))) n ⌝ }
+{
+    let first = part_at(ends, 0);
+    let second = part_at(ends, 1);
     match w {
-        Word::Subject => Form::Subject(Part { at: e + 1, end: e1 }),
-        Word::Isa => Form::Isa(
-            Part { at: e + 1, end: e1 },
-            Part {
-                at: e1 + 1,
-                end: e2,
-            },
-        ),
-        Word::Rule => rule_form(s, e, e1, e2, e3, e4),
-        Word::Root => Form::Root(Part { at: e + 1, end: e1 }),
+        Word::Subject => Form::Subject(first),
+        Word::Isa => Form::Isa(first, second),
+        Word::Rule => rule_form(s, ends),
+        Word::Root => Form::Root(first),
         Word::Child => Form::Child(n),
-        Word::User => Form::User(Part { at: e + 1, end: e1 }),
+        Word::User => Form::User(first),
         Word::View => Form::View,
-        Word::Query => Form::Query(Part { at: e + 1, end: e1 }),
-        Word::Find => Form::Find(Part { at: e + 1, end: e1 }),
-        Word::Rename => Form::Rename(
-            Part { at: e + 1, end: e1 },
-            Part {
-                at: e1 + 1,
-                end: e2,
-            },
-        ),
-        Word::Update => Form::Update(
-            Part { at: e + 1, end: e1 },
-            Part {
-                at: e1 + 1,
-                end: e2,
-            },
-        ),
-        Word::Append => Form::Append(Part { at: e + 1, end: e1 }, n),
-        Word::Before => Form::Before(Part { at: e + 1, end: e1 }, n),
-        Word::After => Form::After(Part { at: e + 1, end: e1 }, n),
-        Word::Remove => Form::Remove(Part { at: e + 1, end: e1 }),
+        Word::Query => Form::Query(first),
+        Word::Find => Form::Find(first),
+        Word::Rename => Form::Rename(first, second),
+        Word::Update => Form::Update(first, second),
+        Word::Append => Form::Append(first, n),
+        Word::Before => Form::Before(first, n),
+        Word::After => Form::After(first, n),
+        Word::Remove => Form::Remove(first),
         Word::Other => Form::NoForm,
     }
 }
@@ -299,12 +206,14 @@ pub fn read_form(s: &[u8], tree: &mut [u8]) -> Form
     if s[0] != b'(' {
         return Form::NoForm;
     }
-    let e = next_word(s, 1);
-    let w = word_at(s, 1);
-    let k = shape_of(w);
-    let PartEnds::Are(e1, e2, e3, e4) = parts(s, e, k) else {
+    let Read::At(e) = next_part(s, 1, WORD) else {
         return Form::NoForm;
     };
-    let n = put_tree_at(s, tree_place(k, e, e1), tree);
-    build(s, w, e, e1, e2, e3, e4, n)
+    let w = word_at(s, 1);
+    let mut ends = [0usize; 5];
+    if parts(s, e, w, &mut ends) {
+        let n = put_tree_at(s, tree_place(w, &ends), tree);
+        return build(s, w, &ends, n);
+    }
+    Form::NoForm
 }

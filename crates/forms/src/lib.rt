@@ -1,5 +1,6 @@
 // Forms (document 01, "Lines"): the bytes of a line, its word and its parts, trees, and what the line says.
 pub mod form;
+pub mod kind;
 pub mod limits;
 pub mod part;
 pub mod reader;

@@ -1,12 +1,13 @@
-// Where the parts of a line end that are a label or a path. A reader takes them by these functions (reader.rt).
+// Where the parts of a line end that are a label, a path or a word.
 use rights::limits::LABEL_MAX;
 use rights::path::Read;
 use rights::path::label_end;
 ghost use mathlib.Core.Path.{_≡_};
 ghost use Prim.Native.Nat.{_+_, _≤_};
 ghost use lib.ListN.{length};
+ghost use Rattle.rights.specs.Labels.{labelByte};
 ghost use Rattle.rights.specs.PathReader.{Ends, Onward};
-ghost use Rattle.forms.specs.Part.{pathByte, labelEnd, pathEnd};
+ghost use Rattle.forms.specs.Part.{pathByte, labelEnd, runEnd, knownEnd, movedTo};
 
 // Whether a byte may stand in the run that passes as a path: no space, no parenthesis.
 fn path_byte(b: u8) -> bool
@@ -49,14 +50,36 @@ pub fn label_part_end(s: &[u8], at: usize) -> Read
     Read::At(e)
 }
 
+// The place that reading came to from `from`, if it moved on.
+pub fn moved(from: usize, to: usize) -> Read
+    ensures { λ r. ⌜ r ≡ movedTo from to ⌝ }
+{
+    if to <= from { Read::Bad } else { Read::At(to) }
+}
+
 // A run of one or more bytes that passes as a path.
 pub fn path_part_end(s: &[u8], at: usize) -> Read
     requires { ⌜ at ≤ length (now s) ⌝ }
-    ensures { λ r. ⌜ Onward (pathEnd (now (s .entry)) at) r (at + 1) (length (now (s .entry))) ⌝ }
+    ensures { λ r. ⌜ Onward (runEnd pathByte (now (s .entry)) at) r (at + 1) (length (now (s .entry))) ⌝ }
 {
-    let e = path_run_end(s, at);
-    if e <= at {
+    moved(at, path_run_end(s, at))
+}
+
+// A word: a run of one or more label bytes.
+pub fn word_end(s: &[u8], at: usize) -> Read
+    requires { ⌜ at ≤ length (now s) ⌝ }
+    ensures { λ r. ⌜ Onward (runEnd labelByte (now (s .entry)) at) r (at + 1) (length (now (s .entry))) ⌝ }
+{
+    moved(at, label_end(s, at))
+}
+
+// A word that a table has as n; 0 says that it has none.
+pub fn known_end(s: &[u8], at: usize, n: u8) -> Read
+    requires { ⌜ at ≤ length (now s) ⌝ }
+    ensures { λ r. ⌜ Onward (knownEnd n (now (s .entry)) at) r (at + 1) (length (now (s .entry))) ⌝ }
+{
+    if n == 0 {
         return Read::Bad;
     }
-    Read::At(e)
+    word_end(s, at)
 }

@@ -1,12 +1,9 @@
-// The words of a line: those that begin a form, accept and deny, and the rights (document 01, "Lines"). A reader takes each (reader.rt).
+// The words of a line: those that begin a form, accept and deny, and the rights (document 01, "Lines").
 use crate::limits::WORD_MAX;
-use crate::reader::next_word;
-use rights::path::Read;
+use rights::path::label_end;
 ghost use mathlib.Core.Path.{_≡_};
 ghost use Prim.Native.Nat.{_+_, _-_, _≤_};
 ghost use lib.ListN.{length, take, drop};
-ghost use Rattle.rights.specs.PathReader.{Onward};
-ghost use Rattle.forms.specs.Part.{isSign, isAccept, signEnd, rightEnd};
 ghost use Rattle.forms.specs.Word.{number, numberAt, numbered, words, signs, rights, wordAt, signAt, rightAt};
 
 pub enum Word {
@@ -28,12 +25,6 @@ pub enum Word {
     Other,
 }
 
-pub enum Sign {
-    Accept,
-    Deny,
-    NoSign,
-}
-
 // The bytes from a up to e as a number, the first lowest.
 fn word_number(s: &[u8], a: usize, e: usize) -> u64
     requires { ⌜ (a ≤ e) × (e ≤ a + 8) × (e ≤ length (now s)) ⌝ }
@@ -53,7 +44,7 @@ fn number_at(s: &[u8], at: usize) -> u64
     requires { ⌜ at ≤ length (now s) ⌝ }
     ensures { λ r. ⌜ r ≡ numberAt (now (s .entry)) at ⌝ }
 {
-    let e = next_word(s, at);
+    let e = label_end(s, at);
     if WORD_MAX < e - at {
         return 0;
     }
@@ -83,13 +74,13 @@ fn numbered_word(n: u64) -> Word
     }
 }
 
-fn numbered_sign(n: u64) -> Sign
-    ensures { λ r. ⌜ r ≡ numbered Sign.NoSign signs n ⌝ }
+fn numbered_sign(n: u64) -> u8
+    ensures { λ r. ⌜ r ≡ numbered 0 signs n ⌝ }
 {
     match n {
-        128026086171489 => Sign::Accept,
-        2037278052 => Sign::Deny,
-        _ => Sign::NoSign,
+        128026086171489 => 1,
+        2037278052 => 2,
+        _ => 0,
     }
 }
 
@@ -114,8 +105,8 @@ pub fn word_at(s: &[u8], at: usize) -> Word
     numbered_word(number_at(s, at))
 }
 
-// `accept` or `deny`, if it stands at `at`.
-pub fn sign_at(s: &[u8], at: usize) -> Sign
+// 1 for `accept` and 2 for `deny` at `at`; 0 if neither stands there.
+pub fn sign_at(s: &[u8], at: usize) -> u8
     requires { ⌜ at ≤ length (now s) ⌝ }
     ensures { λ r. ⌜ r ≡ signAt (now (s .entry)) at ⌝ }
 {
@@ -128,46 +119,4 @@ pub fn right_at(s: &[u8], at: usize) -> u8
     ensures { λ r. ⌜ r ≡ rightAt (now (s .entry)) at ⌝ }
 {
     numbered_right(number_at(s, at))
-}
-
-fn is_sign(g: Sign) -> bool
-    ensures { λ r. ⌜ r ≡ isSign g ⌝ }
-{
-    match g {
-        Sign::Accept => true,
-        Sign::Deny => true,
-        Sign::NoSign => false,
-    }
-}
-
-pub fn is_accept(g: Sign) -> bool
-    ensures { λ r. ⌜ r ≡ isAccept g ⌝ }
-{
-    match g {
-        Sign::Accept => true,
-        Sign::Deny => false,
-        Sign::NoSign => false,
-    }
-}
-
-// `accept` or `deny`.
-pub fn sign_end(s: &[u8], at: usize) -> Read
-    requires { ⌜ at ≤ length (now s) ⌝ }
-    ensures { λ r. ⌜ Onward (signEnd (now (s .entry)) at) r at (length (now (s .entry))) ⌝ }
-{
-    if is_sign(sign_at(s, at)) {
-        return Read::At(next_word(s, at));
-    }
-    Read::Bad
-}
-
-// A right.
-pub fn right_end(s: &[u8], at: usize) -> Read
-    requires { ⌜ at ≤ length (now s) ⌝ }
-    ensures { λ r. ⌜ Onward (rightEnd (now (s .entry)) at) r at (length (now (s .entry))) ⌝ }
-{
-    if right_at(s, at) == 0 {
-        return Read::Bad;
-    }
-    Read::At(next_word(s, at))
 }

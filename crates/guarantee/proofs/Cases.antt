@@ -28,9 +28,9 @@ use Rattle.views.specs.Done.{inTable}
 use Rattle.answers.specs.Answer.{hitsOf, hitLines, childLines, viewText}
 use Rattle.answers.specs.AnswerChoice.{Choice}
 use Rattle.forms.specs.Word.{sameText, among, wordAt, signAt, rightAt}
-use Rattle.forms.specs.Part.{pathByte, labelEnd, pathEnd, signEnd, rightEnd}
+use Rattle.forms.specs.Part.{pathByte, labelEnd, runEnd, knownEnd}
 use Rattle.forms.specs.Tree.{openEnd, tailEnd, treeEnd, tailNodes, treeNodes, recordsOf}
-use Rattle.forms.specs.Form.{onePart, partsOf, endsIn, readForm, treeIn}
+use Rattle.forms.specs.Form.{partsOf, treePlace, endsIn, readForm, treeIn}
 use Rattle.lines.specs.PolicyEdit.{subjectFrom, subjectNamed, isaHeld, hasBracket, stepList, stepsIn, pathRestricted, stepRecords, withLine}
 use Rattle.forms.specs.Text.{lineByte, lineOk}
 use Rattle.lines.specs.State.{sessionOk, stateOk, storeOk}
@@ -73,7 +73,7 @@ small-passes = refl
 
 -- what the lines of a row give from a new store, where 13 is not computed
 unfoldable given : Choice → Case → List Reply
-unfolding bytes passedReplies passed digitByte run all labelByte sameLabel passes readTest numberOf isPosition readPosition closes readBrackets readSteps brackets steps pathOf decimal writeTest some passesOwn policyWord testOf namesFrom isaFrom stepsFrom rulesFrom policyOf recordOf isBy findsIn decide rightsBy chains levelAt labelAt someFrom before above finds keeps selects selected marksOf recordsFrom storedFrom atParent nearestFirst shownAfter keep eachFrom dropBelow putBehind remove insertBehind rename chunks raise join changed deepest tooDeep inTable hitsOf hitLines childLines viewText sameText among wordAt signAt rightAt pathByte labelEnd pathEnd signEnd rightEnd openEnd tailEnd treeEnd tailNodes treeNodes recordsOf onePart partsOf endsIn readForm treeIn subjectFrom subjectNamed isaHeld hasBracket stepList stepsIn pathRestricted stepRecords withLine lineByte lineOk checked performed rootAlone treeRestricted folded padded standsFor subjectsWhere
+unfolding bytes passedReplies passed digitByte run all labelByte sameLabel passes readTest numberOf isPosition readPosition closes readBrackets readSteps brackets steps pathOf decimal writeTest some passesOwn policyWord testOf namesFrom isaFrom stepsFrom rulesFrom policyOf recordOf isBy findsIn decide rightsBy chains levelAt labelAt someFrom before above finds keeps selects selected marksOf recordsFrom storedFrom atParent nearestFirst shownAfter keep eachFrom dropBelow putBehind remove insertBehind rename chunks raise join changed deepest tooDeep inTable hitsOf hitLines childLines viewText sameText among wordAt signAt rightAt pathByte labelEnd openEnd tailEnd treeEnd tailNodes treeNodes recordsOf partsOf endsIn readForm treeIn subjectFrom subjectNamed isaHeld hasBracket stepList stepsIn pathRestricted stepRecords withLine lineByte lineOk checked performed rootAlone treeRestricted folded padded standsFor subjectsWhere runEnd knownEnd treePlace
 given choice c = passedReplies choice newState (newTable (c .capacity)) (map input (c .turns))
 
 abbrev Gives : Choice → Case → Type 0

@@ -1,127 +1,76 @@
--- `lines::form::parts` meets its contract: a part after the other.
-use Prim.Native.Nat.{ℕ}
+-- `forms::form::parts` meets its contract: after i turns i parts are read, up to e, and their places stand in the array (record Reading).
+use Prim.Native.Nat.{ℕ, _-_, _≤_, _<_}
 use mathlib.Core.Path.{_≡_, refl, sym, ap, _∙_}
 use mathlib.Core.List.{List}
+use mathlib.Core.Bool.{true, false}
 use native.Mathlib.Omega.{arith}
-use Rattle.rights.proofs.PathLaws.{past}
-use Rattle.forms.proofs.FormLaws.{bad-parts, are-parts, first-bad, second-bad, third-bad, fourth-bad, unclosed, more-follows, closed}
+use lib.ListN.{length, getD, length-set}
+use Rattle.forms.specs.Kind.{Kind}
+use Rattle.forms.specs.Form.{shapeOf, codesOf, oneBy}
+use Rattle.forms.proofs.FormLaws.{few-kinds, kind-at, Reading, reading-starts, part-missing, part-taken, parts-over, parts-none}
 use borrow.Author.Needs.{needs}
 use Rattle.forms.proofs.form.parts.Statement.{statement}
 use Rattle.forms.proofs.form.parts.Tie as tie
 
-returns : tie.Need-returns
+abbrev Inv-loop : tie.InvT-loop
+Inv-loop s at ends₀ kinds e₀ i₀ ends e i = (i < 5) × (length ends ≡ 5) × (e ≤ length s) × ((ks : List Kind) → kinds ≡ codesOf ks → Reading ks s at e i ends)
+
+abbrev μ-loop : tie.MeasureT-loop
+μ-loop s at ends₀ kinds e₀ i₀ ends e i = 5 - i
+
+loop-holds : tie.Need-loop-holds Inv-loop μ-loop
+loop-holds c =
+    let p = c .before .before .pre in
+    (omega arith, p .1, p .0, λ ks q. reading-starts ks _ _ _ (p .0) (p .1) (p .2))
+
+returns : tie.Need-returns Inv-loop μ-loop
 returns c =
-    let s : List ℕ = c .before .before .before .before .args .s .now in
-    let at : ℕ = c .before .before .before .before .args .at in
-    let k = c .before .before .before .before .args .k in
-    bad-parts (first-bad k s at (sym (c .before .before .one-part .ensures .is) ∙ c .enum-told .given .1))
+    let i : ℕ = c .before .before .before .before .loop .i in
+    let e : ℕ = c .before .before .before .before .loop .e in
+    let s : List ℕ = c .before .before .before .before .before .before .before .args .s .now in
+    let ks : List Kind = shapeOf (c .before .before .before .before .before .before .before .args .w) in
+    let q : c .before .before .before .before .before .shape-of .result ≡ codesOf ks = c .before .before .before .before .before .shape-of .ensures .0 in
+    let here : getD (c .before .before .before .before .before .shape-of .result) i 0 ≡ getD (codesOf ks) i 0 = ap (λ (xs : List ℕ). getD xs i 0) q in
+    let inv = c .before .before .before .before .loop .inv in
+    let bad = sym (c .before .before .one-part .ensures .is) ∙ c .enum-told .given .1 in (
+      parts-none (part-missing ks s _ e i _ (inv .3 ks q) (λ z. c .before .before .before .loop-test .taken (here ∙ z)) (ap (λ (n : ℕ). oneBy n s e) (sym here) ∙ bad)),
+      length-set (c .before .before .before .before .loop .ends) i e ∙ inv .1,
+    )
 
-one-part-requires-2 : tie.Need-one-part-requires-2
-one-part-requires-2 c κs = omega (arith, c .before .before .before .one-part .ensures .on _ (c .before .e1 .given .1) .1)
-
-returns-2 : tie.Need-returns-2
-returns-2 c =
+loop-again : tie.Need-loop-again Inv-loop μ-loop
+loop-again c =
+    let i : ℕ = c .before .before .before .before .before .loop .i in
+    let e : ℕ = c .before .before .before .before .before .loop .e in
     let s : List ℕ = c .before .before .before .before .before .before .before .before .args .s .now in
-    let at : ℕ = c .before .before .before .before .before .before .before .before .args .at in
-    let k = c .before .before .before .before .before .before .before .before .args .k in
-    let r1 = sym (c .before .before .before .before .before .before .one-part .ensures .is) ∙ c .before .before .before .before .e1 .given .1 in
-    let e1 : ℕ = c .before .before .before .before .e1 .given .0 .0 in
-    bad-parts (second-bad k s at e1 r1 (sym (c .before .before .one-part2 .ensures .is) ∙ c .enum-told2 .given .1))
+    let kinds : List ℕ = c .before .before .before .before .before .before .shape-of .result in
+    let here : (ks : List Kind) → kinds ≡ codesOf ks → getD kinds i 0 ≡ getD (codesOf ks) i 0 = λ ks q. ap (λ (xs : List ℕ). getD xs i 0) q in
+    let some : (ks : List Kind) → kinds ≡ codesOf ks → getD (codesOf ks) i 0 ≡ 0 → ⊥ = λ ks q z. c .before .before .before .before .loop-test .taken (here ks q ∙ z) in
+    let w : List Kind = shapeOf (c .before .before .before .before .before .before .before .before .args .w) in
+    let q = c .before .before .before .before .before .before .shape-of .ensures in
+    let inv = c .before .before .before .before .before .loop .inv in
+    let one = c .before .before .before .one-part .ensures in
+    let n : ℕ = c .before .next .given .0 .0 in
+    let on = one .on n (c .before .next .given .1) in
+    let taken = sym (one .is) ∙ c .before .next .given .1 in (
+      omega (arith, kind-at w i (some w (q .0)) .3, few-kinds w (sym (ap length (q .0)) ∙ q .1)),
+      length-set (c .before .before .before .before .before .loop .ends) i e ∙ inv .1,
+      on .1,
+      λ ks x. part-taken ks s _ e i _ (inv .3 ks x) (some ks x) n (ap (λ (m : ℕ). oneBy m s e) (sym (here ks x)) ∙ taken) (omega (arith, on)) (on .1) (inv .0),
+    )
 
-one-part-requires-3 : tie.Need-one-part-requires-3
-one-part-requires-3 c κs = omega (arith, c .before .before .before .one-part2 .ensures .on _ (c .before .e2 .given .1) .1)
-
-returns-3 : tie.Need-returns-3
-returns-3 c =
-    let s : List ℕ = c .before .before .before .before .before .before .before .before .before .before .before .before .args .s .now in
-    let at : ℕ = c .before .before .before .before .before .before .before .before .before .before .before .before .args .at in
-    let k = c .before .before .before .before .before .before .before .before .before .before .before .before .args .k in
-    let r1 = sym (c .before .before .before .before .before .before .before .before .before .before .one-part .ensures .is) ∙ c .before .before .before .before .before .before .before .before .e1 .given .1 in
-    let e1 : ℕ = c .before .before .before .before .before .before .before .before .e1 .given .0 .0 in
-    let r2 = sym (c .before .before .before .before .before .before .one-part2 .ensures .is) ∙ c .before .before .before .before .e2 .given .1 in
-    let e2 : ℕ = c .before .before .before .before .e2 .given .0 .0 in
-    bad-parts (third-bad k s at e1 r1 e2 r2 (sym (c .before .before .one-part3 .ensures .is) ∙ c .enum-told3 .given .1))
-
-one-part-requires-4 : tie.Need-one-part-requires-4
-one-part-requires-4 c κs = omega (arith, c .before .before .before .one-part3 .ensures .on _ (c .before .e3 .given .1) .1)
-
-returns-4 : tie.Need-returns-4
-returns-4 c =
-    let s : List ℕ = c .before .before .before .before .before .before .before .before .before .before .before .before .before .before .before .before .args .s .now in
-    let at : ℕ = c .before .before .before .before .before .before .before .before .before .before .before .before .before .before .before .before .args .at in
-    let k = c .before .before .before .before .before .before .before .before .before .before .before .before .before .before .before .before .args .k in
-    let r1 = sym (c .before .before .before .before .before .before .before .before .before .before .before .before .before .before .one-part .ensures .is) ∙ c .before .before .before .before .before .before .before .before .before .before .before .before .e1 .given .1 in
-    let e1 : ℕ = c .before .before .before .before .before .before .before .before .before .before .before .before .e1 .given .0 .0 in
-    let r2 = sym (c .before .before .before .before .before .before .before .before .before .before .one-part2 .ensures .is) ∙ c .before .before .before .before .before .before .before .before .e2 .given .1 in
-    let e2 : ℕ = c .before .before .before .before .before .before .before .before .e2 .given .0 .0 in
-    let r3 = sym (c .before .before .before .before .before .before .one-part3 .ensures .is) ∙ c .before .before .before .before .e3 .given .1 in
-    let e3 : ℕ = c .before .before .before .before .e3 .given .0 .0 in
-    bad-parts (fourth-bad k s at e1 r1 e2 r2 e3 r3 (sym (c .before .before .one-part4 .ensures .is) ∙ c .enum-told4 .given .1))
-
-returns-5 : tie.Need-returns-5
-returns-5 c =
-    let s : List ℕ = c .before .before .before .before .before .before .before .before .before .before .before .before .before .before .before .before .before .before .args .s .now in
-    let at : ℕ = c .before .before .before .before .before .before .before .before .before .before .before .before .before .before .before .before .before .before .args .at in
-    let k = c .before .before .before .before .before .before .before .before .before .before .before .before .before .before .before .before .before .before .args .k in
-    let r1 = sym (c .before .before .before .before .before .before .before .before .before .before .before .before .before .before .before .before .one-part .ensures .is) ∙ c .before .before .before .before .before .before .before .before .before .before .before .before .before .before .e1 .given .1 in
-    let e1 : ℕ = c .before .before .before .before .before .before .before .before .before .before .before .before .before .before .e1 .given .0 .0 in
-    let r2 = sym (c .before .before .before .before .before .before .before .before .before .before .before .before .one-part2 .ensures .is) ∙ c .before .before .before .before .before .before .before .before .before .before .e2 .given .1 in
-    let e2 : ℕ = c .before .before .before .before .before .before .before .before .before .before .e2 .given .0 .0 in
-    let r3 = sym (c .before .before .before .before .before .before .before .before .one-part3 .ensures .is) ∙ c .before .before .before .before .before .before .e3 .given .1 in
-    let e3 : ℕ = c .before .before .before .before .before .before .e3 .given .0 .0 in
-    let r4 = sym (c .before .before .before .before .one-part4 .ensures .is) ∙ c .before .before .e4 .given .1 in
-    let e4 : ℕ = c .before .before .e4 .given .0 .0 in
-    bad-parts (unclosed k s at e1 r1 e2 r2 e3 r3 e4 r4 (past s e4 41 (c .if1 .taken) (omega arith)))
-
-returns-6 : tie.Need-returns-6
-returns-6 c =
-    let s : List ℕ = c .before .before .before .before .before .before .before .before .before .before .before .before .before .before .before .before .before .before .before .before .args .s .now in
-    let at : ℕ = c .before .before .before .before .before .before .before .before .before .before .before .before .before .before .before .before .before .before .before .before .args .at in
-    let k = c .before .before .before .before .before .before .before .before .before .before .before .before .before .before .before .before .before .before .before .before .args .k in
-    let r1 = sym (c .before .before .before .before .before .before .before .before .before .before .before .before .before .before .before .before .before .before .one-part .ensures .is) ∙ c .before .before .before .before .before .before .before .before .before .before .before .before .before .before .before .before .e1 .given .1 in
-    let e1 : ℕ = c .before .before .before .before .before .before .before .before .before .before .before .before .before .before .before .before .e1 .given .0 .0 in
-    let r2 = sym (c .before .before .before .before .before .before .before .before .before .before .before .before .before .before .one-part2 .ensures .is) ∙ c .before .before .before .before .before .before .before .before .before .before .before .before .e2 .given .1 in
-    let e2 : ℕ = c .before .before .before .before .before .before .before .before .before .before .before .before .e2 .given .0 .0 in
-    let r3 = sym (c .before .before .before .before .before .before .before .before .before .before .one-part3 .ensures .is) ∙ c .before .before .before .before .before .before .before .before .e3 .given .1 in
-    let e3 : ℕ = c .before .before .before .before .before .before .before .before .e3 .given .0 .0 in
-    let r4 = sym (c .before .before .before .before .before .before .one-part4 .ensures .is) ∙ c .before .before .before .before .e4 .given .1 in
-    let e4 : ℕ = c .before .before .before .before .e4 .given .0 .0 in
-    bad-parts (unclosed k s at e1 r1 e2 r2 e3 r3 e4 r4 (c .if2 .taken))
-
-returns-7 : tie.Need-returns-7
-returns-7 c =
-    let s : List ℕ = c .before .before .before .before .before .before .before .before .before .before .before .before .before .before .before .before .before .before .before .before .before .args .s .now in
-    let at : ℕ = c .before .before .before .before .before .before .before .before .before .before .before .before .before .before .before .before .before .before .before .before .before .args .at in
-    let k = c .before .before .before .before .before .before .before .before .before .before .before .before .before .before .before .before .before .before .before .before .before .args .k in
-    let r1 = sym (c .before .before .before .before .before .before .before .before .before .before .before .before .before .before .before .before .before .before .before .one-part .ensures .is) ∙ c .before .before .before .before .before .before .before .before .before .before .before .before .before .before .before .before .before .e1 .given .1 in
-    let e1 : ℕ = c .before .before .before .before .before .before .before .before .before .before .before .before .before .before .before .before .before .e1 .given .0 .0 in
-    let r2 = sym (c .before .before .before .before .before .before .before .before .before .before .before .before .before .before .before .one-part2 .ensures .is) ∙ c .before .before .before .before .before .before .before .before .before .before .before .before .before .e2 .given .1 in
-    let e2 : ℕ = c .before .before .before .before .before .before .before .before .before .before .before .before .before .e2 .given .0 .0 in
-    let r3 = sym (c .before .before .before .before .before .before .before .before .before .before .before .one-part3 .ensures .is) ∙ c .before .before .before .before .before .before .before .before .before .e3 .given .1 in
-    let e3 : ℕ = c .before .before .before .before .before .before .before .before .before .e3 .given .0 .0 in
-    let r4 = sym (c .before .before .before .before .before .before .before .one-part4 .ensures .is) ∙ c .before .before .before .before .before .e4 .given .1 in
-    let e4 : ℕ = c .before .before .before .before .before .e4 .given .0 .0 in
-    bad-parts (more-follows k s at e1 r1 e2 r2 e3 r3 e4 r4 (c .before .if2 .left) (c .if3 .taken))
-
-returns-8 : tie.Need-returns-8
-returns-8 c =
-    let s : List ℕ = c .before .before .before .before .before .before .before .before .before .before .before .before .before .before .before .before .before .before .before .before .before .args .s .now in
-    let at : ℕ = c .before .before .before .before .before .before .before .before .before .before .before .before .before .before .before .before .before .before .before .before .before .args .at in
-    let k = c .before .before .before .before .before .before .before .before .before .before .before .before .before .before .before .before .before .before .before .before .before .args .k in
-    let r1 = sym (c .before .before .before .before .before .before .before .before .before .before .before .before .before .before .before .before .before .before .before .one-part .ensures .is) ∙ c .before .before .before .before .before .before .before .before .before .before .before .before .before .before .before .before .before .e1 .given .1 in
-    let e1 : ℕ = c .before .before .before .before .before .before .before .before .before .before .before .before .before .before .before .before .before .e1 .given .0 .0 in
-    let r2 = sym (c .before .before .before .before .before .before .before .before .before .before .before .before .before .before .before .one-part2 .ensures .is) ∙ c .before .before .before .before .before .before .before .before .before .before .before .before .before .e2 .given .1 in
-    let e2 : ℕ = c .before .before .before .before .before .before .before .before .before .before .before .before .before .e2 .given .0 .0 in
-    let r3 = sym (c .before .before .before .before .before .before .before .before .before .before .before .one-part3 .ensures .is) ∙ c .before .before .before .before .before .before .before .before .before .e3 .given .1 in
-    let e3 : ℕ = c .before .before .before .before .before .before .before .before .before .e3 .given .0 .0 in
-    let r4 = sym (c .before .before .before .before .before .before .before .one-part4 .ensures .is) ∙ c .before .before .before .before .before .e4 .given .1 in
-    let e4 : ℕ = c .before .before .before .before .before .e4 .given .0 .0 in
-    are-parts (closed k s at e1 r1 e2 r2 e3 r3 e4 r4 (c .before .if2 .left) (c .if3 .left)) (c .before .before .before .before .before .before .before .before .before .before .before .before .before .before .before .before .before .before .before .one-part .ensures .on e1 (c .before .before .before .before .before .before .before .before .before .before .before .before .before .before .before .before .before .e1 .given .1) .0) (c .before .before .before .before .before .before .before .before .before .before .before .before .before .before .before .one-part2 .ensures .on e2 (c .before .before .before .before .before .before .before .before .before .before .before .before .before .e2 .given .1) .0) (c .before .before .before .before .before .before .before .before .before .before .before .one-part3 .ensures .on e3 (c .before .before .before .before .before .before .before .before .before .e3 .given .1) .0) (c .before .before .before .before .before .before .before .one-part4 .ensures .on e4 (c .before .before .before .before .before .e4 .given .1) .0) (omega arith)
+returns-2 : tie.Need-returns-2 Inv-loop μ-loop
+returns-2 c =
+    let i : ℕ = c .before .before .loop .i in
+    let e : ℕ = c .before .before .loop .e in
+    let ks : List Kind = shapeOf (c .before .before .before .before .before .args .w) in
+    let q : c .before .before .before .shape-of .result ≡ codesOf ks = c .before .before .before .shape-of .ensures .0 in
+    let inv = c .before .before .loop .inv in (
+      parts-over ks _ _ e i _ (inv .3 ks q) (ap (λ (xs : List ℕ). getD xs i 0) (sym q) ∙ c .before .loop-test .left) (inv .0) _ (c .closed .ensures),
+      length-set (c .before .before .loop .ends) i e ∙ inv .1,
+    )
 
 pub parts-spec : {M : Type 1} → statement M
 parts-spec =
     tie.close
-    (tie.spec (λ c κs. search needs) (λ c. search needs) (λ c. search needs) returns one-part-requires-2
-    (λ c. search needs) (λ c. search needs) returns-2 one-part-requires-3 (λ c. search needs) (λ c. search needs)
-    returns-3 one-part-requires-4 (λ c. search needs) (λ c. search needs) returns-4 returns-5 (λ c. search needs)
-    returns-6 (λ c. search needs) returns-7 returns-8)
+    (tie.spec Inv-loop μ-loop (λ c κs. search needs) loop-holds (λ c. search needs) (λ c. search needs) (λ c. search needs) (λ c. search needs) (λ c κs. search needs)
+    (λ c. search needs) (λ c. search needs) returns (λ c. search needs) (λ c. search needs) loop-again (λ c. search needs) (λ c. search needs) (λ c κs. search needs) returns-2)

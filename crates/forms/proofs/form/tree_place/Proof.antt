@@ -1,31 +1,58 @@
--- `lines::form::tree_place` meets its contract.
-use mathlib.Core.Path.{sym, _∙_}
+-- `forms::form::tree_place` meets its contract: the place of the tree in the shape is its place in the kinds from i on, i parts in.
+use Prim.Native.Nat.{ℕ, _-_, _≤_, _<_}
+use mathlib.Core.Path.{_≡_, refl, sym, ap, _∙_}
+use mathlib.Core.List.{List}
+use native.Mathlib.Numerals.{add-one}
+use native.Mathlib.Omega.{arith}
+use lib.ListN.{length, getD, drop}
+use Rattle.forms.specs.Kind.{Kind}
+use Rattle.forms.specs.Form.{shapeOf, codesOf, placeIn, treePlace}
+use Rattle.forms.proofs.FormLaws.{few-kinds, kind-at, tree-here, tree-later, tree-none}
 use borrow.Author.Needs.{needs}
 use Rattle.forms.proofs.form.tree_place.Statement.{statement}
 use Rattle.forms.proofs.form.tree_place.Tie as tie
 
-is-tree-requires : tie.Need-is-tree-requires
-is-tree-requires c κs = search needs
+abbrev Inv-loop : tie.InvT-loop
+Inv-loop ends kinds i₀ i =
+    (i < 5) × ((ks : List Kind) → kinds ≡ codesOf ks → treePlace ks 0 (placeIn ends) ≡ treePlace (drop i ks) i (placeIn ends))
 
-add-t7 : tie.Need-add-t7
-add-t7 c = search needs
+abbrev μ-loop : tie.MeasureT-loop
+μ-loop ends kinds i₀ i = 5 - i
 
-returns : tie.Need-returns
-returns c = rw (sym (c .before .is-tree .ensures) ∙ c .if1 .taken)
+loop-holds : tie.Need-loop-holds Inv-loop μ-loop
+loop-holds c = (omega arith, λ ks q. refl)
 
-is-tree-requires-2 : tie.Need-is-tree-requires-2
-is-tree-requires-2 c κs = search needs
+add-t16 : tie.Need-add-t16 Inv-loop μ-loop
+add-t16 c = record { fits = c .before .before .before .before .before .pre .1 (c .before .before .before .loop .i) }
 
-add-t9 : tie.Need-add-t9
-add-t9 c = search needs
+returns : tie.Need-returns Inv-loop μ-loop
+returns c =
+    let i : ℕ = c .before .before .before .loop .i in
+    let ks : List Kind = shapeOf (c .before .before .before .before .before .args .w) in
+    let q : c .before .before .before .before .shape-of .result ≡ codesOf ks = c .before .before .before .before .shape-of .ensures .0 in
+    sym (c .before .before .before .loop .inv .1 ks q ∙ tree-here ks i _ (ap (λ (xs : List ℕ). getD xs i 0) (sym q) ∙ c .before .if1 .taken))
 
-returns-2 : tie.Need-returns-2
-returns-2 c = rw (sym (c .before .before .before .is-tree .ensures) ∙ c .before .before .if1 .left, sym (c .before .is-tree2 .ensures) ∙ c .if2 .taken)
+loop-again : tie.Need-loop-again Inv-loop μ-loop
+loop-again c =
+    let i : ℕ = c .before .before .loop .i in
+    let here : (ks : List Kind) → c .before .before .before .shape-of .result ≡ codesOf ks → getD (c .before .before .before .shape-of .result) i 0 ≡ getD (codesOf ks) i 0 = λ ks q. ap (λ (xs : List ℕ). getD xs i 0) q in
+    let some : (ks : List Kind) → c .before .before .before .shape-of .result ≡ codesOf ks → getD (codesOf ks) i 0 ≡ 0 → ⊥ = λ ks q z. c .before .loop-test .taken (here ks q ∙ z) in
+    let w : List Kind = shapeOf (c .before .before .before .before .args .w) in
+    let q = c .before .before .before .shape-of .ensures in (
+      omega (arith, kind-at w i (some w (q .0)) .3, few-kinds w (sym (ap length (q .0)) ∙ q .1)),
+      λ ks e. rw (add-one i) (c .before .before .loop .inv .1 ks e ∙ tree-later ks i _ (some ks e) (λ z. c .if1 .left (here ks e ∙ z))),
+    )
 
-returns-3 : tie.Need-returns-3
-returns-3 c = rw (sym (c .before .before .before .is-tree .ensures) ∙ c .before .before .if1 .left, sym (c .before .is-tree2 .ensures) ∙ c .if2 .left)
+returns-2 : tie.Need-returns-2 Inv-loop μ-loop
+returns-2 c =
+    let i : ℕ = c .before .loop .i in
+    let ks : List Kind = shapeOf (c .before .before .before .args .w) in
+    let q : c .before .before .shape-of .result ≡ codesOf ks = c .before .before .shape-of .ensures .0 in
+    sym (c .before .loop .inv .1 ks q ∙ tree-none ks i _ (ap (λ (xs : List ℕ). getD xs i 0) (sym q) ∙ c .loop-test .left))
 
 pub tree-place-spec : {M : Type 1} → statement M
 tree-place-spec =
     tie.close
-    (tie.spec is-tree-requires add-t7 returns is-tree-requires-2 add-t9 returns-2 returns-3)
+    (tie.spec Inv-loop μ-loop (λ c κs. search needs) loop-holds (λ c. search needs) (λ c. search needs)
+    (λ c. search needs) (λ c. search needs) add-t16 returns (λ c. search needs) (λ c. search needs) loop-again
+    returns-2)

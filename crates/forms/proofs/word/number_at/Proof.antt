@@ -1,4 +1,4 @@
--- `lines::word::number_at` meets its contract.
+-- `forms::word::number_at` meets its contract.
 use Prim.Native.Nat.{_-_}
 use mathlib.Core.Path.{_≡_}
 use native.Mathlib.Omega.{arith}
@@ -10,8 +10,8 @@ use borrow.Author.Needs.{needs}
 use Rattle.forms.proofs.word.number_at.Statement.{statement}
 use Rattle.forms.proofs.word.number_at.Tie as tie
 
-next-word-requires : tie.Need-next-word-requires
-next-word-requires c κs = search needs
+label-end-requires : tie.Need-label-end-requires
+label-end-requires c κs = search needs
 
 sub-if1 : tie.Need-sub-if1
 sub-if1 c = search needs
@@ -26,9 +26,9 @@ word-number-requires c κs = search needs
 returns-2 : tie.Need-returns-2
 unfolding numberAt
 returns-2 c =
-    let z : c .before .before .next-word .result - c .before .before .before .before .args .at ≡ runAt labelByte (c .before .before .before .before .args .s .now) (c .before .before .before .before .args .at) = omega arith in
+    let z : c .before .before .label-end .result - c .before .before .before .before .args .at ≡ runAt labelByte (c .before .before .before .before .args .s .now) (c .before .before .before .before .args .at) = omega arith in
     rw (le-leb (runAt labelByte (c .before .before .before .before .args .s .now) (c .before .before .before .before .args .at)) 8 (omega arith)) (rw z at (c .word-number .ensures))
 
 pub number-at-spec : {M : Type 1} → statement M
 number-at-spec =
-    tie.close (tie.spec next-word-requires sub-if1 returns word-number-requires returns-2)
+    tie.close (tie.spec label-end-requires sub-if1 returns word-number-requires returns-2)

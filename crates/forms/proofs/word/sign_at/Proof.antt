@@ -1,10 +1,9 @@
--- `lines::word::sign_at` meets its contract: what the number finds, the letters find.
+-- `forms::word::sign_at` meets its contract: what the number finds, the letters find.
 use mathlib.Core.Path.{refl, sym, ap, _∙_}
 use Rattle.forms.specs.Word.{numbered, signs, signAt}
 use Rattle.forms.proofs.WordLaws.{numbered-among}
 use Rattle.rights.specs.Labels.{labelByte}
 use Rattle.rights.specs.Bytes.{all}
-use Rattle.forms.specs.declared.word.Sign.the-variants.{NoSign}
 use borrow.Author.Needs.{needs}
 use Rattle.forms.proofs.word.sign_at.Statement.{statement}
 use Rattle.forms.proofs.word.sign_at.Tie as tie
@@ -17,7 +16,7 @@ numbered-sign-requires c κs = search needs
 
 returns : tie.Need-returns
 unfolding signAt labelByte all
-returns c = c .numbered-sign .ensures ∙ ap (numbered NoSign signs) (c .before .number-at .ensures) ∙ numbered-among NoSign signs refl (c .before .before .before .args .s .now) (c .before .before .before .args .at)
+returns c = c .numbered-sign .ensures ∙ ap (numbered 0 signs) (c .before .number-at .ensures) ∙ numbered-among 0 signs refl (c .before .before .before .args .s .now) (c .before .before .before .args .at)
 
 pub sign-at-spec : {M : Type 1} → statement M
 sign-at-spec = tie.close (tie.spec number-at-requires numbered-sign-requires returns)

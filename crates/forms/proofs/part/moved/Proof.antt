@@ -1,7 +1,7 @@
--- `lines::reader::moved` meets its contract.
+-- `forms::part::moved` meets its contract.
 use borrow.Author.Tests.{le-leb, lt-leb}
-use Rattle.forms.proofs.reader.moved.Statement.{statement}
-use Rattle.forms.proofs.reader.moved.Tie as tie
+use Rattle.forms.proofs.part.moved.Statement.{statement}
+use Rattle.forms.proofs.part.moved.Tie as tie
 
 returns : tie.Need-returns
 returns c = rw (le-leb _ _ (c .if1 .taken))

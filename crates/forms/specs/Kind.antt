@@ -1,0 +1,44 @@
+-- The kinds of a line's parts, and where a part of each kind ends (document 01, "Lines").
+use Prim.Native.Nat.{ℕ}
+use mathlib.Core.Bool.{Bool, cond}
+use mathlib.Core.List.{List}
+use lib.Dec.{eqb}
+use Rattle.rights.specs.Labels.{labelByte}
+use Rattle.rights.specs.declared.path.Read.{Read}
+use Rattle.rights.specs.declared.path.Read.the-variants.{Bad}
+use Rattle.forms.specs.Word.{signAt, rightAt}
+use Rattle.forms.specs.Part.{pathByte, labelEnd, runEnd, knownEnd}
+use Rattle.forms.specs.Tree.{treeEnd}
+
+-- a label, which may be a subject's name; a path; a tree; accept or deny; one of the five rights
+pub data Kind : Type 0 where
+  Label Path Tree Sign Right : Kind
+
+-- the place after a part
+abbrev pub partEnd : Kind → List ℕ → ℕ → Read
+partEnd Label s at = labelEnd s at
+partEnd Path s at = runEnd pathByte s at
+partEnd Tree s at = treeEnd s at
+partEnd Sign s at = knownEnd (signAt s at) s at
+partEnd Right s at = knownEnd (rightAt s at) s at
+
+-- The code names a kind by its number; 0 is no kind, and 6 the form's word itself.
+abbrev pub codeOf : Kind → ℕ
+codeOf Label = 1
+codeOf Path = 2
+codeOf Tree = 3
+codeOf Sign = 4
+codeOf Right = 5
+
+abbrev pub isTree : Kind → Bool
+isTree k = eqb (codeOf k) (codeOf Tree)
+
+unfoldable pub endBy : ℕ → List ℕ → ℕ → Read
+endBy n s at =
+    cond (eqb n 1) (partEnd Label s at)
+    (cond (eqb n 2) (partEnd Path s at)
+    (cond (eqb n 3) (partEnd Tree s at)
+    (cond (eqb n 4) (partEnd Sign s at)
+    (cond (eqb n 5) (partEnd Right s at)
+    (cond (eqb n 6) (runEnd labelByte s at)
+    Bad)))))
