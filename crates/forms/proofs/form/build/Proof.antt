@@ -4,114 +4,58 @@ use native.Mathlib.Omega.{arith}
 use borrow.Author.Needs.{needs}
 use Rattle.forms.proofs.form.build.Statement.{statement}
 use Rattle.forms.proofs.form.build.Tie as tie
-use Rattle.forms.proofs.form.build.Reads as reads
-use Rattle.forms.proofs.form.build.Lts as lts
-use Rattle.forms.proofs.form.part_at.Reads as part-at-reads
-use Rattle.forms.proofs.form.rule_form.Reads as rule-form-reads
 
--- src/form.rt:176:9
 part-at-requires : tie.Need-part-at-requires
 part-at-requires c κs = let h = c .before .pre .1 0 in (omega arith, c .before .pre .0, omega arith)
 
--- src/form.rt:177:9
 part-at-requires-2 : tie.Need-part-at-requires-2
 part-at-requires-2 c κs = let h = c .before .before .pre .1 1 in (omega arith, c .before .before .pre .0, omega arith)
 
--- src/form.rt:179:26
-
--- src/form.rt:180:22
-
--- src/form.rt:181:23
-
--- src/form.rt:181:23
-
--- src/form.rt:182:23
-
--- src/form.rt:183:24
-
--- src/form.rt:184:23
-
--- src/form.rt:185:23
-
--- src/form.rt:186:24
-
--- src/form.rt:187:23
-
--- src/form.rt:188:25
-
--- src/form.rt:189:25
-
--- src/form.rt:190:25
-
--- src/form.rt:191:25
-
--- src/form.rt:192:24
-
--- src/form.rt:193:25
-
--- src/form.rt:194:24
-
--- src/form.rt:172:1
 returns : tie.Need-returns
 returns c = rw (c .enum-told .given .1, c .before .before .before .part-at .ensures)
 
--- src/form.rt:172:1
 returns-2 : tie.Need-returns-2
 returns-2 c = rw (c .enum-told2 .given .1, c .before .before .before .part-at .ensures, c .before .before .part-at2 .ensures)
 
--- src/form.rt:172:1
 returns-3 : tie.Need-returns-3
 returns-3 c = rw (c .before .enum-told3 .given .1) (c .rule-form .ensures)
 
--- src/form.rt:172:1
 returns-4 : tie.Need-returns-4
 returns-4 c = rw (c .enum-told4 .given .1, c .before .before .before .part-at .ensures)
 
--- src/form.rt:172:1
 returns-5 : tie.Need-returns-5
 returns-5 c = rw (c .enum-told5 .given .1)
 
--- src/form.rt:172:1
 returns-6 : tie.Need-returns-6
 returns-6 c = rw (c .enum-told6 .given .1, c .before .before .before .part-at .ensures)
 
--- src/form.rt:172:1
 returns-7 : tie.Need-returns-7
 returns-7 c = rw (c .enum-told7 .given .1)
 
--- src/form.rt:172:1
 returns-8 : tie.Need-returns-8
 returns-8 c = rw (c .enum-told8 .given .1, c .before .before .before .part-at .ensures)
 
--- src/form.rt:172:1
 returns-9 : tie.Need-returns-9
 returns-9 c = rw (c .enum-told9 .given .1, c .before .before .before .part-at .ensures)
 
--- src/form.rt:172:1
 returns-10 : tie.Need-returns-10
 returns-10 c = rw (c .enum-told10 .given .1, c .before .before .before .part-at .ensures, c .before .before .part-at2 .ensures)
 
--- src/form.rt:172:1
 returns-11 : tie.Need-returns-11
 returns-11 c = rw (c .enum-told11 .given .1, c .before .before .before .part-at .ensures, c .before .before .part-at2 .ensures)
 
--- src/form.rt:172:1
 returns-12 : tie.Need-returns-12
 returns-12 c = rw (c .enum-told12 .given .1, c .before .before .before .part-at .ensures)
 
--- src/form.rt:172:1
 returns-13 : tie.Need-returns-13
 returns-13 c = rw (c .enum-told13 .given .1, c .before .before .before .part-at .ensures)
 
--- src/form.rt:172:1
 returns-14 : tie.Need-returns-14
 returns-14 c = rw (c .enum-told14 .given .1, c .before .before .before .part-at .ensures)
 
--- src/form.rt:172:1
 returns-15 : tie.Need-returns-15
 returns-15 c = rw (c .enum-told15 .given .1, c .before .before .before .part-at .ensures)
 
--- src/form.rt:172:1
 returns-16 : tie.Need-returns-16
 returns-16 c = rw (c .enum-told16 .given .1)
 

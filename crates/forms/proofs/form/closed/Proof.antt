@@ -7,29 +7,22 @@ use Rattle.rights.proofs.PathLaws.{past}
 use borrow.Author.Needs.{needs}
 use Rattle.forms.proofs.form.closed.Statement.{statement}
 use Rattle.forms.proofs.form.closed.Tie as tie
-use Rattle.forms.proofs.form.closed.Reads as reads
-use Rattle.forms.proofs.form.closed.Lts as lts
 
--- src/form.rt:95:9
 returns : tie.Need-returns
 returns c =
     let s : List ℕ = c .before .args .s .now in
     let at : ℕ = c .before .args .at in
     rw (ne-eqb _ 41 (past s at 41 (c .if1 .taken) (omega arith)))
 
--- src/form.rt:97:8
 shared-slice-read-if2 : tie.Need-shared-slice-read-if2
 shared-slice-read-if2 c = search needs
 
--- src/form.rt:98:9
 returns-2 : tie.Need-returns-2
 returns-2 c = rw (ne-eqb _ 41 (c .if2 .taken))
 
--- src/form.rt:100:16
 add-result : tie.Need-add-result
 add-result c = search needs
 
--- src/form.rt:91:1
 returns-3 : tie.Need-returns-3
 returns-3 c = rw (c .if2 .left)
 

@@ -7,34 +7,25 @@ use Rattle.rights.proofs.PathLaws.{bad-onward, earlier, past}
 use borrow.Author.Needs.{needs}
 use Rattle.forms.proofs.form.one_part.Statement.{statement}
 use Rattle.forms.proofs.form.one_part.Tie as tie
-use Rattle.forms.proofs.form.one_part.Reads as reads
-use Rattle.forms.proofs.form.one_part.Lts as lts
-use Rattle.forms.proofs.reader.next_part.Reads as next-part-reads
 
--- src/form.rt:82:9
 returns : tie.Need-returns
 returns c =
     let s : List ℕ = c .before .before .args .s .now in
     let at : ℕ = c .before .before .args .at in
     bad-onward _ _ (rw (ne-eqb _ 32 (past s at 32 (c .if1 .taken) (omega arith))))
 
--- src/form.rt:84:8
 shared-slice-read-if2 : tie.Need-shared-slice-read-if2
 shared-slice-read-if2 c = search needs
 
--- src/form.rt:85:9
 returns-2 : tie.Need-returns-2
 returns-2 c = bad-onward _ _ (rw (ne-eqb _ 32 (c .if2 .taken)))
 
--- src/form.rt:87:18
 add-next-part : tie.Need-add-next-part
 add-next-part c = search needs
 
--- src/form.rt:87:5
 next-part-requires : tie.Need-next-part-requires
 next-part-requires c κs = search needs
 
--- src/form.rt:77:1
 returns-3 : tie.Need-returns-3
 returns-3 c = earlier _ _ _ (rw (c .before .if2 .left)) (omega arith) (c .next-part .ensures)
 

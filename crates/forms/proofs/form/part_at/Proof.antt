@@ -3,34 +3,25 @@ use native.Mathlib.Numerals.{add-one}
 use borrow.Author.Needs.{needs}
 use Rattle.forms.proofs.form.part_at.Statement.{statement}
 use Rattle.forms.proofs.form.part_at.Tie as tie
-use Rattle.forms.proofs.form.part_at.Reads as reads
-use Rattle.forms.proofs.form.part_at.Lts as lts
 
--- src/form.rt:156:13
 mul-t3 : tie.Need-mul-t3
 mul-t3 c = search needs
 
--- src/form.rt:156:13
 element-copy-out-t6 : tie.Need-element-copy-out-t6
 element-copy-out-t6 c = search needs
 
--- src/form.rt:156:13
 add-t7 : tie.Need-add-t7
 add-t7 c = search needs
 
--- src/form.rt:157:19
 add-t8 : tie.Need-add-t8
 add-t8 c = search needs
 
--- src/form.rt:157:14
 mul-t9 : tie.Need-mul-t9
 mul-t9 c = search needs
 
--- src/form.rt:157:14
 element-copy-out-t12 : tie.Need-element-copy-out-t12
 element-copy-out-t12 c = search needs
 
--- src/form.rt:151:1
 returns : tie.Need-returns
 returns c = rw (add-one (c .before .before .args .i))
 

@@ -1,4 +1,4 @@
--- `lines::form::put_tree_at` meets its contract.
+-- `forms::form::put_tree_at` meets its contract.
 use mathlib.Core.Path.{refl}
 use Rattle.rights.proofs.RecordLaws.{pasted-none}
 use Rattle.forms.specs.Tree.{recordsOf}

@@ -4,117 +4,67 @@ use Rattle.forms.specs.Form.{codesOf}
 use borrow.Author.Needs.{needs}
 use Rattle.forms.proofs.form.shape_of.Statement.{statement}
 use Rattle.forms.proofs.form.shape_of.Tie as tie
-use Rattle.forms.proofs.form.shape_of.Reads as reads
-use Rattle.forms.proofs.form.shape_of.Lts as lts
 
--- src/form.rt:57:26
-
--- src/form.rt:58:22
-
--- src/form.rt:59:23
-
--- src/form.rt:60:23
-
--- src/form.rt:61:24
-
--- src/form.rt:62:23
-
--- src/form.rt:63:23
-
--- src/form.rt:64:24
-
--- src/form.rt:65:23
-
--- src/form.rt:66:25
-
--- src/form.rt:67:25
-
--- src/form.rt:68:25
-
--- src/form.rt:69:25
-
--- src/form.rt:70:24
-
--- src/form.rt:71:25
-
--- src/form.rt:72:24
-
--- src/form.rt:53:1
 returns : tie.Need-returns
 unfolding codesOf
 returns c = (rw (c .enum-told .given .1), refl)
 
--- src/form.rt:53:1
 returns-2 : tie.Need-returns-2
 unfolding codesOf
 returns-2 c = (rw (c .enum-told2 .given .1), refl)
 
--- src/form.rt:53:1
 returns-3 : tie.Need-returns-3
 unfolding codesOf
 returns-3 c = (rw (c .enum-told3 .given .1), refl)
 
--- src/form.rt:53:1
 returns-4 : tie.Need-returns-4
 unfolding codesOf
 returns-4 c = (rw (c .enum-told4 .given .1), refl)
 
--- src/form.rt:53:1
 returns-5 : tie.Need-returns-5
 unfolding codesOf
 returns-5 c = (rw (c .enum-told5 .given .1), refl)
 
--- src/form.rt:53:1
 returns-6 : tie.Need-returns-6
 unfolding codesOf
 returns-6 c = (rw (c .enum-told6 .given .1), refl)
 
--- src/form.rt:53:1
 returns-7 : tie.Need-returns-7
 unfolding codesOf
 returns-7 c = (rw (c .enum-told7 .given .1), refl)
 
--- src/form.rt:53:1
 returns-8 : tie.Need-returns-8
 unfolding codesOf
 returns-8 c = (rw (c .enum-told8 .given .1), refl)
 
--- src/form.rt:53:1
 returns-9 : tie.Need-returns-9
 unfolding codesOf
 returns-9 c = (rw (c .enum-told9 .given .1), refl)
 
--- src/form.rt:53:1
 returns-10 : tie.Need-returns-10
 unfolding codesOf
 returns-10 c = (rw (c .enum-told10 .given .1), refl)
 
--- src/form.rt:53:1
 returns-11 : tie.Need-returns-11
 unfolding codesOf
 returns-11 c = (rw (c .enum-told11 .given .1), refl)
 
--- src/form.rt:53:1
 returns-12 : tie.Need-returns-12
 unfolding codesOf
 returns-12 c = (rw (c .enum-told12 .given .1), refl)
 
--- src/form.rt:53:1
 returns-13 : tie.Need-returns-13
 unfolding codesOf
 returns-13 c = (rw (c .enum-told13 .given .1), refl)
 
--- src/form.rt:53:1
 returns-14 : tie.Need-returns-14
 unfolding codesOf
 returns-14 c = (rw (c .enum-told14 .given .1), refl)
 
--- src/form.rt:53:1
 returns-15 : tie.Need-returns-15
 unfolding codesOf
 returns-15 c = (rw (c .enum-told15 .given .1), refl)
 
--- src/form.rt:53:1
 returns-16 : tie.Need-returns-16
 unfolding codesOf
 returns-16 c = (rw (c .enum-told16 .given .1), refl)

@@ -6,65 +6,34 @@ use Rattle.forms.specs.Kind.{endBy}
 use borrow.Author.Needs.{needs}
 use Rattle.forms.proofs.kind.part_end.Statement.{statement}
 use Rattle.forms.proofs.kind.part_end.Tie as tie
-use Rattle.forms.proofs.kind.part_end.Reads as reads
-use Rattle.forms.proofs.kind.part_end.Lts as lts
-use Rattle.forms.proofs.part.known_end.Reads as known-end-reads
-use Rattle.forms.proofs.part.label_part_end.Reads as label-part-end-reads
-use Rattle.forms.proofs.part.path_part_end.Reads as path-part-end-reads
-use Rattle.forms.proofs.part.word_end.Reads as word-end-reads
-use Rattle.forms.proofs.tree.tree_end.Reads as tree-end-reads
-use Rattle.forms.proofs.word.right_at.Reads as right-at-reads
-use Rattle.forms.proofs.word.sign_at.Reads as sign-at-reads
 
--- src/kind.rt:36:18
-
--- src/kind.rt:37:17
-
--- src/kind.rt:38:17
-
--- src/kind.rt:39:34
-
--- src/kind.rt:39:17
-
--- src/kind.rt:40:35
-
--- src/kind.rt:40:18
 known-end-requires-2 : tie.Need-known-end-requires-2
 known-end-requires-2 c κs = c .before .before .before .pre
 
--- src/kind.rt:41:17
-
--- src/kind.rt:31:1
 returns : tie.Need-returns
 unfolding endBy
 returns c = earlier _ _ _ (rw (c .before .match .keys1)) (omega arith) (c .label-part-end .ensures)
 
--- src/kind.rt:31:1
 returns-2 : tie.Need-returns-2
 unfolding endBy
 returns-2 c = earlier _ _ _ (rw (c .before .match .keys2)) (omega arith) (c .path-part-end .ensures)
 
--- src/kind.rt:31:1
 returns-3 : tie.Need-returns-3
 unfolding endBy
 returns-3 c = earlier _ _ _ (rw (c .before .match .keys3)) (omega arith) (c .tree-end .ensures)
 
--- src/kind.rt:31:1
 returns-4 : tie.Need-returns-4
 unfolding endBy
 returns-4 c = earlier _ _ _ (rw (c .before .before .match .keys4)) (omega arith) (rw (c .before .sign-at .ensures) at (c .known-end .ensures))
 
--- src/kind.rt:31:1
 returns-5 : tie.Need-returns-5
 unfolding endBy
 returns-5 c = earlier _ _ _ (rw (c .before .before .match .keys5)) (omega arith) (rw (c .before .right-at .ensures) at (c .known-end2 .ensures))
 
--- src/kind.rt:31:1
 returns-6 : tie.Need-returns-6
 unfolding endBy
 returns-6 c = earlier _ _ _ (rw (c .before .match .keys6)) (omega arith) (c .word-end .ensures)
 
--- src/kind.rt:31:1
 returns-7 : tie.Need-returns-7
 unfolding endBy
 returns-7 c =

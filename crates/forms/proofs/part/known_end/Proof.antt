@@ -5,19 +5,13 @@ use Rattle.forms.proofs.PartLaws.{known-none, known-some}
 use borrow.Author.Needs.{needs}
 use Rattle.forms.proofs.part.known_end.Statement.{statement}
 use Rattle.forms.proofs.part.known_end.Tie as tie
-use Rattle.forms.proofs.part.known_end.Reads as reads
-use Rattle.forms.proofs.part.known_end.Lts as lts
-use Rattle.forms.proofs.part.word_end.Reads as word-end-reads
 
--- src/part.rt:82:9
 returns : tie.Need-returns
 returns c = bad-onward _ _ (known-none _ _ _ (c .if1 .taken))
 
--- src/part.rt:84:5
 word-end-requires : tie.Need-word-end-requires
 word-end-requires c κs = search needs
 
--- src/part.rt:77:1
 returns-2 : tie.Need-returns-2
 returns-2 c = earlier _ _ _ (known-some _ _ _ (c .before .if1 .left)) (omega arith) (c .word-end .ensures)
 

@@ -1,4 +1,4 @@
--- `lines::part::path_run_end` meets its contract: what is left of the run from i on is what is left of it from `at` on.
+-- `forms::part::path_run_end` meets its contract: what is left of the run from i on is what is left of it from `at` on.
 use Prim.Native.Nat.{ℕ, _+_, _-_, _≤_}
 use mathlib.Core.Path.{_≡_, _∙_, sym, refl}
 use mathlib.Core.List.{List}

@@ -1,4 +1,4 @@
--- `lines::tree::open_end` meets its contract.
+-- `forms::tree::open_end` meets its contract.
 use mathlib.Core.Path.{_≡_, refl, sym, ap, _∙_}
 use mathlib.Core.List.{List}
 use native.Mathlib.Omega.{arith}

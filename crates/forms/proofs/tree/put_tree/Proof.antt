@@ -1,4 +1,4 @@
--- `lines::tree::put_tree` meets its contract.
+-- `forms::tree::put_tree` meets its contract.
 use Prim.Native.Nat.{ℕ}
 use mathlib.Core.Path.{_≡_, refl, sym, ap, _∙_}
 use mathlib.Core.List.{List}

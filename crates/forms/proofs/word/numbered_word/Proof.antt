@@ -1,4 +1,4 @@
--- `lines::word::numbered_word` meets its contract: the numbers are those of the letters, by computing.
+-- `forms::word::numbered_word` meets its contract: the numbers are those of the letters, by computing.
 use borrow.Author.Tests.{ne-eqb}
 use Rattle.forms.specs.Word.{numbered, number}
 use Rattle.forms.proofs.word.numbered_word.Statement.{statement}

@@ -1,4 +1,4 @@
--- `lines::word::word_at` meets its contract: what the number finds, the letters find.
+-- `forms::word::word_at` meets its contract: what the number finds, the letters find.
 use mathlib.Core.Path.{refl, sym, ap, _∙_}
 use Rattle.forms.specs.Word.{numbered, words, wordAt}
 use Rattle.forms.proofs.WordLaws.{numbered-among}

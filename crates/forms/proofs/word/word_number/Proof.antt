@@ -1,4 +1,4 @@
--- `lines::word::word_number` meets its contract: n is the number of the bytes from i on, and fits in as many bytes.
+-- `forms::word::word_number` meets its contract: n is the number of the bytes from i on, and fits in as many bytes.
 use Prim.Native.Nat.{ℕ, suc, _+_, _-_, _*_, _^_, _≤_, _<_}
 use mathlib.Core.Path.{_≡_, refl, sym, ap, _∙_}
 use mathlib.Core.List.{List}
