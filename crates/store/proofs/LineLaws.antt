@@ -24,8 +24,8 @@ use Rattle.forms.specs.TreeText.{GoodTree, GoodTrees, nodesOf, nodesIn}
 use Rattle.forms.specs.Form.{readForm, treeIn}
 use Rattle.answers.specs.AnswerChoice.{Choice}
 use Rattle.lines.specs.State.{stage, storeOk}
-use Rattle.lines.specs.Outcome.{Made}
-use Rattle.lines.specs.Refusal.{Passed, firstRefusal}
+use Rattle.lines.specs.Outcome.{Outcome, refusal, Made}
+use Rattle.lines.specs.Refusal.{checked, Passed, firstRefusal}
 use Rattle.lines.specs.Effect.{Work, guarded, performed, Performs}
 use Rattle.lines.specs.declared.line.Answer.{Answer}
 use Rattle.lines.specs.declared.line.Answer.the-variants.{Refused}
@@ -146,101 +146,120 @@ module _ (f : Form) (g : ℕ) where
     pub at-form : b ≡ true → 0 ≡ firstRefusal (formChecks f g)
     at-form r = let z : inStage (stageOf f) g ≡ true = ap (λ j. inStage j g) (sym e) ∙ sym q ∙ r in rw (n, z)
 
-  pub form-passed : {d : ℕ} → d ≡ firstRefusal (formChecks f g) → d ≡ 0 → inStage (stageOf f) g ≡ true
-  form-passed {d} e z = not-false (inStage (stageOf f) g) (passed (formChecks f g) d refl e z .1 .0)
+-- what both let pass
+pub run-asks : (s t line : List ℕ) {d g : ℕ} {f : Form} → d ≡ firstRefusal (textChecks s t line) → d ≡ 0 → f ≡ readForm line
+    → g ≡ firstRefusal (formChecks f (stage s)) → g ≡ 0
+    → (storeOk s t ≡ true) × (lineOk line ≡ true) × (f ≡ readForm line) × (inStage (stageOf f) (stage s) ≡ true)
+run-asks s t line {d} {g} {f} e z q k w =
+    let p = text-passed s t line e z in
+    (p .0, p .1, q, not-false (inStage (stageOf f) (stage s)) (passed (formChecks f (stage s)) g refl k w .1 .0))
+
+-- a refusal leaves all as it was
+pub refused : {n : ℕ} {s t area : List ℕ} → Made (refusal n s t) area (Refused n) s t area
+refused = record { answer = refl; state = refl; table = refl; area = refl }
 
 -- Each form's own work
 
-pub performs-at : {w w' : Work} {s t area s' t' area' : List ℕ} {r : Answer} → w ≡ w' → Performs w' s t area r s' t' area' → Performs w s t area r s' t' area'
-performs-at {s = s} {t = t} {area = area} e k = made-at (ap (λ w. performed w (length area) s t) e) k
+module _ (choice : Choice) (f : Form) (s t : List ℕ) (room : ℕ) (line tree : List ℕ) where
+  abbrev done : Work → Outcome
+  done w = performed w room s t
 
-module _ (choice : Choice) (f : Form) (s t line tree : List ℕ) where
-  abbrev work : Work
-  work = workOf choice f s t line tree
+  abbrev own : Outcome
+  own = performed (workOf choice f s t line tree) room s t
 
-  at : {g : Form} → f ≡ g → work ≡ workOf choice g s t line tree
-  at e = ap (λ g. workOf choice g s t line tree) e
+  at : {g : Form} → f ≡ g → own ≡ performed (workOf choice g s t line tree) room s t
+  at e = ap (λ g. performed (workOf choice g s t line tree) room s t) e
 
-  pub run-subject : {n : Part} (x : List ℕ) → f ≡ Subject n → x ≡ bytesOf line n → work ≡ workSubject s x
-  run-subject x e q = at e ∙ (λ i. workSubject s (sym q i))
+  pub run-subject : {n : Part} (x : List ℕ) → f ≡ Subject n → x ≡ bytesOf line n → own ≡ done (workSubject s x)
+  run-subject x e q = at e ∙ (λ i. done (workSubject s (sym q i)))
 
-  pub run-isa : {n r : Part} (x y : List ℕ) → f ≡ Isa n r → x ≡ bytesOf line n → y ≡ bytesOf line r → work ≡ workIsa s x y
-  run-isa x y e q w = at e ∙ (λ i. workIsa s (sym q i) (sym w i))
+  pub run-isa : {n r : Part} (x y : List ℕ) → f ≡ Isa n r → x ≡ bytesOf line n → y ≡ bytesOf line r → own ≡ done (workIsa s x y)
+  run-isa x y e q w = at e ∙ (λ i. done (workIsa s (sym q i) (sym w i)))
 
   pub run-rule : {a : Bool} {b : ℕ} {p n : Part} (k : ℕ) (x y : List ℕ) → f ≡ Rule a b p n → k ≡ acceptByte a → x ≡ bytesOf line p → y ≡ bytesOf line n
-      → work ≡ workRule s k b x y
-  run-rule {b = b} k x y e z q w = at e ∙ (λ i. workRule s (sym z i) b (sym q i) (sym w i))
+      → own ≡ done (workRule s k b x y)
+  run-rule {b = b} k x y e z q w = at e ∙ (λ i. done (workRule s (sym z i) b (sym q i) (sym w i)))
 
-  pub run-root : {l : Part} (x : List ℕ) → f ≡ Root l → x ≡ bytesOf line l → work ≡ workRoot t x
-  run-root x e q = at e ∙ (λ i. workRoot t (sym q i))
+  pub run-root : {l : Part} (x : List ℕ) → f ≡ Root l → x ≡ bytesOf line l → own ≡ done (workRoot t x)
+  run-root x e q = at e ∙ (λ i. done (workRoot t (sym q i)))
 
-  pub run-child : {m : ℕ} (x : List ℕ) → f ≡ Child m → x ≡ tree → work ≡ workChild t m x
-  run-child {m} x e q = at e ∙ (λ i. workChild t m (sym q i))
+  pub run-child : {m : ℕ} (x : List ℕ) → f ≡ Child m → x ≡ tree → own ≡ done (workChild t m x)
+  run-child {m} x e q = at e ∙ (λ i. done (workChild t m (sym q i)))
 
-  pub run-user : {n : Part} (x : List ℕ) → f ≡ User n → x ≡ bytesOf line n → work ≡ workUser s x
-  run-user x e q = at e ∙ (λ i. workUser s (sym q i))
+  pub run-user : {n : Part} (x : List ℕ) → f ≡ User n → x ≡ bytesOf line n → own ≡ done (workUser s x)
+  run-user x e q = at e ∙ (λ i. done (workUser s (sym q i)))
 
-  pub run-view : f ≡ View → work ≡ workView s t
+  pub run-view : f ≡ View → own ≡ done (workView s t)
   run-view e = at e
 
-  pub run-query : {p : Part} (x : List ℕ) → f ≡ Query p → x ≡ bytesOf line p → work ≡ workAsk choice ask.Query s t x
-  run-query x e q = at e ∙ (λ i. workAsk choice ask.Query s t (sym q i))
+  pub run-query : {p : Part} (x : List ℕ) → f ≡ Query p → x ≡ bytesOf line p → own ≡ done (workAsk choice ask.Query s t x)
+  run-query x e q = at e ∙ (λ i. done (workAsk choice ask.Query s t (sym q i)))
 
-  pub run-find : {p : Part} (x : List ℕ) → f ≡ Find p → x ≡ bytesOf line p → work ≡ workAsk choice ask.Find s t x
-  run-find x e q = at e ∙ (λ i. workAsk choice ask.Find s t (sym q i))
+  pub run-find : {p : Part} (x : List ℕ) → f ≡ Find p → x ≡ bytesOf line p → own ≡ done (workAsk choice ask.Find s t x)
+  run-find x e q = at e ∙ (λ i. done (workAsk choice ask.Find s t (sym q i)))
 
-  pub run-rename : {p l : Part} (x y : List ℕ) → f ≡ Rename p l → x ≡ bytesOf line p → y ≡ bytesOf line l → work ≡ workRename change.Rename s t x y
-  run-rename x y e q w = at e ∙ (λ i. workRename change.Rename s t (sym q i) (sym w i))
+  pub run-rename : {p l : Part} (x y : List ℕ) → f ≡ Rename p l → x ≡ bytesOf line p → y ≡ bytesOf line l → own ≡ done (workRename change.Rename s t x y)
+  run-rename x y e q w = at e ∙ (λ i. done (workRename change.Rename s t (sym q i) (sym w i)))
 
-  pub run-update : {p l : Part} (x y : List ℕ) → f ≡ Update p l → x ≡ bytesOf line p → y ≡ bytesOf line l → work ≡ workRename change.Update s t x y
-  run-update x y e q w = at e ∙ (λ i. workRename change.Update s t (sym q i) (sym w i))
+  pub run-update : {p l : Part} (x y : List ℕ) → f ≡ Update p l → x ≡ bytesOf line p → y ≡ bytesOf line l → own ≡ done (workRename change.Update s t x y)
+  run-update x y e q w = at e ∙ (λ i. done (workRename change.Update s t (sym q i) (sym w i)))
 
-  pub run-append : {p : Part} {m : ℕ} (x y : List ℕ) → f ≡ Append p m → x ≡ bytesOf line p → y ≡ tree → work ≡ workInsert place.Append s t x m y
-  run-append {m = m} x y e q w = at e ∙ (λ i. workInsert place.Append s t (sym q i) m (sym w i))
+  pub run-append : {p : Part} {m : ℕ} (x y : List ℕ) → f ≡ Append p m → x ≡ bytesOf line p → y ≡ tree → own ≡ done (workInsert place.Append s t x m y)
+  run-append {m = m} x y e q w = at e ∙ (λ i. done (workInsert place.Append s t (sym q i) m (sym w i)))
 
-  pub run-before : {p : Part} {m : ℕ} (x y : List ℕ) → f ≡ Before p m → x ≡ bytesOf line p → y ≡ tree → work ≡ workInsert place.Before s t x m y
-  run-before {m = m} x y e q w = at e ∙ (λ i. workInsert place.Before s t (sym q i) m (sym w i))
+  pub run-before : {p : Part} {m : ℕ} (x y : List ℕ) → f ≡ Before p m → x ≡ bytesOf line p → y ≡ tree → own ≡ done (workInsert place.Before s t x m y)
+  run-before {m = m} x y e q w = at e ∙ (λ i. done (workInsert place.Before s t (sym q i) m (sym w i)))
 
-  pub run-after : {p : Part} {m : ℕ} (x y : List ℕ) → f ≡ After p m → x ≡ bytesOf line p → y ≡ tree → work ≡ workInsert place.After s t x m y
-  run-after {m = m} x y e q w = at e ∙ (λ i. workInsert place.After s t (sym q i) m (sym w i))
+  pub run-after : {p : Part} {m : ℕ} (x y : List ℕ) → f ≡ After p m → x ≡ bytesOf line p → y ≡ tree → own ≡ done (workInsert place.After s t x m y)
+  run-after {m = m} x y e q w = at e ∙ (λ i. done (workInsert place.After s t (sym q i) m (sym w i)))
 
-  pub run-remove : {p : Part} (x : List ℕ) → f ≡ Remove p → x ≡ bytesOf line p → work ≡ workRemove s t x
-  run-remove x e q = at e ∙ (λ i. workRemove s t (sym q i))
+  pub run-remove : {p : Part} (x : List ℕ) → f ≡ Remove p → x ≡ bytesOf line p → own ≡ done (workRemove s t x)
+  run-remove x e q = at e ∙ (λ i. done (workRemove s t (sym q i)))
 
   -- a form that was not read is turned down
-  pub run-none : f ≡ NoForm → {area : List ℕ} → Performs work s t area (Refused 2) s t area
-  run-none e = performs-at (at e) (performs-refused (workOf choice NoForm s t line tree) s t refl (λ z. omega (arith, z)))
+  pub run-none : f ≡ NoForm → own ≡ refusal 2 s t
+  unfolding performed checked
+  run-none e = at e
 
 -- The whole line
 
 module _ (choice : Choice) (s t line : List ℕ) where
+  abbrev form : Form
+  form = readForm line
+
+  abbrev ownWork : Work
+  ownWork = workOf choice form s t line (recordsOf (treeIn line))
+
   abbrev whole : Work
-  whole = guarded (lineChecks s t line (readForm line)) (workOf choice (readForm line) s t line (recordsOf (treeIn line)))
+  whole = guarded (lineChecks s t line form) ownWork
 
   -- refused before it is read
   pub text-refused : {d : ℕ} {area : List ℕ} → d ≡ firstRefusal (textChecks s t line) → (d ≡ 0 → ⊥) → Made (step choice s t line (length area)) area (Refused d) s t area
   unfolding step
-  text-refused {d} e h = performs-refused whole s t (first-front (textChecks s t line) _ d e h) h
+  text-refused {d} e h = performs-refused whole s t (first-front (textChecks s t line) (formChecks form (stage s) ++ ownWork .checks) d e h) h
 
   -- refused for its form
   module _ {d : ℕ} (e : d ≡ firstRefusal (textChecks s t line)) (z : d ≡ 0) {f : Form} (q : f ≡ readForm line) {g : ℕ} (k : g ≡ firstRefusal (formChecks f (stage s))) where
     passed-text : Passed (textChecks s t line)
     passed-text = passed (textChecks s t line) d refl e z
 
-    read : g ≡ firstRefusal (formChecks (readForm line) (stage s))
+    read : g ≡ firstRefusal (formChecks form (stage s))
     read = k ∙ ap (λ f. firstRefusal (formChecks f (stage s))) q
 
     pub form-refused : {area : List ℕ} → (g ≡ 0 → ⊥) → Made (step choice s t line (length area)) area (Refused g) s t area
     unfolding step
     form-refused h =
-        performs-refused whole s t (first-front (formChecks (readForm line) (stage s)) _ g read h ∙ sym (first-behind (textChecks s t line) _ passed-text)) h
+        performs-refused whole s t
+        (first-front (formChecks form (stage s)) (ownWork .checks) g read h
+        ∙ sym (first-behind (textChecks s t line) (formChecks form (stage s) ++ ownWork .checks) passed-text))
+        h
 
     -- taken to the form's own work
     pub line-run : {area s' t' area' : List ℕ} {r : Answer} → g ≡ 0 → Performs (workOf choice f s t line (recordsOf (treeIn line))) s t area r s' t' area'
         → Made (step choice s t line (length area)) area r s' t' area'
     unfolding step
-    line-run {area} w m =
+    line-run {area} {s'} {t'} {area'} {r} w m =
         made-at
-        (performed-guarded (lineChecks s t line (readForm line)) (workOf choice (readForm line) s t line (recordsOf (treeIn line))) (length area) s t
-        (passed-append (textChecks s t line) (formChecks (readForm line) (stage s)) passed-text (passed (formChecks (readForm line) (stage s)) g refl read w)))
-        (subst (λ f. Performs (workOf choice f s t line (recordsOf (treeIn line))) s t area _ _ _ _) q m)
+        (performed-guarded (lineChecks s t line form) ownWork (length area) s t
+        (passed-append (textChecks s t line) (formChecks form (stage s)) passed-text (passed (formChecks form (stage s)) g refl read w)))
+        (subst (λ f. Performs (workOf choice f s t line (recordsOf (treeIn line))) s t area r s' t' area') q m)

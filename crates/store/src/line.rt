@@ -83,7 +83,24 @@ fn in_stage(k: u8, g: u8) -> bool
 fn is_no_form(f: Form) -> bool
     ensures { λ r. ⌜ r ≡ isNoForm f ⌝ }
 {
-    if let Form::NoForm = f { true } else { false }
+    match f {
+        Form::Subject(_) => false,
+        Form::Isa(_, _) => false,
+        Form::Rule(_, _, _, _) => false,
+        Form::Root(_) => false,
+        Form::Child(_) => false,
+        Form::User(_) => false,
+        Form::View => false,
+        Form::Query(_) => false,
+        Form::Find(_) => false,
+        Form::Rename(_, _) => false,
+        Form::Update(_, _) => false,
+        Form::Append(_, _) => false,
+        Form::Before(_, _) => false,
+        Form::After(_, _) => false,
+        Form::Remove(_) => false,
+        Form::NoForm => true,
+    }
 }
 
 // The refusal of a store or of a line's bytes.

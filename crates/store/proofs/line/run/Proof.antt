@@ -1,5 +1,5 @@
-use Rattle.store.proofs.LineLaws.{performs-at}
-use Rattle.store.proofs.LineLaws.{fits-at, asks, label-short, tree-asks, tree-taken, tree-holds, root-stage, run-subject, run-isa, run-rule, run-root, run-child, run-user, run-view, run-query, run-find, run-rename, run-update, run-append, run-before, run-after, run-remove, run-none}
+use Rattle.lines.proofs.OutcomeLaws.{made-at}
+use Rattle.store.proofs.LineLaws.{refused, fits-at, asks, label-short, tree-asks, tree-taken, tree-holds, root-stage, run-subject, run-isa, run-rule, run-root, run-child, run-user, run-view, run-query, run-find, run-rename, run-update, run-append, run-before, run-after, run-remove, run-none}
 use borrow.Author.Needs.{needs}
 use Rattle.store.proofs.line.run.Statement.{statement}
 use Rattle.store.proofs.line.run.Tie as tie
@@ -96,52 +96,52 @@ part-of-requires-17 : tie.Need-part-of-requires-17
 part-of-requires-17 c κs = asks (fits-at (c .before .before .before .before .before .before .before .before .before .before .args .line .now) (c .before .before .before .before .before .before .before .before .before .before .pre .2) (c .before .before .before .f14 .given .1))
 
 returns : tie.Need-returns
-returns c = performs-at (run-subject _ _ _ _ _ _ _ (c .before .before .before .before .before .before .before .before .before .before .f .given .1) (c .before .before .before .before .before .before .part-of .ensures)) (c .before .before .before .before .declare .ensures)
+returns c = made-at (run-subject _ _ _ _ _ _ _ _ (c .before .before .before .before .before .before .before .before .before .before .f .given .1) (c .before .before .before .before .before .before .part-of .ensures)) (c .before .before .before .before .declare .ensures)
 
 returns-2 : tie.Need-returns-2
-returns-2 c = performs-at (run-isa _ _ _ _ _ _ _ _ (c .before .before .before .before .before .before .before .before .before .before .before .f2 .given .1) (c .before .before .before .before .before .before .before .part-of2 .ensures) (c .before .before .before .before .before .before .part-of3 .ensures)) (c .before .before .before .before .relate .ensures)
+returns-2 c = made-at (run-isa _ _ _ _ _ _ _ _ _ (c .before .before .before .before .before .before .before .before .before .before .before .f2 .given .1) (c .before .before .before .before .before .before .before .part-of2 .ensures) (c .before .before .before .before .before .before .part-of3 .ensures)) (c .before .before .before .before .relate .ensures)
 
 returns-3 : tie.Need-returns-3
-returns-3 c = performs-at (run-rule _ _ _ _ _ _ _ _ _ (c .before .before .before .before .before .before .before .before .before .before .before .before .f3 .given .1) (c .before .before .before .before .before .before .before .before .accept-byte .ensures) (c .before .before .before .before .before .before .before .part-of4 .ensures) (c .before .before .before .before .before .before .part-of5 .ensures)) (c .before .before .before .before .rule .ensures)
+returns-3 c = made-at (run-rule _ _ _ _ _ _ _ _ _ _ (c .before .before .before .before .before .before .before .before .before .before .before .before .f3 .given .1) (c .before .before .before .before .before .before .before .before .accept-byte .ensures) (c .before .before .before .before .before .before .before .part-of4 .ensures) (c .before .before .before .before .before .before .part-of5 .ensures)) (c .before .before .before .before .rule .ensures)
 
 returns-4 : tie.Need-returns-4
-returns-4 c = performs-at (run-root _ _ _ _ _ _ _ (c .before .before .before .before .before .before .before .before .before .before .before .before .f4 .given .1) (c .before .before .before .before .before .before .before .before .part-of6 .ensures)) (c .before .before .before .before .before .before .root .ensures)
+returns-4 c = made-at (run-root _ _ _ _ _ _ _ _ (c .before .before .before .before .before .before .before .before .before .before .before .before .f4 .given .1) (c .before .before .before .before .before .before .before .before .part-of6 .ensures)) (c .before .before .before .before .before .before .root .ensures)
 
 returns-5 : tie.Need-returns-5
-returns-5 c = performs-at (run-child _ _ _ _ _ _ _ (c .before .before .before .before .before .before .before .before .before .before .before .before .f5 .given .1) (tree-taken (fits-at (c .before .before .before .before .before .before .before .before .before .before .before .before .before .before .before .before .before .before .before .args .line .now) (c .before .before .before .before .before .before .before .before .before .before .before .before .before .before .before .before .before .before .before .pre .2) (c .before .before .before .before .before .before .before .before .before .before .before .before .f5 .given .1)) (c .before .before .before .before .before .before .before .before .before .before .before .before .before .before .before .before .before .before .before .args .tree .now) (c .before .before .before .before .before .before .before .before .before .before .before .before .before .before .before .before .before .before .before .pre .4) (c .before .before .before .before .before .before .before .before .before .before .before .before .before .before .before .before .before .before .before .pre .1) _ (c .before .before .before .before .before .before .before .before .tree-of .ensures))) (c .before .before .before .before .before .before .child .ensures)
+returns-5 c = made-at (run-child _ _ _ _ _ _ _ _ (c .before .before .before .before .before .before .before .before .before .before .before .before .f5 .given .1) (tree-taken (fits-at (c .before .before .before .before .before .before .before .before .before .before .before .before .before .before .before .before .before .before .before .args .line .now) (c .before .before .before .before .before .before .before .before .before .before .before .before .before .before .before .before .before .before .before .pre .2) (c .before .before .before .before .before .before .before .before .before .before .before .before .f5 .given .1)) (c .before .before .before .before .before .before .before .before .before .before .before .before .before .before .before .before .before .before .before .args .tree .now) (c .before .before .before .before .before .before .before .before .before .before .before .before .before .before .before .before .before .before .before .pre .4) (c .before .before .before .before .before .before .before .before .before .before .before .before .before .before .before .before .before .before .before .pre .1) _ (c .before .before .before .before .before .before .before .before .tree-of .ensures))) (c .before .before .before .before .before .before .child .ensures)
 
 returns-6 : tie.Need-returns-6
-returns-6 c = performs-at (run-user _ _ _ _ _ _ _ (c .before .before .before .before .before .before .before .before .before .before .f6 .given .1) (c .before .before .before .before .before .before .part-of7 .ensures)) (c .before .before .before .before .log-in .ensures)
+returns-6 c = made-at (run-user _ _ _ _ _ _ _ _ (c .before .before .before .before .before .before .before .before .before .before .f6 .given .1) (c .before .before .before .before .before .before .part-of7 .ensures)) (c .before .before .before .before .log-in .ensures)
 
 returns-7 : tie.Need-returns-7
-returns-7 c = performs-at (run-view _ _ _ _ _ _ (c .before .before .before .before .before .before .enum-told .given .1)) (c .before .before .view .ensures)
+returns-7 c = made-at (run-view _ _ _ _ _ _ _ (c .before .before .before .before .before .before .enum-told .given .1)) (c .before .before .view .ensures)
 
 returns-8 : tie.Need-returns-8
-returns-8 c = performs-at (run-query _ _ _ _ _ _ _ (c .before .before .before .before .before .before .before .before .f7 .given .1) (c .before .before .before .before .part-of8 .ensures)) (c .before .before .query .ensures)
+returns-8 c = made-at (run-query _ _ _ _ _ _ _ _ (c .before .before .before .before .before .before .before .before .f7 .given .1) (c .before .before .before .before .part-of8 .ensures)) (c .before .before .ask-path .ensures)
 
 returns-9 : tie.Need-returns-9
-returns-9 c = performs-at (run-find _ _ _ _ _ _ _ (c .before .before .before .before .before .before .before .before .f8 .given .1) (c .before .before .before .before .part-of9 .ensures)) (c .before .before .find .ensures)
+returns-9 c = made-at (run-find _ _ _ _ _ _ _ _ (c .before .before .before .before .before .before .before .before .f8 .given .1) (c .before .before .before .before .part-of9 .ensures)) (c .before .before .ask-path2 .ensures)
 
 returns-10 : tie.Need-returns-10
-returns-10 c = performs-at (run-rename _ _ _ _ _ _ _ _ (c .before .before .before .before .before .before .before .before .before .before .before .f9 .given .1) (c .before .before .before .before .before .before .before .part-of10 .ensures) (c .before .before .before .before .before .before .part-of11 .ensures)) (c .before .before .before .before .rename .ensures)
+returns-10 c = made-at (run-rename _ _ _ _ _ _ _ _ _ (c .before .before .before .before .before .before .before .before .before .before .before .f9 .given .1) (c .before .before .before .before .before .before .before .part-of10 .ensures) (c .before .before .before .before .before .before .part-of11 .ensures)) (c .before .before .before .before .rename .ensures)
 
 returns-11 : tie.Need-returns-11
-returns-11 c = performs-at (run-update _ _ _ _ _ _ _ _ (c .before .before .before .before .before .before .before .before .before .before .before .f10 .given .1) (c .before .before .before .before .before .before .before .part-of12 .ensures) (c .before .before .before .before .before .before .part-of13 .ensures)) (c .before .before .before .before .rename2 .ensures)
+returns-11 c = made-at (run-update _ _ _ _ _ _ _ _ _ (c .before .before .before .before .before .before .before .before .before .before .before .f10 .given .1) (c .before .before .before .before .before .before .before .part-of12 .ensures) (c .before .before .before .before .before .before .part-of13 .ensures)) (c .before .before .before .before .rename2 .ensures)
 
 returns-12 : tie.Need-returns-12
-returns-12 c = performs-at (run-append _ _ _ _ _ _ _ _ (c .before .before .before .before .before .before .before .before .before .before .before .f11 .given .1) (c .before .before .before .before .before .before .before .part-of14 .ensures) (tree-taken ((fits-at (c .before .before .before .before .before .before .before .before .before .before .before .before .before .before .before .before .before .before .args .line .now) (c .before .before .before .before .before .before .before .before .before .before .before .before .before .before .before .before .before .before .pre .2) (c .before .before .before .before .before .before .before .before .before .before .before .f11 .given .1)) .1) (c .before .before .before .before .before .before .before .before .before .before .before .before .before .before .before .before .before .before .args .tree .now) (c .before .before .before .before .before .before .before .before .before .before .before .before .before .before .before .before .before .before .pre .4) (c .before .before .before .before .before .before .before .before .before .before .before .before .before .before .before .before .before .before .pre .1) _ (c .before .before .before .before .before .before .tree-of2 .ensures))) (c .before .before .before .before .insert .ensures)
+returns-12 c = made-at (run-append _ _ _ _ _ _ _ _ _ (c .before .before .before .before .before .before .before .before .before .before .before .f11 .given .1) (c .before .before .before .before .before .before .before .part-of14 .ensures) (tree-taken ((fits-at (c .before .before .before .before .before .before .before .before .before .before .before .before .before .before .before .before .before .before .args .line .now) (c .before .before .before .before .before .before .before .before .before .before .before .before .before .before .before .before .before .before .pre .2) (c .before .before .before .before .before .before .before .before .before .before .before .f11 .given .1)) .1) (c .before .before .before .before .before .before .before .before .before .before .before .before .before .before .before .before .before .before .args .tree .now) (c .before .before .before .before .before .before .before .before .before .before .before .before .before .before .before .before .before .before .pre .4) (c .before .before .before .before .before .before .before .before .before .before .before .before .before .before .before .before .before .before .pre .1) _ (c .before .before .before .before .before .before .tree-of2 .ensures))) (c .before .before .before .before .insert .ensures)
 
 returns-13 : tie.Need-returns-13
-returns-13 c = performs-at (run-before _ _ _ _ _ _ _ _ (c .before .before .before .before .before .before .before .before .before .before .before .f12 .given .1) (c .before .before .before .before .before .before .before .part-of15 .ensures) (tree-taken ((fits-at (c .before .before .before .before .before .before .before .before .before .before .before .before .before .before .before .before .before .before .args .line .now) (c .before .before .before .before .before .before .before .before .before .before .before .before .before .before .before .before .before .before .pre .2) (c .before .before .before .before .before .before .before .before .before .before .before .f12 .given .1)) .1) (c .before .before .before .before .before .before .before .before .before .before .before .before .before .before .before .before .before .before .args .tree .now) (c .before .before .before .before .before .before .before .before .before .before .before .before .before .before .before .before .before .before .pre .4) (c .before .before .before .before .before .before .before .before .before .before .before .before .before .before .before .before .before .before .pre .1) _ (c .before .before .before .before .before .before .tree-of3 .ensures))) (c .before .before .before .before .insert2 .ensures)
+returns-13 c = made-at (run-before _ _ _ _ _ _ _ _ _ (c .before .before .before .before .before .before .before .before .before .before .before .f12 .given .1) (c .before .before .before .before .before .before .before .part-of15 .ensures) (tree-taken ((fits-at (c .before .before .before .before .before .before .before .before .before .before .before .before .before .before .before .before .before .before .args .line .now) (c .before .before .before .before .before .before .before .before .before .before .before .before .before .before .before .before .before .before .pre .2) (c .before .before .before .before .before .before .before .before .before .before .before .f12 .given .1)) .1) (c .before .before .before .before .before .before .before .before .before .before .before .before .before .before .before .before .before .before .args .tree .now) (c .before .before .before .before .before .before .before .before .before .before .before .before .before .before .before .before .before .before .pre .4) (c .before .before .before .before .before .before .before .before .before .before .before .before .before .before .before .before .before .before .pre .1) _ (c .before .before .before .before .before .before .tree-of3 .ensures))) (c .before .before .before .before .insert2 .ensures)
 
 returns-14 : tie.Need-returns-14
-returns-14 c = performs-at (run-after _ _ _ _ _ _ _ _ (c .before .before .before .before .before .before .before .before .before .before .before .f13 .given .1) (c .before .before .before .before .before .before .before .part-of16 .ensures) (tree-taken ((fits-at (c .before .before .before .before .before .before .before .before .before .before .before .before .before .before .before .before .before .before .args .line .now) (c .before .before .before .before .before .before .before .before .before .before .before .before .before .before .before .before .before .before .pre .2) (c .before .before .before .before .before .before .before .before .before .before .before .f13 .given .1)) .1) (c .before .before .before .before .before .before .before .before .before .before .before .before .before .before .before .before .before .before .args .tree .now) (c .before .before .before .before .before .before .before .before .before .before .before .before .before .before .before .before .before .before .pre .4) (c .before .before .before .before .before .before .before .before .before .before .before .before .before .before .before .before .before .before .pre .1) _ (c .before .before .before .before .before .before .tree-of4 .ensures))) (c .before .before .before .before .insert3 .ensures)
+returns-14 c = made-at (run-after _ _ _ _ _ _ _ _ _ (c .before .before .before .before .before .before .before .before .before .before .before .f13 .given .1) (c .before .before .before .before .before .before .before .part-of16 .ensures) (tree-taken ((fits-at (c .before .before .before .before .before .before .before .before .before .before .before .before .before .before .before .before .before .before .args .line .now) (c .before .before .before .before .before .before .before .before .before .before .before .before .before .before .before .before .before .before .pre .2) (c .before .before .before .before .before .before .before .before .before .before .before .f13 .given .1)) .1) (c .before .before .before .before .before .before .before .before .before .before .before .before .before .before .before .before .before .before .args .tree .now) (c .before .before .before .before .before .before .before .before .before .before .before .before .before .before .before .before .before .before .pre .4) (c .before .before .before .before .before .before .before .before .before .before .before .before .before .before .before .before .before .before .pre .1) _ (c .before .before .before .before .before .before .tree-of4 .ensures))) (c .before .before .before .before .insert3 .ensures)
 
 returns-15 : tie.Need-returns-15
-returns-15 c = performs-at (run-remove _ _ _ _ _ _ _ (c .before .before .before .before .before .before .before .before .before .before .f14 .given .1) (c .before .before .before .before .before .before .part-of17 .ensures)) (c .before .before .before .before .remove .ensures)
+returns-15 c = made-at (run-remove _ _ _ _ _ _ _ _ (c .before .before .before .before .before .before .before .before .before .before .f14 .given .1) (c .before .before .before .before .before .before .part-of17 .ensures)) (c .before .before .before .before .remove .ensures)
 
 returns-16 : tie.Need-returns-16
-returns-16 c = run-none _ _ _ _ _ _ (c .enum-told2 .given .1)
+returns-16 c = made-at (run-none _ _ _ _ _ _ _ (c .enum-told2 .given .1)) refused
 
 pub run-spec : {M : Type 1} → statement M
 run-spec =
