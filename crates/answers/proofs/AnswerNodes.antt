@@ -14,7 +14,9 @@ use Rattle.rights.specs.Nodes.{Node, node, levelOf, labelOf, levelAt, labelAt}
 use Rattle.answers.specs.AnswerChoice.{chosen, chosen-lawful, findText}
 use Rattle.answers.specs.AnswerChoice.First.{chosen-first}
 use Rattle.answers.specs.Answer.{noneLine, hitLine, hitsOf, hitLines, childLines, viewText, nextLevel, opening, rootLine, endLine}
-use Rattle.answers.specs.AnswerParts.{nodeAt, hitLineAt, nodeText, setMark, markedCount}
+use Rattle.rights.specs.Marks.{marked}
+use Rattle.rights.proofs.Lists.{byCase}
+use Rattle.answers.specs.AnswerParts.{nodeAt, hitLineAt, nodeText}
 
 -- Hits
 
@@ -56,30 +58,14 @@ pub hit-lines-end : (ms : List ℕ) (vs : List Node) (i : ℕ) → length vs ≤
 unfolding hitLines
 hit-lines-end ms vs i h = rw (hits-end ms vs i h)
 
--- Counts
-
-pub count-step : (ms : List ℕ) (i : ℕ) → i < length ms → markedCount (drop i ms) ≡ setMark (getD ms i 0) + markedCount (drop (i + 1) ms)
-unfolding markedCount
-count-step ms i h = rw (add-one i, drop-cons ms i 0)
-
-pub count-end : (ms : List ℕ) (i : ℕ) → length ms ≤ i → markedCount (drop i ms) ≡ 0
-unfolding markedCount
-count-end ms i h = rw drop-of-length-le
-
 -- as many marks are set as there are hits
-pub count-hits : (ms : List ℕ) (vs : List Node) → markedCount (take (length vs) ms) ≡ length (hitsOf ms vs)
-unfolding markedCount hitsOf
-count-hits [] [] = refl
-count-hits [] (v ∷ vs) = refl
-count-hits (m ∷ ms) [] = refl
-count-hits (m ∷ ms) (v ∷ vs) = rw (count-hits ms vs) (go (eqb m 0))
-  where
-    go : (b : Bool) → cond b 0 1 + length (hitsOf ms vs) ≡ length (cond b (hitsOf ms vs) (v ∷ hitsOf ms vs))
-    go true = zero-add _
-    go false = omega arith
-
-pub count-shown : (ms : List ℕ) (vs : List Node) (n : ℕ) → n ≡ length vs → markedCount (take n ms) ≡ length (hitsOf ms vs)
-count-shown ms vs n e = rw e (count-hits ms vs)
+pub count-hits : (ms : List ℕ) (vs : List Node) (n : ℕ) → n ≡ length vs → marked n ms ≡ length (hitsOf ms vs)
+unfolding hitsOf
+count-hits [] [] n e = rw e
+count-hits [] (v ∷ vs) n e = rw e
+count-hits (m ∷ ms) [] n e = rw e
+count-hits (m ∷ ms) (v ∷ vs) n e =
+    rw e (byCase (eqb m 0) (λ z. rw z (count-hits ms vs (length vs) refl)) (λ z. rw z (ap suc (count-hits ms vs (length vs) refl))))
 
 -- Views
 

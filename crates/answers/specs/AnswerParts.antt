@@ -19,11 +19,3 @@ unfoldable pub nodeText : List Node → ℕ → List ℕ
 nodeText view i =
     opening (levelOf (nodeAt view i))
     ++ (labelOf (nodeAt view i) ++ closing (levelOf (nodeAt view i) + 1) (nextLevel (drop (i + 1) view)))
-
--- how many marks are set
-abbrev pub setMark : ℕ → ℕ
-setMark m = cond (eqb m 0) 0 1
-
-unfoldable pub markedCount : List ℕ → ℕ
-markedCount [] = 0
-markedCount (m ∷ ms) = setMark m + markedCount ms

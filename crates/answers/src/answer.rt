@@ -6,6 +6,7 @@ use rights::bytes::copy;
 use rights::bytes::wide;
 use rights::limits::LABEL_AT;
 use rights::limits::RECORDS_MAX;
+use rights::marks::count_marks;
 use rights::nodes::level_at;
 use rights::nodes::record_place;
 use rights::nodes::wide_number;
@@ -18,7 +19,7 @@ ghost use Rattle.rights.specs.PathText.{decimal};
 ghost use Rattle.rights.specs.Nodes.{recordPlace, levelAt, labelAt, viewOf, Fits};
 ghost use Rattle.answers.specs.Answer.{okText, doneText, refusedText, endLine, hitLine, hitsOf, hitLines, queryText};
 ghost use Rattle.answers.specs.Answer.{viewText, childLines, opening, closing, nextLevel, rootLine};
-ghost use Rattle.answers.specs.AnswerParts.{nodeAt, hitLineAt, nodeText, setMark, markedCount};
+ghost use Rattle.answers.specs.AnswerParts.{nodeAt, hitLineAt, nodeText};
 ghost use Rattle.answers.specs.AnswerChoice.{chosen, findText};
 ghost use Rattle.answers.specs.AnswerArea.{Puts, Answered, textMost};
 
@@ -141,29 +142,6 @@ fn put_hits(area: &mut [u8], table: &[u8], shown: &[u16], marks: &[u8]) -> usize
     at
 }
 
-// How many marks are set.
-pub fn count_marked(marks: &[u8]) -> usize
-    ensures { λ r. ⌜ (r ≡ markedCount (now (marks .entry))) × (r ≤ length (now (marks .entry))) ⌝ }
-{
-    let mut k = 0;
-    let mut i = 0;
-    while i < marks.len() {
-        k += set_mark(marks[i]);
-        i += 1;
-    }
-    k
-}
-
-// 1 for a mark that is set.
-fn set_mark(m: u8) -> usize
-    ensures { λ r. ⌜ (r ≡ setMark m) × (r ≤ 1) ⌝ }
-{
-    if m == 0 {
-        return 0;
-    }
-    1
-}
-
 // Puts `(end K)`.
 fn put_end(area: &mut [u8], at: usize, k: usize) -> usize
     requires { ⌜ at < 2 ^ 61 ⌝ }
@@ -180,7 +158,7 @@ fn put_query(area: &mut [u8], table: &[u8], shown: &[u16], marks: &[u8]) -> usiz
     ensures { λ r. ⌜ (Puts (queryText (hitsOf (now (marks .entry)) (viewOf (now (table .entry)) (now (shown .entry))))) 0 (now (area .entry)) (now (area .exit)) r) × (r ≤ textMost (length (now (shown .entry)))) ⌝ }
 {
     let n = shown.len();
-    let k = count_marked(&marks[0..n]);
+    let k = count_marks(marks, n);
     let at = put_hits(area, table, shown, marks);
     put_end(area, at, k)
 }

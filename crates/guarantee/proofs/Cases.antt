@@ -19,10 +19,10 @@ use Rattle.rights.specs.PolicyCheck.{subjectsOk, isasOk, rulesOk, policyOk}
 use Rattle.rights.specs.Record.{padded, recordOf}
 use Rattle.rights.specs.Rights.{finds as findsIn, decide, rightsBy, chains}
 use Rattle.rights.specs.Nodes.{levelAt, labelAt}
-use Rattle.rights.specs.Selection.{someFrom, before, above, finds, keeps, selects, selected, marksOf}
+use Rattle.rights.specs.Selection.{someFrom, before, above, finds, keeps, selects, selected, bitsFrom}
 use Rattle.rights.specs.Table.{recordsFrom, recordsOk, tableOk}
 use Rattle.views.specs.Shown.{storedFrom, atParent, nearestFirst, shownAfter, keep}
-use Rattle.views.specs.Marks.{eachFrom}
+use Rattle.rights.specs.Marks.{eachFrom}
 use Rattle.views.specs.Change.{dropBelow, putBehind, remove, insertBehind, rename, chunks, raise, join, changed, deepest, tooDeep}
 use Rattle.views.specs.Done.{inTable}
 use Rattle.answers.specs.Answer.{hitsOf, hitLines, childLines, viewText}
@@ -73,7 +73,7 @@ small-passes = refl
 
 -- what the lines of a row give from a new store, where 13 is not computed
 unfoldable given : Choice → Case → List Reply
-unfolding bytes passedReplies passed digitByte run all labelByte sameLabel passes readTest numberOf isPosition readPosition closes readBrackets readSteps brackets steps pathOf decimal writeTest some passesOwn policyWord testOf namesFrom isaFrom stepsFrom rulesFrom policyOf recordOf isBy findsIn decide rightsBy chains levelAt labelAt someFrom before above finds keeps selects selected marksOf recordsFrom storedFrom atParent nearestFirst shownAfter keep eachFrom dropBelow putBehind remove insertBehind rename chunks raise join changed deepest tooDeep inTable hitsOf hitLines childLines viewText sameText among wordAt signAt rightAt pathByte labelEnd openEnd tailEnd treeEnd tailNodes treeNodes recordsOf partsOf endsIn readForm treeIn subjectFrom subjectNamed isaHeld hasBracket stepList stepsIn pathRestricted stepRecords withLine lineByte lineOk checked performed rootAlone treeRestricted folded padded standsFor subjectsWhere runEnd knownEnd treePlace
+unfolding bytes passedReplies passed digitByte run all labelByte sameLabel passes readTest numberOf isPosition readPosition closes readBrackets readSteps brackets steps pathOf decimal writeTest some passesOwn policyWord testOf namesFrom isaFrom stepsFrom rulesFrom policyOf recordOf isBy findsIn decide rightsBy chains levelAt labelAt someFrom before above finds keeps selects selected bitsFrom recordsFrom storedFrom atParent nearestFirst shownAfter keep eachFrom dropBelow putBehind remove insertBehind rename chunks raise join changed deepest tooDeep inTable hitsOf hitLines childLines viewText sameText among wordAt signAt rightAt pathByte labelEnd openEnd tailEnd treeEnd tailNodes treeNodes recordsOf partsOf endsIn readForm treeIn subjectFrom subjectNamed isaHeld hasBracket stepList stepsIn pathRestricted stepRecords withLine lineByte lineOk checked performed rootAlone treeRestricted folded padded standsFor subjectsWhere runEnd knownEnd treePlace
 given choice c = passedReplies choice newState (newTable (c .capacity)) (map input (c .turns))
 
 abbrev Gives : Choice → Case → Type 0

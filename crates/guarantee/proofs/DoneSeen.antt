@@ -15,7 +15,7 @@ use Rattle.rights.specs.Table.{recordAt, recordsFrom, records, level, label, co
 use Rattle.rights.proofs.Lists.{byCase}
 use Rattle.views.specs.Change.{isDone, later}
 use Rattle.views.specs.Done.{Asked, does, askedOf, doneMarks}
-use Rattle.views.specs.Marks.{eachFrom}
+use Rattle.rights.specs.Marks.{eachFrom}
 use Rattle.views.specs.Shown.{atParent, nearestFirst, isShownAt, stored, shown}
 use Rattle.views.specs.declared.done.Change.{Change}
 use Rattle.views.specs.declared.done.Change.the-variants.{Rename, Update, Append, Before, After, Remove}

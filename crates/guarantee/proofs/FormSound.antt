@@ -20,14 +20,14 @@ use Rattle.rights.proofs.RecordMade.{length-name}
 use Rattle.rights.proofs.XPathLists.{or-right}
 use Rattle.views.specs.Change.{isDone, lower, hasRoom}
 use Rattle.views.specs.Done.{Asked, isRoot, renamable, does, askedOf, doneMarks}
-use Rattle.views.specs.Marks.{marksOf, eachFrom}
+use Rattle.rights.specs.Marks.{marksOf, eachFrom}
 use Rattle.views.specs.Nodes.{LabelOk}
 use Rattle.views.specs.Pass.{AtDone}
 use Rattle.views.specs.declared.done.Change.{Change}
 use Rattle.views.specs.declared.done.Change.the-variants as change
 use Rattle.views.specs.declared.insert.Place.{Place}
 use Rattle.views.specs.declared.insert.Place.the-variants as place
-use Rattle.views.proofs.MarkLaws.{marks-bits}
+use Rattle.rights.proofs.MarkLaws.{marks-bits}
 use Rattle.views.proofs.TableFacts.{facts}
 use Rattle.views.proofs.TableKept.{loosen}
 use Rattle.forms.specs.Form.{treeIn}

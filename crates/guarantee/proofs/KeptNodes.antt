@@ -12,7 +12,7 @@ use Rattle.rights.specs.Rights.{rightsBy, chains}
 use Rattle.rights.specs.Table.{records, level, label, tableOk}
 use Rattle.views.proofs.Relabelled.{level-relabel, label-relabel}
 use Rattle.views.specs.Change.{later, insertBehind, chunks, raise, relabel}
-use Rattle.views.specs.Marks.{marksOf}
+use Rattle.rights.specs.Marks.{marksOf}
 use Rattle.views.specs.Nodes.{Nested, put, tags}
 use Rattle.views.specs.Pass.{Above, Front, AtDone}
 use Rattle.views.specs.declared.insert.Place.{Place}

@@ -18,7 +18,7 @@ use Rattle.views.proofs.Relabelled.{level-relabel, label-relabel}
 use Rattle.views.specs.Change.{isDone, later, remove, insertBehind, insertInFront, rename, chunks, raise, relabel}
 use Rattle.views.specs.Change.{placed, removed, renamed, tooDeep}
 use Rattle.views.specs.Done.{doneMarks, inTable}
-use Rattle.views.specs.Marks.{marksOf, markCount, marked}
+use Rattle.rights.specs.Marks.{marksOf, markCount, marked}
 use Rattle.views.specs.Nodes.{Nested}
 use Rattle.views.specs.Pass.{Front, AtDone}
 use Rattle.views.specs.Shown.{isShownAt, stored, shown, view}
@@ -26,7 +26,7 @@ use Rattle.views.specs.declared.done.Change.{Change}
 use Rattle.views.specs.declared.insert.Place.{Place}
 use Rattle.views.specs.declared.insert.Place.the-variants as place
 use Rattle.views.proofs.DoneLaws.{marked-bits, done-length}
-use Rattle.views.proofs.MarkLaws.{marks-bits}
+use Rattle.rights.proofs.MarkLaws.{marks-bits}
 use Rattle.views.proofs.NestedLaws.{done-from}
 use Rattle.views.proofs.RecordBytes.{above-raise}
 use Rattle.answers.specs.Answer.{doneText}

@@ -10,7 +10,7 @@ use Rattle.rights.specs.PolicyBytes.{ruleCount}
 use Rattle.rights.specs.PolicyCheck.{policyOk}
 use Rattle.rights.specs.Table.{records, label}
 use Rattle.views.specs.Change.{isDone, chunks, lower, deepest, tooDeep, hasRoom, free}
-use Rattle.views.specs.Marks.{marksOf}
+use Rattle.rights.specs.Marks.{marksOf}
 use Rattle.views.specs.Nodes.{TreeOk, LabelOk}
 use Rattle.views.specs.Pass.{AtDone}
 use Rattle.views.specs.declared.insert.Place.{Place}

@@ -11,7 +11,7 @@ use Rattle.rights.specs.Record.{nodeRecord}
 use Rattle.rights.specs.Table.{count, records, recordOk, recordsOk, level, tableOk}
 use Rattle.rights.proofs.Facts.{both, table-records}
 use Rattle.rights.proofs.RecordMade.{length-node, node-ok}
-use Rattle.views.specs.Marks.{marksOf}
+use Rattle.rights.specs.Marks.{marksOf}
 use Rattle.views.specs.Change.{isDone, remove, placed, removed, relabel, renamed, changed, free}
 use Rattle.views.specs.Nodes.{All, Nested}
 use Rattle.views.proofs.TableFacts.{facts}

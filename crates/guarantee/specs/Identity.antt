@@ -10,7 +10,7 @@ use lib.ListN.{length, getD}
 use Rattle.rights.specs.Policy.{Policy}
 use Rattle.rights.specs.Rights.{rightsOn}
 use Rattle.rights.specs.Table.{records, level}
-use Rattle.views.specs.Marks.{marksOf}
+use Rattle.rights.specs.Marks.{marksOf}
 use Rattle.views.specs.Nodes.{goes, only, tags}
 use Rattle.views.specs.Change.{chunks, raise, relabel, remove, append, insertAfter, insertBefore, rename}
 use Rattle.views.specs.declared.done.Change.the-variants as change

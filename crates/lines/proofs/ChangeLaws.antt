@@ -6,7 +6,7 @@ use mathlib.Core.List.{List, [], _++_, map, append-nil}
 use native.Mathlib.Omega.{arith}
 use lib.ListN.{length, take, drop, length-map, length-append}
 use lib.Seq.{take-at, take-length}
-use Rattle.rights.specs.Automaton.{bit}
+use Rattle.rights.specs.Marks.{bit}
 use Rattle.rights.specs.Labels.{sameLabel, restricted}
 use Rattle.rights.specs.Policy.{policyWord}
 use Rattle.rights.specs.PolicyBytes.{policyOf}
@@ -16,12 +16,12 @@ use Rattle.rights.proofs.Facts.{table-few}
 use Rattle.rights.proofs.Lists.{byCase, rest-of}
 use Rattle.views.specs.Change.{changed, renamed, removed}
 use Rattle.views.specs.Done.{doneMarks, isNext, byNumbers}
-use Rattle.views.specs.Marks.{marksOf, markCount, marked}
+use Rattle.rights.specs.Marks.{marksOf, markCount, marked}
 use Rattle.views.specs.Shown.{shown, shownNumbers}
 use Rattle.views.specs.declared.done.Change.{Change}
 use Rattle.views.specs.declared.insert.Place.{Place}
 use Rattle.views.proofs.DoneLaws.{numbers-in-table, done-length}
-use Rattle.views.proofs.MarkLaws.{marks-bits}
+use Rattle.rights.proofs.MarkLaws.{marks-bits}
 use Rattle.answers.specs.Answer.{doneText}
 use Rattle.answers.specs.AnswerArea.{Answered, written}
 use Rattle.lines.specs.ChangeRoom.{Chosen, Selected, Decided}

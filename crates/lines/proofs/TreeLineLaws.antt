@@ -18,7 +18,7 @@ use Rattle.rights.proofs.LabelLaws.{same-differ}
 use Rattle.rights.proofs.Lists.{byCase}
 use Rattle.rights.proofs.RecordMade.{pasted-record}
 use Rattle.views.specs.Change.{chunks, le4, join, changed, putBehind, insertBehind, raise, placed}
-use Rattle.views.specs.Marks.{marksOf}
+use Rattle.rights.specs.Marks.{marksOf}
 use Rattle.views.specs.declared.insert.Place.the-variants.{Append}
 use Rattle.views.proofs.Chunks.{drop-take}
 use Rattle.views.proofs.TableFacts.{facts, zero-replicate}

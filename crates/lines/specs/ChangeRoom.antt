@@ -4,11 +4,11 @@ use mathlib.Core.Bool.{true}
 use mathlib.Core.Path.{_≡_}
 use mathlib.Core.List.{List, _++_, map}
 use lib.ListN.{length, drop}
-use Rattle.rights.specs.Automaton.{bit}
+use Rattle.rights.specs.Marks.{bit}
 use Rattle.rights.specs.Policy.{position, read}
 use Rattle.rights.specs.Rights.{holds, askedOn}
 use Rattle.rights.specs.Table.{count, records}
-use Rattle.views.specs.Marks.{marksOf, markCount}
+use Rattle.rights.specs.Marks.{marksOf, markCount}
 use Rattle.views.specs.Shown.{shownNumbers}
 use Rattle.views.specs.declared.done.Change.{Change}
 use Rattle.lines.specs.State.{policyIn, userOf}

@@ -3,7 +3,7 @@ use Prim.Native.Nat.{ℕ}
 use mathlib.Core.Bool.{Bool, true, false}
 use mathlib.Core.List.{List, map}
 use lib.Dec.{eqb}
-use Rattle.rights.specs.Automaton.{bit}
+use Rattle.rights.specs.Marks.{bit}
 use Rattle.rights.specs.Path.{Path}
 use Rattle.rights.specs.PathReader.{Got, got, bad}
 use Rattle.rights.specs.Nodes.{Nodes}
@@ -13,7 +13,7 @@ use Rattle.rights.specs.Rights.{rightsOn}
 use Rattle.rights.specs.Selection.{selection}
 use Rattle.rights.specs.Table.{records}
 use Rattle.views.specs.Shown.{Stored, stored, view, shown}
-use Rattle.views.specs.Marks.{marksOf}
+use Rattle.rights.specs.Marks.{marksOf}
 use Rattle.views.specs.Done.{doneMarks, inTable}
 use Rattle.views.specs.declared.done.Change.{Change}
 use Rattle.lines.specs.State.{userByte, userOf, policyIn}

@@ -12,7 +12,7 @@ use Rattle.rights.specs.Policy.{policyWord, some}
 use Rattle.rights.specs.PolicyBytes.{policyOf, subjectCount, isaCount, ruleCount}
 use Rattle.rights.specs.Table.{records, label, count}
 use Rattle.views.specs.Change.{chunks, lower, deepest, tooDeep, hasRoom, free}
-use Rattle.views.specs.Marks.{marksOf, markCount, marked}
+use Rattle.rights.specs.Marks.{marksOf, markCount, marked}
 use Rattle.views.specs.declared.done.Change.{Change}
 use Rattle.views.specs.declared.done.Change.the-variants as change
 use Rattle.views.specs.declared.insert.Place.{Place}

@@ -20,7 +20,7 @@ use views::insert::Place;
 use views::insert::has_room;
 use views::insert::insert_marked;
 use views::insert::too_deep;
-use views::store::put_count;
+use views::moves::put_count;
 ghost use mathlib.Core.Path.{_≡_};
 ghost use mathlib.Core.Bool.{true};
 ghost use mathlib.Core.List.{[], _∷_};

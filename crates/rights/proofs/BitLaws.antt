@@ -9,7 +9,8 @@ use lib.Bits.{bitAnd, bitOr}
 use lib.Dec.{lit<, eqb, eqb·suc-suc, eqb·zero-suc, eqb·suc-zero}
 use lib.Pow.{pow-lt}
 use lib.ListN.{getD, set}
-use Rattle.rights.specs.Automaton.{bit, value, meet, join}
+use Rattle.rights.specs.Automaton.{value, meet, join}
+use Rattle.rights.specs.Marks.{bit}
 use Rattle.rights.specs.Groups.{has}
 use Rattle.rights.proofs.Masks.{value-meet, value-join}
 use Rattle.rights.proofs.Lanes.{bit-test}

@@ -10,7 +10,8 @@ use lib.Dec.{eqb}
 use lib.Pow.{pow-mono, shr-shr}
 use lib.ListN.{length, getD}
 use Rattle.rights.specs.Rights.{Step}
-use Rattle.rights.specs.Automaton.{bit, value, meet, deeps, passedBy, moved, stepsFor}
+use Rattle.rights.specs.Automaton.{value, meet, deeps, passedBy, moved, stepsFor}
+use Rattle.rights.specs.Marks.{bit}
 use Rattle.rights.proofs.Masks.{bit-lt, value-lt, value-meet, value-join}
 
 -- a bit of a mask is an element of the set

@@ -2,6 +2,7 @@ pub mod Ranges
 pub mod BoolLaws
 pub mod Facts
 pub mod Lists
+pub mod MarkLaws
 pub mod LabelLaws
 pub mod Records
 pub mod Texts

@@ -6,16 +6,12 @@ use mathlib.Core.Path.{_≡_}
 use mathlib.Core.List.{List, [], _∷_, _++_}
 use lib.Dec.{eqb}
 use lib.ListN.{length, getD, take, drop, set}
+use Rattle.rights.specs.Marks.{bit}
 use Rattle.rights.specs.Isa.{is}
 use Rattle.rights.specs.PolicyBytes.{stepOf, policyOf, isaCount, isaN, isaR, subjectCount, subjectAt, ruleCount, stepCount, stepsAt, whose, accepts, rightBit, Text}
 use Rattle.rights.specs.Roles.{nameAmong}
 use Rattle.rights.specs.Rights.{Step, stepFor, finds, tried}
 use Rattle.rights.specs.Table.{recAt, recordAt, level, label}
-
--- one bit
-abbrev pub bit : Bool → ℕ
-bit true = 1
-bit false = 0
 
 -- a set of states as a number, the first state in the lowest bit
 unfoldable pub value : List Bool → ℕ

@@ -1,4 +1,5 @@
 pub mod Bytes
+pub mod Marks
 pub mod Labels
 pub mod Table
 pub mod Path

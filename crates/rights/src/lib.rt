@@ -4,6 +4,7 @@ mod groups;
 pub mod isa;
 pub mod labels;
 pub mod limits;
+pub mod marks;
 pub mod nodes;
 mod passes;
 pub mod path;

@@ -11,7 +11,7 @@ use lib.ListN.{length, getD, take, drop, replicate}
 use lib.Seq.{take-nil, take-take, drop-drop, take-add, getD-take, getD-drop, length-take-le, take-at, drop-at, drop-append-le, drop-cons}
 use Rattle.rights.specs.Table.{count, level, records, recordsFrom}
 use Rattle.views.specs.Change.{chunks, le4, join, changed}
-use Rattle.views.specs.Marks.{marksOf}
+use Rattle.rights.specs.Marks.{marksOf}
 
 pub drop-take : (n m : ℕ) (l : List ℕ) → drop n (take (n + m) l) ≡ take m (drop n l)
 drop-take zero m l = rw zero-add

@@ -12,7 +12,7 @@ use Rattle.rights.specs.Table.{level, count, capacity, records, tableOk}
 use Rattle.rights.proofs.Lists.{byCase}
 use Rattle.views.specs.declared.insert.Place.{Place}
 use Rattle.views.specs.Change.{isDone, later, chunks, lower, placed, deepest, tooDeep, hasRoom}
-use Rattle.views.specs.Marks.{marksOf, marked}
+use Rattle.rights.specs.Marks.{marksOf, marked}
 use Rattle.views.specs.Pass.{AtDone, Shallow, Under, Fixed}
 use Rattle.views.proofs.Chunks.{chunks-cons, level-first, marks-drop, all-chunks}
 use Rattle.views.proofs.TableFacts.{facts}

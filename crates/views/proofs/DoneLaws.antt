@@ -8,14 +8,14 @@ use borrow.Author.Tests.{eq-eqb, ne-eqb}
 use lib.Dec.{eqb}
 use lib.ListN.{length, take, drop, getD, length-map}
 use lib.Seq.{take-at}
-use Rattle.rights.specs.Automaton.{bit}
+use Rattle.rights.specs.Marks.{bit, marksOf, markCount, marked, eachFrom}
 use Rattle.rights.specs.Table.{recordsFrom, count, tableOk}
-use Rattle.views.specs.Marks.{marksOf, markCount, marked, eachFrom}
 use Rattle.views.specs.Shown.{Stored, storedFrom, stored, storedLevel, granted, shownAfter, shown, keep, numberOf, shownNumbers}
 use Rattle.views.specs.Done.{does, askedOf, doneMarks, inTable, isNext, byNumbers}
 use Rattle.views.specs.declared.done.Change.{Change}
-use Rattle.views.proofs.MarkLaws.{marks-bits, each-at}
-use Rattle.views.proofs.StoredNodes.{good}
+use Rattle.rights.proofs.MarkLaws.{marks-bits, each-at}
+use Rattle.views.proofs.TableFacts.{facts}
+use Rattle.views.proofs.TableKept.{length-records}
 use Rattle.views.proofs.ViewLaws.{Every, every-keep, every-map, number-mod}
 
 -- Record i is done exactly if the change does a node with its level, rights and label, shown and selected as it is, under its parent.
@@ -106,16 +106,11 @@ shown-length before i [] ss h = refl
 shown-length before i (r ∷ rs) [] h = absurd (omega arith)
 shown-length before i (r ∷ rs) (s ∷ ss) h = ap suc (shown-length _ (suc i) rs ss (omega arith))
 
-records-length : (t : List ℕ) (n i : ℕ) → length (recordsFrom t n i) ≡ n
-unfolding recordsFrom
-records-length t zero i = refl
-records-length t (suc n) i = ap suc (records-length t n (suc i))
-
 -- the marks of the shown nodes, at the places that their numbers name, are at the places of their records
 pub numbers-in-table : (t ss : List ℕ) (ms : List Bool) → tableOk t ≡ true → count t ≤ length ss
     → byNumbers (shownNumbers (stored t ss)) ms (count t) 0 ≡ inTable (shown (stored t ss)) ms
 numbers-in-table t ss ms ok h =
-    let g = good t ok in
-    let n = records-length t (count t) 0 in
+    let g = facts t ok in
+    let n = length-records t in
     ap (λ k. byNumbers (shownNumbers (stored t ss)) ms k 0) (sym n)
     ∙ by-numbers (shown (stored t ss)) ms 0 (recordsFrom t (count t) 0) ss (omega (arith, n, h)) (omega (arith, n, g .few)) (shown-length [] 0 (recordsFrom t (count t) 0) ss (omega (arith, n, h)))

@@ -9,18 +9,17 @@ use native.Mathlib.Omega.{arith}
 use lib.Dec.{eqb, ltb, leb}
 use lib.ListN.{length, take, drop, getD, set, length-set, replicate, getD-replicate}
 use lib.Seq.{drop-drop, getD-drop}
-use Rattle.rights.specs.Automaton.{bit}
+use Rattle.rights.specs.Marks.{bit, marksOf, eachFrom}
 use Rattle.rights.specs.Policy.{insert}
 use Rattle.rights.specs.Rights.{holds}
 use Rattle.rights.specs.Table.{recordAt, level, label, count, tableOk}
 use Rattle.rights.proofs.Lists.{byCase}
-use Rattle.views.specs.Marks.{marksOf, eachFrom}
 use Rattle.views.specs.Shown.{atParent, nearestFirst, stored, storedLevel, grants, granted, depthAfter, shown, shownFrom}
 use Rattle.views.specs.Done.{Asked, does, askedOf, doneMarks}
 use Rattle.views.specs.declared.done.Change.{Change}
 use Rattle.views.proofs.Fill.{push-take, push-drop, filled}
-use Rattle.views.proofs.MarkLaws.{mark-at, each-step, each-end}
-use Rattle.views.proofs.StoredNodes.{good, level-at, storedAt, rest, rest-step, rest-whole, table-by-depth}
+use Rattle.rights.proofs.MarkLaws.{mark-at, each-step, each-end}
+use Rattle.views.proofs.StoredNodes.{level-at, storedAt, rest, rest-step, rest-whole, table-by-depth}
 
 pub set-bit : (x : ℕ) (b : Bool) → x ≡ bit b → not (eqb x 0) ≡ b
 set-bit x true e = rw e

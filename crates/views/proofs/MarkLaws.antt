@@ -1,4 +1,4 @@
--- Laws of marks. Assumes nothing.
+-- Laws of the marks that are written for shown nodes and for parents; those of all marks stand in rights. Assumes nothing.
 use Prim.Native.Nat.{ℕ, zero, suc, _+_, _-_, _%_, _≤_, _<_}
 use mathlib.Core.Bool.{Bool, true, false, cond, not, _&&_, and-true}
 use mathlib.Core.Path.{_≡_, refl, sym, ap, _∙_}
@@ -10,56 +10,11 @@ use borrow.Author.Tests.{ltb-true, ltb-false, lt-ltb, le-ltb, eqb-true, eqb-fals
 use lib.Dec.{eqb, ltb, leb}
 use lib.ListN.{length, take, drop, getD, set, length-take, drop-of-length-le, List·getD-eq-default}
 use lib.Seq.{drop-cons, drop-drop, take-suc, getD-take, getD-drop, getD-set-same, getD-set-other, length-take-le}
-use Rattle.rights.specs.Automaton.{bit}
+use Rattle.rights.specs.Marks.{bit, marksOf, markCount, marked, eachFrom}
 use Rattle.rights.proofs.Lists.{byCase}
-use Rattle.views.specs.Marks.{marksOf, markCount, marked, eachFrom}
+use Rattle.rights.proofs.MarkLaws.{mark-at}
+use Rattle.rights.proofs.MarkLaws.{marks-bits}
 use Rattle.views.specs.Done.{isNext, byNumbers}
-
--- the mark of a node
-pub mark-at : (m : List ℕ) (i : ℕ) → getD (marksOf m) i false ≡ not (eqb (getD m i 0) 0)
-mark-at [] i = refl
-mark-at (x ∷ xs) zero = refl
-mark-at (x ∷ xs) (suc i) = mark-at xs i
-
--- marks written are the marks read
-pub marks-bits : (bs : List Bool) → marksOf (map bit bs) ≡ bs
-marks-bits [] = refl
-marks-bits (true ∷ bs) = ap (λ l. true ∷ l) (marks-bits bs)
-marks-bits (false ∷ bs) = ap (λ l. false ∷ l) (marks-bits bs)
-
-marksOf-append : (a b : List ℕ) → marksOf (a ++ b) ≡ marksOf a ++ marksOf b
-marksOf-append [] b = refl
-marksOf-append (x ∷ a) b = ap (λ l. not (eqb x 0) ∷ l) (marksOf-append a b)
-
-markCount-append : (a b : List Bool) → markCount (a ++ b) ≡ markCount a + markCount b
-markCount-append [] b = omega arith
-markCount-append (true ∷ a) b = let h = markCount-append a b in omega arith
-markCount-append (false ∷ a) b = markCount-append a b
-
-module _ (ms : List ℕ) (i k : ℕ) (inside : i < length ms) (e : k ≡ marked i ms) where
-  marked-suc : marked (i + 1) ms ≡ marked i ms + markCount (not (eqb (getD ms i 0) 0) ∷ [])
-  marked-suc = rw (add-one i, take-suc ms i 0 inside, marksOf-append, markCount-append)
-
-  pub marked-more : (getD ms i 0 ≡ 0 → ⊥) → k + 1 ≡ marked (i + 1) ms
-  marked-more z = omega (arith, e, rw (ne-eqb (getD ms i 0) 0 z) at marked-suc)
-
-  pub marked-same : getD ms i 0 ≡ 0 → k ≡ marked (i + 1) ms
-  marked-same z = omega (arith, e, rw (eq-eqb (getD ms i 0) 0 z) at marked-suc)
-
--- what a loop over the first n nodes has still to write
-pub each-step : {A : Type 0} (f : ℕ → A) (n i : ℕ) → i < n → eachFrom f i (n - i) ≡ f i ∷ eachFrom f (i + 1) (n - (i + 1))
-unfolding eachFrom
-each-step f n i h = let e : n - i ≡ suc (n - (i + 1)) = omega arith in rw (e, add-one)
-
-pub each-end : {A : Type 0} (f : ℕ → A) (n i : ℕ) → n ≤ i → eachFrom f i (n - i) ≡ []
-unfolding eachFrom
-each-end f n i h = let e : n - i ≡ 0 = omega arith in rw e
-
-pub each-at : {A : Type 0} (f : ℕ → A) (d : A) (i n k : ℕ) → k < n → getD (eachFrom f i n) k d ≡ f (i + k)
-unfolding eachFrom
-each-at f d i zero k h = absurd (omega arith)
-each-at f d i (suc n) zero h = let e : i + 0 ≡ i = omega arith in rw e
-each-at f d i (suc n) (suc k) h = let e : suc i + k ≡ i + suc k = omega arith in rw (← e) (each-at f d (suc i) n k (omega arith))
 
 -- The numbers of the shown nodes, from shown node j on
 

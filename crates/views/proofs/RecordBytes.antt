@@ -13,7 +13,7 @@ use Rattle.views.proofs.Chunks.{length-chunks, chunks-suc, one-more, le
 use Rattle.views.proofs.Copies.{drop-more}
 use Rattle.rights.specs.Table.{level}
 use Rattle.views.specs.Change.{chunks, raised, raise}
-use Rattle.views.specs.Marks.{marksOf}
+use Rattle.rights.specs.Marks.{marksOf}
 use Rattle.views.specs.Pass.{Above, Under, front, AtDone, treeAt, stack, rest}
 
 pub length-raised : (k : ℕ) (r : List ℕ) → 0 < length r → length (raised k r) ≡ length r

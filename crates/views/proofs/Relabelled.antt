@@ -21,7 +21,7 @@ use Rattle.rights.proofs.RecordMade.{level-made, label-made}
 use Rattle.views.proofs.TableFacts.{facts, count-bytes, zero-replicate}
 use Rattle.views.proofs.Waiting.{length-rename}
 use Rattle.views.specs.Change.{rename, chunks, relabel, renamed, changed}
-use Rattle.views.specs.Marks.{marksOf}
+use Rattle.rights.specs.Marks.{marksOf}
 use Rattle.views.specs.Pass.{rest}
 
 -- what is read of a record that is renamed

@@ -17,41 +17,23 @@ use Rattle.rights.proofs.Texts.{byte-at}
 use Rattle.rights.proofs.Facts.{Sound, all-sound, both, record-levels}
 use Rattle.views.specs.Shown.{Stored, storedFrom, stored, storedLevel, grants, granted, depthAfter, isShownAt, shown, shownFrom, keep, numberOf, shownNumbers, numbersFrom}
 use Rattle.views.proofs.Fill.{put-take, put-drop, put-length, put-next, filled, filled-length}
+use Rattle.views.proofs.Chunks.{level-first}
+use Rattle.views.proofs.TableFacts.{facts}
 use Rattle.views.proofs.ShownDepth.{Steps, shown-by-depth}
 
--- What a table's check gives.
-pub record Good (t : List ℕ) : Type 0 where
-  pub head : 4 ≤ length t
-  pub room : 4 + count t * 32 ≤ length t
-  pub few : count t ≤ 16384
-  pub ordered : recordsOk 0 0 (records t) ≡ true
-
-pub good : (t : List ℕ) → tableOk t ≡ true → Good t
-unfolding tableOk
-good t e =
-    let f = simp (tableOk, and-eq-true-iff) at e in
-    let h : 4 ≤ length t = leb-true _ _ (f .0) in
-    let c : count t ≤ capacity (length t) = leb-true _ _ (f .1 .0) in
-    record {
-      head = h;
-      room = omega (arith, div-mul-le-self (length t - 4) 32);
-      few = omega arith;
-      ordered = f .1 .1 .0;
-    }
-
 pub level-at : (t : List ℕ) (i : ℕ) → level (recordAt t i) ≡ getD t (4 + i * 32) 0
-level-at t i = rw (getD-take 32 (drop (4 + i * 32) t) 0 0 (lit< tt), getD-drop, add-zero)
+level-at t i = level-first (4 + i * 32) t
 
 -- what a record of a table holds
 pub record-text : (t : List ℕ) → tableOk t ≡ true → (i : ℕ) → i < count t → Text t (4 + i * 32) × (getD t (4 + i * 32) 0 < 12)
 record-text t ok i h =
-    let g = good t ok in
-    let f = all-sound 0 0 t (count t) 0 i (g .ordered) h in
+    let g = facts t ok in
+    let f = all-sound 0 0 t (count t) 0 i (g .nested) h in
     let k : 0 + i ≡ i = omega arith in
     let s : Sound (recordAt t i) = rw k at f in
     let b = byte-at t (4 + i * 32) 1 (omega arith) in
     let a = level-at t i in
-    (record { room = omega (arith, g .room); some = omega (arith, s .some-label); short = omega (arith, s .short-label) }, omega (arith, s .low-level))
+    (record { room = omega (arith, g .size); some = omega (arith, s .some-label); short = omega (arith, s .short-label) }, omega (arith, s .low-level))
 
 -- node i of a table
 abbrev pub storedAt : List ℕ → List ℕ → ℕ → Stored
@@ -83,7 +65,7 @@ stored-steps low high i (r ∷ rs) (s ∷ ss) e =
 
 -- the shown nodes of a table, by one number
 pub table-by-depth : (t ss : List ℕ) → tableOk t ≡ true → shown (stored t ss) ≡ shownFrom storedLevel granted 0 (stored t ss)
-table-by-depth t ss e = shown-by-depth storedLevel granted (stored t ss) (stored-steps 0 0 0 (records t) ss (good t e .ordered))
+table-by-depth t ss e = shown-by-depth storedLevel granted (stored t ss) (stored-steps 0 0 0 (records t) ss (facts t e .nested))
 
 map-cond : {A B : Type 0} (f : A → B) (b : Bool) (x : A) (xs : List A) → map f (cond b (x ∷ xs) xs) ≡ cond b (f x ∷ map f xs) (map f xs)
 map-cond f true x xs = refl

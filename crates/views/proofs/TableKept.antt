@@ -19,7 +19,7 @@ use Rattle.rights.proofs.RecordMade.{zeros-zero, made-ok, spare-made}
 use Rattle.views.specs.declared.insert.Place.{Place}
 use Rattle.views.specs.declared.insert.Place.the-variants.{Append, After, Before}
 use Rattle.views.specs.Change.{isDone, later, dropBelow, putBehind, remove, insertBehind, insertInFront, rename, chunks, raise, lower, placed, removed, relabel, renamed, join, changed, deepest, tooDeep, hasRoom}
-use Rattle.views.specs.Marks.{marksOf, marked}
+use Rattle.rights.specs.Marks.{marksOf, marked}
 use Rattle.views.specs.Pass.{Above, Front, AtDone, Shallow}
 use Rattle.views.specs.Nodes.{All, Nested, TreeOk, LabelOk}
 use Rattle.views.proofs.Chunks.{all-chunks, length-chunks, level-first}

@@ -17,7 +17,8 @@ use Rattle.rights.specs.Nodes.{Node, node, Nodes, levelOf, levelAt, Nested, rec
 use Rattle.rights.proofs.Facts.{both, record-levels}
 use Rattle.rights.proofs.Lists.{byCase}
 use Rattle.views.specs.Shown.{Stored, storedFrom, stored, storedLevel, granted, isShownAt, depthAfter, shownFrom, shown, keep, carried, numberOf, view, shownNumbers, numbersFrom}
-use Rattle.views.proofs.StoredNodes.{good, record-text, table-by-depth}
+use Rattle.views.proofs.StoredNodes.{record-text, table-by-depth}
+use Rattle.views.proofs.TableFacts.{facts}
 
 -- Numbers of records
 
@@ -82,7 +83,7 @@ module _ (t ss : List ℕ) (ok : tableOk t ≡ true) where
   unfolding viewOf
   view-by-numbers =
       map-same (Own t (count t)) (seen t) numberOf (λ x. node (storedLevel x) (carried x))
-      (λ x p. let g = good t ok in seen-number t x (omega (arith, g .few, p .0)) (p .1))
+      (λ x p. let g = facts t ok in seen-number t x (omega (arith, g .few, p .0)) (p .1))
       (keep (shown (stored t ss)) (stored t ss)) shown-own
 
   -- every number is that of a record
@@ -90,7 +91,7 @@ module _ (t ss : List ℕ) (ok : tableOk t ≡ true) where
   numbers-below j h =
       every-at (λ m. m % 16384 < count t) (shownNumbers (stored t ss)) j
       (every-map (Own t (count t)) (λ m. m % 16384 < count t) numberOf
-      (λ x p. let g = good t ok in rw (number-mod x (omega (arith, g .few, p .0))) (p .0))
+      (λ x p. let g = facts t ok in rw (number-mod x (omega (arith, g .few, p .0))) (p .0))
       (keep (shown (stored t ss)) (stored t ss)) shown-own)
       h
 
@@ -175,7 +176,7 @@ nested-from i (r ∷ rs) (s ∷ ss) e =
 
 -- the view of a table is a tree, or nothing
 pub view-nested : (t ss : List ℕ) → tableOk t ≡ true → Nested (view (stored t ss))
-view-nested t ss ok = rw (table-by-depth t ss ok) (nested-from 0 (records t) ss (good t ok .ordered))
+view-nested t ss ok = rw (table-by-depth t ss ok) (nested-from 0 (records t) ss (facts t ok .nested))
 
 -- What the passes of a selection ask of the numbers
 
@@ -210,7 +211,7 @@ module _ (t ss : List ℕ) (ok : tableOk t ≡ true) where
   pub view-fits : Fits t (shownNumbers (stored t ss))
   view-fits =
       record {
-        few = (let g = good t ok in omega (arith, g .few, shown-few));
+        few = (let g = facts t ok in omega (arith, g .few, shown-few));
         stands = λ i h. record-fits _ (numbers-below t ss ok i h) .0;
         low = λ i h. record-fits _ (numbers-below t ss ok i h) .1;
       }

@@ -10,7 +10,7 @@ use lib.Dec.{ltb}
 use Rattle.rights.proofs.Lists.{byCase}
 use borrow.Author.Tests.{leb-false, lt-ltb, le-ltb}
 use Rattle.views.specs.Change.{isDone, later, putBehind, insertBehind, insertInFront, rename}
-use Rattle.views.specs.Marks.{markCount}
+use Rattle.rights.specs.Marks.{markCount}
 use Rattle.views.specs.Pass.{Below, Falls, isDue, Above, Front, front, due}
 
 -- n levels that fall from below k are at most k

@@ -17,7 +17,7 @@ use Rattle.views.proofs.Waiting.{insert-same, length-insertBehind, leng
 use Rattle.views.proofs.RecordBytes.{length-treeAt, length-raise, rest-none}
 use Rattle.rights.specs.Table.{level}
 use Rattle.views.specs.Change.{insertBehind, insertInFront, chunks, raise, lower, placed, le4, changed}
-use Rattle.views.specs.Marks.{markCount, marksOf, marked}
+use Rattle.rights.specs.Marks.{markCount, marksOf, marked}
 use Rattle.views.specs.Pass.{shifted, Under, due, AtDone, treeAt, Shallow, behind, inFront, stack, rest, passing, passingFront, Fixed, Between}
 
 -- a pass begins

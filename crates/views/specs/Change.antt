@@ -7,7 +7,7 @@ use lib.Dec.{eqb, leb, ltb}
 use lib.ListN.{length, take, drop, replicate}
 use Rattle.rights.specs.Table.{count, capacity, level, spare, records}
 use Rattle.rights.specs.Record.{recordOf}
-use Rattle.views.specs.Marks.{marksOf, marked}
+use Rattle.rights.specs.Marks.{marksOf, marked}
 use Rattle.views.specs.declared.insert.Place.{Place}
 use Rattle.views.specs.declared.insert.Place.the-variants.{Append, After, Before}
 

@@ -7,7 +7,7 @@ use lib.ListN.{getD, drop}
 use Rattle.rights.specs.Table.{recordAt, level, label, count}
 use Rattle.rights.specs.Policy.{read, insert, update, delete}
 use Rattle.rights.specs.Rights.{holds}
-use Rattle.views.specs.Marks.{eachFrom}
+use Rattle.rights.specs.Marks.{eachFrom}
 use Rattle.views.specs.Shown.{atParent, nearestFirst, stored, shown}
 use Rattle.views.specs.declared.done.Change.{Change}
 use Rattle.views.specs.declared.done.Change.the-variants.{Rename, Update, Append, Before, After, Remove}

@@ -1,5 +1,4 @@
 pub mod Shown
-pub mod Marks
 pub mod Done
 pub mod Change
 pub mod Pass

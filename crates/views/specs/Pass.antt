@@ -8,7 +8,7 @@ use lib.ListN.{length, getD, take, drop}
 use lib.Dec.{leb}
 use Rattle.rights.specs.Table.{level}
 use Rattle.views.specs.Change.{isDone, later, dropBelow, putBehind, remove, insertBehind, insertInFront, chunks, raise}
-use Rattle.views.specs.Marks.{marksOf}
+use Rattle.rights.specs.Marks.{marksOf}
 
 -- The bytes from `from` to `end` moved up by `by`; the bytes that they leave stay.
 abbrev pub shifted : List ℕ → ℕ → ℕ → ℕ → List ℕ

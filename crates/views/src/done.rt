@@ -1,6 +1,4 @@
 // Which records a change does (document 01, "Changes"), decided before anything changes.
-use crate::marks::is_set;
-use crate::marks::mark_of;
 use crate::shown::depth_after;
 use crate::shown::is_shown;
 use rights::bytes::wide;
@@ -12,6 +10,9 @@ use rights::limits::RECORD_BYTES;
 use rights::limits::RECORDS_MAX;
 use rights::limits::UPDATE;
 use rights::limits::WORDS_MAX;
+use rights::marks::is_set;
+use rights::marks::mark_of;
+use rights::nodes::wide_number;
 use rights::policy::is_among;
 use rights::policy::sort_policy_words;
 use rights::rights::holds_right;
@@ -22,8 +23,7 @@ ghost use mathlib.Core.List.{List, [], _∷_, _++_, map};
 ghost use Prim.Native.Nat.{ℕ, _+_, _*_, _%_, _≤_, _<_};
 ghost use lib.Dec.{eqb, ltb};
 ghost use lib.ListN.{length, take, drop, getD};
-ghost use Rattle.rights.specs.Automaton.{bit};
-ghost use Rattle.views.specs.Marks.{marksOf};
+ghost use Rattle.rights.specs.Marks.{bit, marksOf};
 ghost use Rattle.rights.specs.Policy.{read, update, policyWord};
 ghost use Rattle.rights.specs.PolicyBytes.{policyOf, Text};
 ghost use Rattle.rights.specs.PolicyCheck.{policyOk};
@@ -43,13 +43,6 @@ pub enum Change {
     Before,
     After,
     Remove,
-}
-
-// A number of 16 bits as one of machine size.
-fn wide_number(x: u16) -> usize
-    ensures { λ r. ⌜ r ≡ x ⌝ }
-{
-    x as usize
 }
 
 // Whether shown node j, of k, is record i.

@@ -1,15 +1,15 @@
 // append, before, after (document 01, "Changes"): a tree of records at every place that is done; in place, in one pass. Refusals 10 and 11 are decided
 // by functions of their own, before anything is written.
-use crate::marks::count_marks;
-use crate::store::clear_from;
-use crate::store::move_record;
-use crate::store::put_count;
-use crate::store::shift_up;
+use crate::moves::clear_from;
+use crate::moves::move_record;
+use crate::moves::put_count;
+use crate::moves::shift_up;
 use rights::bytes::copy;
 use rights::bytes::wide;
 use rights::limits::COUNT_BYTES;
 use rights::limits::LEVEL_MAX;
 use rights::limits::RECORD_BYTES;
+use rights::marks::count_marks;
 use rights::table::capacity_of;
 use rights::table::count_of;
 ghost use mathlib.Core.Path.{_≡_};
@@ -20,7 +20,7 @@ ghost use lib.ListN.{length, getD, take, drop};
 ghost use lib.Dec.{eqb, ltb};
 ghost use Rattle.rights.specs.Table.{count, records, level, tableOk};
 ghost use Rattle.views.specs.Change.{chunks, raised, raise, placed, changed, deepest, tooDeep, hasRoom, lower};
-ghost use Rattle.views.specs.Marks.{marksOf, marked};
+ghost use Rattle.rights.specs.Marks.{marksOf, marked};
 ghost use Rattle.views.specs.Pass.{isDue, front, Under, AtDone, Shallow, stack, rest, behind, inFront, passing, passingFront, Fixed, Between};
 
 // Where the tree goes: as the last child of a node, directly behind the node and all below it, directly in front of it.

@@ -1,7 +1,7 @@
 // remove (document 01, "Changes"): the records that are done go, with all below them; in place, in one pass.
-use crate::store::clear_from;
-use crate::store::move_record;
-use crate::store::put_count;
+use crate::moves::clear_from;
+use crate::moves::move_record;
+use crate::moves::put_count;
 use rights::limits::COUNT_BYTES;
 use rights::limits::RECORD_BYTES;
 use rights::table::count_of;

@@ -1,20 +1,19 @@
-use Rattle.answers.proofs.AnswerNodes.{count-shown}
+use Rattle.answers.proofs.AnswerNodes.{count-hits}
 use Rattle.answers.proofs.NodeLaws.{view-length}
 use Rattle.answers.proofs.AnswerLaws.{puts-more}
 use Rattle.rights.specs.Nodes.{viewOf}
 use native.Mathlib.Omega.{arith}
 use lib.ListN.{length}
 use mathlib.Core.Path.{_∙_}
-use Prim.Native.Nat.{_-_}
 use borrow.Author.Needs.{needs}
 use Rattle.answers.proofs.answer.put_query.Statement.{statement}
 use Rattle.answers.proofs.answer.put_query.Tie as tie
 
 returns : tie.Need-returns
 returns c =
-    let a = c .before .before .before .before .before .before .before .before .before .before .before .before .before .before .args in
+    let a = c .before .before .before .before .before .before .before .before .before .before .before .before .before .args in
     let n = view-length (a .table .now) (a .shown .now) in
-    let q = c .before .before .before .before .before .before .before .before .count-marked .ensures .0 ∙ count-shown (a .marks .now) (viewOf (a .table .now) (a .shown .now)) (length (a .shown .now) - 0) (omega arith) in
+    let q = c .before .before .before .before .before .before .before .before .count-marks .ensures .0 ∙ count-hits (a .marks .now) (viewOf (a .table .now) (a .shown .now)) (length (a .shown .now)) (omega arith) in
     let hits = c .before .before .before .before .before .before .put-hits .ensures in
     let end = c .before .before .put-end .ensures in
     (rw (← q) (puts-more (hits .0) (end .0)), omega (arith, hits .1, end .1))
@@ -22,5 +21,4 @@ returns c =
 pub put-query-spec : {M : Type 1} → statement M
 put-query-spec =
     tie.close
-    (tie.spec (λ c. search needs) (λ c. search needs) (λ c. search needs) (λ c κs. search needs) (λ c κs. search needs)
-    (λ c κs. search needs) (λ c. search needs) returns)
+    (tie.spec (λ c κs. search needs) (λ c κs. search needs) (λ c κs. search needs) (λ c. search needs) returns)

@@ -1,7 +1,7 @@
 use mathlib.Core.Path.{refl, sym}
 use borrow.Author.Tests.{not-false}
 use Rattle.rights.specs.Table.{count}
-use Rattle.views.specs.Marks.{marked}
+use Rattle.rights.specs.Marks.{marked}
 use Rattle.answers.specs.Answer.{doneText}
 use Rattle.lines.specs.State.{stage}
 use Rattle.lines.specs.Work.{insertChecks, insertAt}

@@ -6,7 +6,7 @@ use borrow.Author.Tests.{not-false}
 use Rattle.rights.specs.Table.{records}
 use Rattle.rights.proofs.Facts.{table-few}
 use Rattle.views.specs.Change.{chunks, changed, placed, lower, deepest, tooDeep, hasRoom}
-use Rattle.views.specs.Marks.{marksOf}
+use Rattle.rights.specs.Marks.{marksOf}
 use Rattle.views.specs.declared.insert.Place.the-variants.{Append}
 use Rattle.lines.specs.Refusal.{firstRefusal}
 use Rattle.lines.specs.Work.{labelCheck, insertChecks, rootAlone, workChild}

@@ -1,4 +1,4 @@
-use Rattle.rights.specs.Automaton.{bit}
+use Rattle.rights.specs.Marks.{bit}
 use Prim.Native.Nat.{_-_}
 use mathlib.Core.Path.{_≡_, refl, sym, ap, _∙_}
 use native.Mathlib.Omega.{arith}
@@ -6,7 +6,8 @@ use borrow.Author.Needs.{needs}
 use Rattle.rights.specs.Policy.{policyWord}
 use Rattle.rights.specs.PolicyBytes.{policyOf}
 use Rattle.rights.specs.Table.{count}
-use Rattle.views.proofs.StoredNodes.{good, record-text}
+use Rattle.views.proofs.StoredNodes.{record-text}
+use Rattle.views.proofs.TableFacts.{facts}
 use Rattle.views.proofs.DonePass.{Marking, marking-start, marking-more, marking-gives}
 use Rattle.views.proofs.done.mark_by_words.Statement.{statement}
 use Rattle.views.proofs.done.mark_by_words.Tie as tie
@@ -19,7 +20,7 @@ abbrev μ-loop : tie.MeasureT-loop
 μ-loop change policy words k table rights selected done₀ n chosen₀ granting₀ depth₀ i₀ done chosen granting depth i = n - i
 
 count-of-requires : tie.Need-count-of-requires Inv-loop μ-loop
-count-of-requires c κs = good _ (c .before .before .before .before .before .before .pre .1) .head
+count-of-requires c κs = facts _ (c .before .before .before .before .before .before .pre .1) .head
 
 loop-holds : tie.Need-loop-holds Inv-loop μ-loop
 loop-holds c =
@@ -30,21 +31,21 @@ mul-level : tie.Need-mul-level Inv-loop μ-loop
 mul-level c =
     let a = c .before .before .before .before .before .before .before .before .before .args in
     let l = c .before .loop in
-    let g = good (a .table .now) (c .before .before .before .before .before .before .before .before .before .pre .1) in
+    let g = facts (a .table .now) (c .before .before .before .before .before .before .before .before .before .pre .1) in
     omega arith
 
 add-level : tie.Need-add-level Inv-loop μ-loop
 add-level c =
     let a = c .before .before .before .before .before .before .before .before .before .args in
     let l = c .before .loop in
-    let g = good (a .table .now) (c .before .before .before .before .before .before .before .before .before .pre .1) in
+    let g = facts (a .table .now) (c .before .before .before .before .before .before .before .before .before .pre .1) in
     omega arith
 
 shared-slice-read-level : tie.Need-shared-slice-read-level Inv-loop μ-loop
 shared-slice-read-level c =
     let a = c .before .before .before .before .before .before .before .before .before .before .args in
     let l = c .before .before .loop in
-    let g = good (a .table .now) (c .before .before .before .before .before .before .before .before .before .before .pre .1) in
+    let g = facts (a .table .now) (c .before .before .before .before .before .before .before .before .before .before .pre .1) in
     omega arith
 
 array-read-is-set : tie.Need-array-read-is-set Inv-loop μ-loop

@@ -2,8 +2,7 @@ use borrow.Author.Needs.{needs}
 use Rattle.views.proofs.MarkLaws.{left, left-step, left-end}
 use Rattle.views.proofs.Fill.{push-take, push-drop, put-next, filled}
 use Rattle.views.specs.Done.{byNumbers}
-use Rattle.views.specs.Marks.{marksOf}
-use Rattle.rights.specs.Automaton.{bit}
+use Rattle.rights.specs.Marks.{marksOf, bit}
 use lib.ListN.{length, take, drop, length-set}
 use native.Mathlib.Nat.{sub-zero}
 use mathlib.Core.List.{_++_, map}

@@ -2,7 +2,7 @@ use Prim.Native.Nat.{_≤_, _-_, _+_, _*_}
 use mathlib.Core.Path.{_≡_, sym, _∙_}
 use lib.ListN.{drop}
 use Rattle.views.specs.Change.{tooDeep, chunks}
-use Rattle.views.specs.Marks.{marksOf}
+use Rattle.rights.specs.Marks.{marksOf}
 use Rattle.views.proofs.Depth.{deep-stop, deep-step, deep-none, deep-first}
 use native.Mathlib.Omega.{arith}
 use borrow.Author.Needs.{needs}

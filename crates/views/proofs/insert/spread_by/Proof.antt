@@ -8,7 +8,7 @@ use borrow.Author.Needs.{needs}
 use Rattle.views.proofs.insert.spread_by.Statement.{statement}
 use Rattle.views.proofs.insert.spread_by.Tie as tie
 use Rattle.views.specs.Change.{placed, lower}
-use Rattle.views.specs.Marks.{marksOf}
+use Rattle.rights.specs.Marks.{marksOf}
 use Rattle.views.specs.Pass.{rest, AtDone, Shallow}
 
 spread-requires : tie.Need-spread-requires

@@ -1,7 +1,7 @@
 use Prim.Native.Nat.{_≤_, _-_}
 use mathlib.Core.Path.{_≡_, refl, ap, _∙_}
 use lib.ListN.{length, drop}
-use Rattle.views.specs.Marks.{marksOf}
+use Rattle.rights.specs.Marks.{marksOf}
 use Rattle.views.proofs.Whole.{fixed-same, starts-front, ends-front}
 use native.Mathlib.Omega.{arith}
 use borrow.Author.Needs.{needs}

@@ -1,15 +1,16 @@
-use Rattle.views.proofs.StoredNodes.{good, show-gives}
+use Rattle.views.proofs.StoredNodes.{show-gives}
+use Rattle.views.proofs.TableFacts.{facts}
 use native.Mathlib.Omega.{arith}
 use borrow.Author.Needs.{needs}
 use Rattle.views.proofs.shown.show.Statement.{statement}
 use Rattle.views.proofs.shown.show.Tie as tie
 
 count-of-requires : tie.Need-count-of-requires
-count-of-requires c κs = good _ (c .before .before .before .pre .0) .head
+count-of-requires c κs = facts _ (c .before .before .before .pre .0) .head
 
 show-first-requires : tie.Need-show-first-requires
 show-first-requires c κs =
-    let g = good _ (c .before .before .before .before .before .pre .0) in
+    let g = facts _ (c .before .before .before .before .before .pre .0) in
     let e = c .before .count-of .ensures in
     (omega arith, omega arith, omega arith, omega arith)
 

@@ -4,8 +4,7 @@ ghost use mathlib.Core.Bool.{Bool, not};
 ghost use Prim.Native.Nat.{_≤_};
 ghost use lib.Dec.{eqb};
 ghost use lib.ListN.{length};
-ghost use Rattle.rights.specs.Automaton.{bit};
-ghost use Rattle.views.specs.Marks.{marked};
+ghost use Rattle.rights.specs.Marks.{bit, marked};
 
 // The mark that stands for yes or no.
 pub fn mark_of(b: bool) -> u8

@@ -5,8 +5,8 @@ use lib.ListN.{length, take, drop, length-set}
 use Rattle.views.proofs.Copies.{move-none, move-front, move-back}
 use borrow.Author.Needs.{needs}
 use native.Mathlib.Omega.{arith}
-use Rattle.views.proofs.store.move_record.Statement.{statement}
-use Rattle.views.proofs.store.move_record.Tie as tie
+use Rattle.views.proofs.moves.move_record.Statement.{statement}
+use Rattle.views.proofs.moves.move_record.Tie as tie
 
 abbrev Inv-loop : tie.InvT-loop
 Inv-loop t₀ from to j₀ t j =

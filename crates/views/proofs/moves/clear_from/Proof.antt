@@ -5,8 +5,8 @@ use lib.ListN.{length, take, replicate, length-set}
 use Rattle.views.proofs.Copies.{clear-none, clear-more, clear-all}
 use borrow.Author.Needs.{needs}
 use native.Mathlib.Omega.{arith}
-use Rattle.views.proofs.store.clear_from.Statement.{statement}
-use Rattle.views.proofs.store.clear_from.Tie as tie
+use Rattle.views.proofs.moves.clear_from.Statement.{statement}
+use Rattle.views.proofs.moves.clear_from.Tie as tie
 
 abbrev Inv-loop : tie.InvT-loop
 Inv-loop t₀ from i₀ t i =

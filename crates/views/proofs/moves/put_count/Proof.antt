@@ -2,8 +2,8 @@ use lib.ListN.{length-set}
 use lib.Seq.{sets-eq}
 use native.Mathlib.Omega.{arith}
 use borrow.Author.Needs.{needs}
-use Rattle.views.proofs.store.put_count.Statement.{statement}
-use Rattle.views.proofs.store.put_count.Tie as tie
+use Rattle.views.proofs.moves.put_count.Statement.{statement}
+use Rattle.views.proofs.moves.put_count.Tie as tie
 use Rattle.views.specs.Change.{le4}
 
 same-length : tie.Need-same-length

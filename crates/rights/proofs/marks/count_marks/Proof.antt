@@ -1,12 +1,12 @@
 use Prim.Native.Nat.{_≤_, _-_}
 use mathlib.Core.Path.{_≡_, refl, _∙_}
 use mathlib.Core.Logic.{⊎-elim}
-use Rattle.views.proofs.MarkLaws.{marked-more, marked-same}
+use Rattle.rights.proofs.MarkLaws.{marked-more, marked-same}
 use native.Mathlib.Omega.{arith}
 use borrow.Author.Needs.{needs}
-use Rattle.views.proofs.marks.count_marks.Statement.{statement}
-use Rattle.views.proofs.marks.count_marks.Tie as tie
-use Rattle.views.specs.Marks.{marked}
+use Rattle.rights.proofs.marks.count_marks.Statement.{statement}
+use Rattle.rights.proofs.marks.count_marks.Tie as tie
+use Rattle.rights.specs.Marks.{marked}
 
 abbrev Inv-loop : tie.InvT-loop
 Inv-loop marks n k₀ i₀ k i = (i ≤ n) × (k ≡ marked i marks) × (k ≤ i)

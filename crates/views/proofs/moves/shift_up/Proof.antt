@@ -4,8 +4,8 @@ use lib.ListN.{length, length-set}
 use Rattle.views.proofs.Copies.{shift-none, shift-more}
 use borrow.Author.Needs.{needs}
 use native.Mathlib.Omega.{arith}
-use Rattle.views.proofs.store.shift_up.Statement.{statement}
-use Rattle.views.proofs.store.shift_up.Tie as tie
+use Rattle.views.proofs.moves.shift_up.Statement.{statement}
+use Rattle.views.proofs.moves.shift_up.Tie as tie
 use Rattle.views.specs.Pass.{shifted}
 
 abbrev Inv-loop : tie.InvT-loop

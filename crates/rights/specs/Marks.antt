@@ -1,10 +1,15 @@
--- Marks: a byte for each node, set unless 0.
+-- Marks: what holds of each node, as a list of Bools and as a byte a node, set unless 0. A selection is such a list, and what a change does.
 use Prim.Native.Nat.{ℕ, zero, suc}
-use mathlib.Core.Bool.{Bool, true, false, not}
+use mathlib.Core.Bool.{Bool, true, false, not, cond}
 use mathlib.Core.List.{List, [], _∷_}
 use lib.Dec.{eqb}
 use lib.ListN.{take}
 
+-- the byte that is written for a mark
+abbrev pub bit : Bool → ℕ
+bit b = cond b 1 0
+
+-- the marks that bytes hold
 abbrev pub marksOf : List ℕ → List Bool
 marksOf [] = []
 marksOf (b ∷ bs) = not (eqb b 0) ∷ marksOf bs
