@@ -5,7 +5,7 @@ use Rattle.rights.proofs.Facts.{table-long}
 use Rattle.lines.specs.Effect.{performed}
 use Rattle.lines.specs.State.{stage}
 use Rattle.lines.specs.UserView.{doneIn}
-use Rattle.lines.specs.Work.{treeChecks, insertChecks, insertAt, changeAt, countText, workInsert}
+use Rattle.lines.specs.Work.{treeChecks, insertChecks, insertAt, changeAt, countText}
 use Rattle.lines.proofs.ChangeLaws.{done-reach, done-cover, insert-parts}
 use Rattle.lines.proofs.OutcomeLaws.{made-at}
 use Rattle.lines.proofs.RefusalLaws.{passed, first-front, performs-refused, performed-guarded}
@@ -19,57 +19,35 @@ tree-refusal-requires c κs = (omega (arith, store-held _ _ (c .before .before .
 
 returns : tie.Need-returns
 returns c = let a = c .before .before .before .before .before .before .before .args in
-    let g = c .before .before .before .before .before .before .before .pre in
-    let s = a .state .now in
-    let t = a .table .now in
-    let h = a .path .now in
-    let x = a .tree .now in
-    performs-refused (workInsert (a .place) s t h (a .m) x) s t
-    (first-front (treeChecks s h (a .m) x) (insertChecks (a .place) (doneIn (changeAt (a .place)) s t h) (a .m) x t) _ (c .before .tree-refusal .ensures) (c .if1 .taken)) (c .if1 .taken)
+    performs-refused _ _ _
+    (first-front (treeChecks (a .state .now) (a .path .now) (a .m) (a .tree .now)) (insertChecks (a .place) (doneIn (changeAt (a .place)) (a .state .now) (a .table .now) (a .path .now)) (a .m) (a .tree .now) (a .table .now)) _ (c .before .tree-refusal .ensures) (c .if1 .taken)) (c .if1 .taken)
 
 mark-change-requires : tie.Need-mark-change-requires
 mark-change-requires c κs = let a = c .before .before .before .before .before .before .before .before .before .before .args in
-    let g = c .before .before .before .before .before .before .before .before .before .before .pre in
-    let s = a .state .now in
-    let t = a .table .now in
-    let h = a .path .now in
-    let x = a .tree .now in
-    let p = passed (treeChecks s h (a .m) x) _ refl (c .before .before .before .before .tree-refusal .ensures) (c .before .before .before .if1 .left) in
-    (g .0, (p .0, (p .1 .0, tt)), refl {a = 16384})
+    let p = passed (treeChecks (a .state .now) (a .path .now) (a .m) (a .tree .now)) _ refl (c .before .before .before .before .tree-refusal .ensures) (c .before .before .before .if1 .left) in
+    (c .before .before .before .before .before .before .before .before .before .before .pre .0, (p .0, (p .1 .0, tt)), refl {a = 16384})
 
 count-of-requires : tie.Need-count-of-requires
 count-of-requires c κs = table-long _ (store-held _ _ (c .before .before .before .before .before .before .before .before .before .before .before .before .before .pre .0) .table)
 
 part-insert-done-end : tie.Need-part-insert-done-end
 part-insert-done-end c = let a = c .before .before .before .before .before .before .before .before .before .before .before .before .before .before .before .before .args in
-    let g = c .before .before .before .before .before .before .before .before .before .before .before .before .before .before .before .before .pre in
-    let s = a .state .now in
-    let t = a .table .now in
-    let h = a .path .now in
-    let x = a .tree .now in
-    done-reach _ s t h (replicate 16384 0) _ _ _ (c .before .before .before .before .before .mark-change .ensures) (c .before .before .count-of .ensures)
+    done-reach _ (a .state .now) (a .table .now) (a .path .now) (replicate 16384 0) _ _ _ (c .before .before .before .before .before .mark-change .ensures) (c .before .before .count-of .ensures)
 
 insert-done-requires : tie.Need-insert-done-requires
 insert-done-requires c κs = let a = c .before .before .before .before .before .before .before .before .before .before .before .before .before .before .before .before .before .before .args in
     let g = c .before .before .before .before .before .before .before .before .before .before .before .before .before .before .before .before .before .before .pre in
-    let s = a .state .now in
-    let t = a .table .now in
-    let h = a .path .now in
-    let x = a .tree .now in
-    let k = store-held s t (g .0) in
-    (omega (arith, k .size), k .table, done-cover _ s t h (replicate 16384 0) _ _ _ (c .before .before .before .before .before .before .before .mark-change .ensures) (c .before .before .before .before .count-of .ensures), g .1, g .2)
+    let k = store-held (a .state .now) (a .table .now) (g .0) in
+    (omega (arith, k .size), k .table, done-cover _ (a .state .now) (a .table .now) (a .path .now) (replicate 16384 0) _ _ _ (c .before .before .before .before .before .before .before .mark-change .ensures) (c .before .before .before .before .count-of .ensures), g .1, g .2)
 
 returns-2 : tie.Need-returns-2
 returns-2 c = let a = c .before .before .before .before .before .before .before .before .before .before .before .before .before .before .before .before .before .before .before .before .before .before .before .args in
-    let g = c .before .before .before .before .before .before .before .before .before .before .before .before .before .before .before .before .before .before .before .before .before .before .before .pre in
     let s = a .state .now in
     let t = a .table .now in
     let h = a .path .now in
     let x = a .tree .now in
-    let p = passed (treeChecks s h (a .m) x) _ refl (c .before .before .before .before .before .before .before .before .before .before .before .before .before .before .before .before .before .tree-refusal .ensures) (c .before .before .before .before .before .before .before .before .before .before .before .before .before .before .before .before .if1 .left) in
     let o = changeAt (a .place) in
-    let b = insertAt (a .place) (doneIn o s t h) (a .m) x (countText o s t h) (stage s) t in
-    made-at (performed-guarded (treeChecks s h (a .m) x) b (length (a .area .now)) s t p
+    made-at (performed-guarded (treeChecks s h (a .m) x) (insertAt (a .place) (doneIn o s t h) (a .m) x (countText o s t h) (stage s) t) (length (a .area .now)) s t (passed (treeChecks s h (a .m) x) _ refl (c .before .before .before .before .before .before .before .before .before .before .before .before .before .before .before .before .before .tree-refusal .ensures) (c .before .before .before .before .before .before .before .before .before .before .before .before .before .before .before .before .if1 .left))
     ∙ ap (λ w. performed w (length (a .area .now)) s t) (insert-parts _ s t h (replicate 16384 0) _ _ _ (c .before .before .before .before .before .before .before .before .before .before .before .before .mark-change .ensures) (c .before .before .before .before .before .before .before .before .before .count-of .ensures) (a .place) (c .before .before .before .before .before .before .before .before .before .before .before .before .before .before .change-at .ensures) (a .m) x))
     (c .before .before .before .before .insert-done .ensures)
 

@@ -1,10 +1,6 @@
 use mathlib.Core.Path.{refl, sym}
 use borrow.Author.Tests.{not-false}
-use Rattle.rights.specs.Table.{count}
-use Rattle.rights.specs.Marks.{marked}
-use Rattle.answers.specs.Answer.{doneText}
-use Rattle.lines.specs.State.{stage}
-use Rattle.lines.specs.Work.{insertChecks, insertAt}
+use Rattle.lines.specs.Work.{insertChecks}
 use Rattle.lines.proofs.RefusalLaws.{passed, performs-refused, performs-short, performs-done}
 use Rattle.lines.proofs.StateLaws.{same-stage}
 use borrow.Author.Needs.{needs}
@@ -12,47 +8,21 @@ use Rattle.lines.proofs.changes.insert_done.Statement.{statement}
 use Rattle.lines.proofs.changes.insert_done.Tie as tie
 
 returns : tie.Need-returns
-returns c = let a = c .before .before .before .before .before .before .before .before .args in
-    let g = c .before .before .before .before .before .before .before .before .pre in
-    let s = a .state .now in
-    let t = a .table .now in
-    let k = a .done .now in
-    let x = a .tree .now in
-    let w = insertAt (a .place) k (a .m) x (doneText (a .selected) (marked (count t) k)) (stage s) t in
-    performs-refused w s t (c .before .insert-refusal .ensures) (c .if1 .taken)
+returns c = performs-refused _ _ _ (c .before .insert-refusal .ensures) (c .if1 .taken)
 
 returns-2 : tie.Need-returns-2
 returns-2 c = let a = c .before .before .before .before .before .before .before .before .before .before .before .before .before .before .before .args in
-    let g = c .before .before .before .before .before .before .before .before .before .before .before .before .before .before .before .pre in
-    let s = a .state .now in
-    let t = a .table .now in
-    let k = a .done .now in
-    let x = a .tree .now in
-    let w = insertAt (a .place) k (a .m) x (doneText (a .selected) (marked (count t) k)) (stage s) t in
-    let p = passed (insertChecks (a .place) k (a .m) x t) _ refl (c .before .before .before .before .before .before .before .before .insert-refusal .ensures) (c .before .before .before .before .before .before .before .if1 .left) in
-    performs-short w s t p (c .before .before .before .before .answer-change .ensures) (c .before .area-refusal .ensures) (c .if2 .taken)
+    performs-short _ _ _ (passed (insertChecks (a .place) (a .done .now) (a .m) (a .tree .now) (a .table .now)) _ refl (c .before .before .before .before .before .before .before .before .insert-refusal .ensures) (c .before .before .before .before .before .before .before .if1 .left)) (c .before .before .before .before .answer-change .ensures) (c .before .area-refusal .ensures) (c .if2 .taken)
 
 insert-marked-requires : tie.Need-insert-marked-requires
 insert-marked-requires c κs = let a = c .before .before .before .before .before .before .before .before .before .before .before .before .before .before .before .before .args in
     let g = c .before .before .before .before .before .before .before .before .before .before .before .before .before .before .before .before .pre in
-    let s = a .state .now in
-    let t = a .table .now in
-    let k = a .done .now in
-    let x = a .tree .now in
-    let w = insertAt (a .place) k (a .m) x (doneText (a .selected) (marked (count t) k)) (stage s) t in
-    let p = passed (insertChecks (a .place) k (a .m) x t) _ refl (c .before .before .before .before .before .before .before .before .before .insert-refusal .ensures) (c .before .before .before .before .before .before .before .before .if1 .left) in
+    let p = passed (insertChecks (a .place) (a .done .now) (a .m) (a .tree .now) (a .table .now)) _ refl (c .before .before .before .before .before .before .before .before .before .insert-refusal .ensures) (c .before .before .before .before .before .before .before .before .if1 .left) in
     ((g .1, g .2, g .3), (p .0, not-false _ (p .1 .0)))
 
 returns-3 : tie.Need-returns-3
 returns-3 c = let a = c .before .before .before .before .before .before .before .before .before .before .before .before .before .before .before .before .before .before .before .args in
-    let g = c .before .before .before .before .before .before .before .before .before .before .before .before .before .before .before .before .before .before .before .pre in
-    let s = a .state .now in
-    let t = a .table .now in
-    let k = a .done .now in
-    let x = a .tree .now in
-    let w = insertAt (a .place) k (a .m) x (doneText (a .selected) (marked (count t) k)) (stage s) t in
-    let p = passed (insertChecks (a .place) k (a .m) x t) _ refl (c .before .before .before .before .before .before .before .before .before .before .before .before .insert-refusal .ensures) (c .before .before .before .before .before .before .before .before .before .before .before .if1 .left) in
-    performs-done w s t p (c .before .before .before .before .before .before .before .before .answer-change .ensures) (c .before .before .before .before .before .area-refusal .ensures) (c .before .before .before .before .if2 .left) (sym (same-stage s (g .0))) (c .before .before .insert-marked .ensures)
+    performs-done _ _ _ (passed (insertChecks (a .place) (a .done .now) (a .m) (a .tree .now) (a .table .now)) _ refl (c .before .before .before .before .before .before .before .before .before .before .before .before .insert-refusal .ensures) (c .before .before .before .before .before .before .before .before .before .before .before .if1 .left)) (c .before .before .before .before .before .before .before .before .answer-change .ensures) (c .before .before .before .before .before .area-refusal .ensures) (c .before .before .before .before .if2 .left) (sym (same-stage (a .state .now) (c .before .before .before .before .before .before .before .before .before .before .before .before .before .before .before .before .before .before .before .pre .0))) (c .before .before .insert-marked .ensures)
 
 pub insert-done-spec : {M : Type 1} → statement M
 insert-done-spec =

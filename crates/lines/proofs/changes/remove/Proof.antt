@@ -4,7 +4,7 @@ use native.Mathlib.Omega.{arith}
 use lib.ListN.{replicate}
 use Rattle.rights.proofs.Facts.{table-long}
 use Rattle.views.specs.declared.done.Change.the-variants as change
-use Rattle.lines.specs.Work.{onView, workRemove}
+use Rattle.lines.specs.Work.{onView}
 use Rattle.lines.proofs.ChangeLaws.{done-reach, done-cover, done-answered, removed-table}
 use Rattle.lines.proofs.RefusalLaws.{passed, performs-refused, performs-short, performs-done}
 use Rattle.lines.proofs.StateLaws.{store-held}
@@ -16,82 +16,43 @@ path-refusal-requires : tie.Need-path-refusal-requires
 path-refusal-requires c κs = omega (arith, store-held _ _ (c .before .before .before .before .pre) .size)
 
 returns : tie.Need-returns
-returns c = let a = c .before .before .before .before .before .before .args in
-    let s = a .state .now in
-    let t = a .table .now in
-    let h = a .path .now in
-    performs-refused (workRemove s t h) s t (c .before .path-refusal .ensures) (c .if1 .taken)
+returns c = performs-refused _ _ _ (c .before .path-refusal .ensures) (c .if1 .taken)
 
 mark-change-requires : tie.Need-mark-change-requires
 mark-change-requires c κs = let a = c .before .before .before .before .before .before .before .before .args in
-    let s = a .state .now in
-    let t = a .table .now in
-    let h = a .path .now in
-    let p = passed (onView h s) _ refl (c .before .before .before .path-refusal .ensures) (c .before .before .if1 .left) in
-    (c .before .before .before .before .before .before .before .before .pre, p, refl {a = 16384})
+    (c .before .before .before .before .before .before .before .before .pre, (passed (onView (a .path .now) (a .state .now)) _ refl (c .before .before .before .path-refusal .ensures) (c .before .before .if1 .left)), refl {a = 16384})
 
 count-of-requires : tie.Need-count-of-requires
 count-of-requires c κs = table-long _ (store-held _ _ (c .before .before .before .before .before .before .before .before .before .before .before .pre) .table)
 
 part-answer-change-end : tie.Need-part-answer-change-end
 part-answer-change-end c = let a = c .before .before .before .before .before .before .before .before .before .before .before .before .before .before .args in
-    let s = a .state .now in
-    let t = a .table .now in
-    let h = a .path .now in
-    let d = c .before .before .before .before .before .mark-change .ensures in
-    let e = c .before .before .count-of .ensures in
-    done-reach change.Remove s t h (replicate 16384 0) _ _ _ d e
+    done-reach change.Remove (a .state .now) (a .table .now) (a .path .now) (replicate 16384 0) _ _ _ (c .before .before .before .before .before .mark-change .ensures) (c .before .before .count-of .ensures)
 
 answer-change-requires : tie.Need-answer-change-requires
 answer-change-requires c κs = let a = c .before .before .before .before .before .before .before .before .before .before .before .before .before .before .before .before .args in
-    let s = a .state .now in
-    let t = a .table .now in
-    let h = a .path .now in
-    let d = c .before .before .before .before .before .before .before .mark-change .ensures in
-    let e = c .before .before .before .before .count-of .ensures in
-    (store-held s t (c .before .before .before .before .before .before .before .before .before .before .before .before .before .before .before .before .pre) .table, done-cover change.Remove s t h (replicate 16384 0) _ _ _ d e)
+    (store-held (a .state .now) (a .table .now) (c .before .before .before .before .before .before .before .before .before .before .before .before .before .before .before .before .pre) .table, done-cover change.Remove (a .state .now) (a .table .now) (a .path .now) (replicate 16384 0) _ _ _ (c .before .before .before .before .before .before .before .mark-change .ensures) (c .before .before .before .before .count-of .ensures))
 
 returns-2 : tie.Need-returns-2
 returns-2 c = let a = c .before .before .before .before .before .before .before .before .before .before .before .before .before .before .before .before .before .before .before .before .before .args in
-    let s = a .state .now in
-    let t = a .table .now in
-    let h = a .path .now in
-    let p = passed (onView h s) _ refl (c .before .before .before .before .before .before .before .before .before .before .before .before .before .before .before .before .path-refusal .ensures) (c .before .before .before .before .before .before .before .before .before .before .before .before .before .before .before .if1 .left) in
-    let d = c .before .before .before .before .before .before .before .before .before .before .before .before .mark-change .ensures in
-    let e = c .before .before .before .before .before .before .before .before .before .count-of .ensures in
-    let z = replicate {A = ℕ} 16384 0 in
-    let y = done-answered change.Remove s t h z _ _ _ d e (a .area .now) _ _ (c .before .before .before .before .answer-change .ensures) in
-    performs-short (workRemove s t h) s t p y (c .before .area-refusal .ensures) (c .if2 .taken)
+    performs-short _ _ _ (passed (onView (a .path .now) (a .state .now)) _ refl (c .before .before .before .before .before .before .before .before .before .before .before .before .before .before .before .before .path-refusal .ensures) (c .before .before .before .before .before .before .before .before .before .before .before .before .before .before .before .if1 .left)) (done-answered change.Remove (a .state .now) (a .table .now) (a .path .now) (replicate {A = ℕ} 16384 0) _ _ _ (c .before .before .before .before .before .before .before .before .before .before .before .before .mark-change .ensures) (c .before .before .before .before .before .before .before .before .before .count-of .ensures) (a .area .now) _ _ (c .before .before .before .before .answer-change .ensures)) (c .before .area-refusal .ensures) (c .if2 .taken)
 
 part-remove-marked-end : tie.Need-part-remove-marked-end
 part-remove-marked-end c = let a = c .before .before .before .before .before .before .before .before .before .before .before .before .before .before .before .before .before .before .before .before .before .before .before .args in
-    let s = a .state .now in
-    let t = a .table .now in
-    let h = a .path .now in
-    let d = c .before .before .before .before .before .before .before .before .before .before .before .before .before .before .mark-change .ensures in
-    let e = c .before .before .before .before .before .before .before .before .before .before .before .count-of .ensures in
-    done-reach change.Remove s t h (replicate 16384 0) _ _ _ d e
+    done-reach change.Remove (a .state .now) (a .table .now) (a .path .now) (replicate 16384 0) _ _ _ (c .before .before .before .before .before .before .before .before .before .before .before .before .before .before .mark-change .ensures) (c .before .before .before .before .before .before .before .before .before .before .before .count-of .ensures)
 
 remove-marked-requires : tie.Need-remove-marked-requires
 remove-marked-requires c κs = let a = c .before .before .before .before .before .before .before .before .before .before .before .before .before .before .before .before .before .before .before .before .before .before .before .before .args in
-    let s = a .state .now in
-    let t = a .table .now in
-    let h = a .path .now in
-    let d = c .before .before .before .before .before .before .before .before .before .before .before .before .before .before .before .mark-change .ensures in
-    let e = c .before .before .before .before .before .before .before .before .before .before .before .before .count-of .ensures in
-    (store-held s t (c .before .before .before .before .before .before .before .before .before .before .before .before .before .before .before .before .before .before .before .before .before .before .before .before .pre) .table, done-cover change.Remove s t h (replicate 16384 0) _ _ _ d e)
+    (store-held (a .state .now) (a .table .now) (c .before .before .before .before .before .before .before .before .before .before .before .before .before .before .before .before .before .before .before .before .before .before .before .before .pre) .table, done-cover change.Remove (a .state .now) (a .table .now) (a .path .now) (replicate 16384 0) _ _ _ (c .before .before .before .before .before .before .before .before .before .before .before .before .before .before .before .mark-change .ensures) (c .before .before .before .before .before .before .before .before .before .before .before .before .count-of .ensures))
 
 returns-3 : tie.Need-returns-3
 returns-3 c = let a = c .before .before .before .before .before .before .before .before .before .before .before .before .before .before .before .before .before .before .before .before .before .before .before .before .before .before .before .args in
     let s = a .state .now in
-    let t = a .table .now in
     let h = a .path .now in
-    let p = passed (onView h s) _ refl (c .before .before .before .before .before .before .before .before .before .before .before .before .before .before .before .before .before .before .before .before .before .before .path-refusal .ensures) (c .before .before .before .before .before .before .before .before .before .before .before .before .before .before .before .before .before .before .before .before .before .if1 .left) in
     let d = c .before .before .before .before .before .before .before .before .before .before .before .before .before .before .before .before .before .before .mark-change .ensures in
     let e = c .before .before .before .before .before .before .before .before .before .before .before .before .before .before .before .count-of .ensures in
     let z = replicate {A = ℕ} 16384 0 in
-    let y = done-answered change.Remove s t h z _ _ _ d e (a .area .now) _ _ (c .before .before .before .before .before .before .before .before .before .before .answer-change .ensures) in
-    performs-done (workRemove s t h) s t p y (c .before .before .before .before .before .before .before .area-refusal .ensures) (c .before .before .before .before .before .before .if2 .left) refl (removed-table change.Remove s t h z _ _ _ d e _ (c .before .before .remove-marked .ensures))
+    performs-done _ _ _ (passed (onView h s) _ refl (c .before .before .before .before .before .before .before .before .before .before .before .before .before .before .before .before .before .before .before .before .before .before .path-refusal .ensures) (c .before .before .before .before .before .before .before .before .before .before .before .before .before .before .before .before .before .before .before .before .before .if1 .left)) (done-answered change.Remove s (a .table .now) h z _ _ _ d e (a .area .now) _ _ (c .before .before .before .before .before .before .before .before .before .before .answer-change .ensures)) (c .before .before .before .before .before .before .before .area-refusal .ensures) (c .before .before .before .before .before .before .if2 .left) refl (removed-table change.Remove s (a .table .now) h z _ _ _ d e _ (c .before .before .remove-marked .ensures))
 
 pub remove-spec : {M : Type 1} → statement M
 remove-spec =

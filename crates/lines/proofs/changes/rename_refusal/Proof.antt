@@ -18,9 +18,7 @@ path-refusal-requires c κs = omega (arith, store-held _ _ (c .before .before .b
 
 returns : tie.Need-returns
 returns c = let a = c .before .before .before .before .before .before .args in
-    let s = a .state .now in
-    let l = a .label .now in
-    first-front (onView (a .path .now) s) (check bannedLabel (sameLabel l restricted || policyWord (policyIn s) l) ∷ []) _ (c .before .path-refusal .ensures) (c .if1 .taken)
+    first-front (onView (a .path .now) (a .state .now)) (check bannedLabel (sameLabel (a .label .now) restricted || policyWord (policyIn (a .state .now)) (a .label .now)) ∷ []) _ (c .before .path-refusal .ensures) (c .if1 .taken)
 
 returns-2 : tie.Need-returns-2
 returns-2 c = let p = passed (onView (c .before .before .before .before .before .before .before .before .args .path .now) (c .before .before .before .before .before .before .before .before .args .state .now)) _ refl (c .before .before .before .path-refusal .ensures) (c .before .before .if1 .left) in

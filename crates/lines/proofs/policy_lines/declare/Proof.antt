@@ -1,14 +1,13 @@
 use mathlib.Core.Path.{refl, ap, _∙_}
 use native.Mathlib.Omega.{arith}
 use borrow.Author.Tests.{leb-false}
-use lib.ListN.{length, take, drop}
 use lib.Seq.{take-length}
 use Rattle.rights.specs.PolicyBytes.{subjectCount}
 use Rattle.rights.proofs.Lists.{rest-of}
 use Rattle.lines.specs.PolicyEdit.{withSubject}
 use Rattle.lines.specs.Refusal.{firstRefusal}
 use Rattle.lines.specs.State.{policyBytes}
-use Rattle.lines.specs.Work.{subjectChecks, workSubject}
+use Rattle.lines.specs.Work.{subjectChecks}
 use Rattle.lines.proofs.PolicyLineLaws.{put-kept}
 use Rattle.lines.proofs.RefusalLaws.{passed, performs-refused, performs-short, performs-done}
 use Rattle.lines.proofs.StateLaws.{store-held}
@@ -27,20 +26,11 @@ subject-refusal-requires c κs = rw (rest-of (c .before .before .before .before 
 
 returns : tie.Need-returns
 returns c = let a = c .before .before .before .before .before .before .before .before .args in
-    let s = a .state .now in
-    let t = a .table .now in
-    let n = a .name .now in
-    let e = c .before .subject-refusal .ensures ∙ ap (λ p. firstRefusal (subjectChecks p n)) (rest-of s 8) in
-    performs-refused (workSubject s n) s t e (c .if1 .taken)
+    performs-refused _ _ _ (c .before .subject-refusal .ensures ∙ ap (λ p. firstRefusal (subjectChecks p (a .name .now))) (rest-of (a .state .now) 8)) (c .if1 .taken)
 
 returns-2 : tie.Need-returns-2
 returns-2 c = let a = c .before .before .before .before .before .before .before .before .before .before .before .before .before .before .args in
-    let s = a .state .now in
-    let t = a .table .now in
-    let n = a .name .now in
-    let e = c .before .before .before .before .before .before .before .subject-refusal .ensures ∙ ap (λ p. firstRefusal (subjectChecks p n)) (rest-of s 8) in
-    let p = passed (subjectChecks (policyBytes s) n) _ refl e (c .before .before .before .before .before .before .if1 .left) in
-    performs-short (workSubject s n) s t p (c .before .before .before .before .answer-ok .ensures) (c .before .area-refusal .ensures) (c .if2 .taken)
+    performs-short _ _ _ (passed (subjectChecks (policyBytes (a .state .now)) (a .name .now)) _ refl (c .before .before .before .before .before .before .before .subject-refusal .ensures ∙ ap (λ p. firstRefusal (subjectChecks p (a .name .now))) (rest-of (a .state .now) 8)) (c .before .before .before .before .before .before .if1 .left)) (c .before .before .before .before .answer-ok .ensures) (c .before .area-refusal .ensures) (c .if2 .taken)
 
 sub-add-subject : tie.Need-sub-add-subject
 sub-add-subject c = omega (arith, store-held _ _ (c .before .before .before .before .before .before .before .before .before .before .before .before .before .before .pre .0) .size)
@@ -51,23 +41,15 @@ part-add-subject-start c = omega (arith, store-held _ _ (c .before .before .befo
 add-subject-requires : tie.Need-add-subject-requires
 add-subject-requires c κs = let a = c .before .before .before .before .before .before .before .before .before .before .before .before .before .before .before .args in
     let s = a .state .now in
-    let t = a .table .now in
-    let n = a .name .now in
-    let e = c .before .before .before .before .before .before .before .before .subject-refusal .ensures ∙ ap (λ p. firstRefusal (subjectChecks p n)) (rest-of s 8) in
-    let p = passed (subjectChecks (policyBytes s) n) _ refl e (c .before .before .before .before .before .before .before .if1 .left) in
     rw (rest-of s 8)
-    (store-held _ _ (c .before .before .before .before .before .before .before .before .before .before .before .before .before .before .before .pre .0) .policy, omega (arith, leb-false 64 (subjectCount (policyBytes s)) (p .1 .0)), c .before .before .before .before .before .before .before .before .before .before .before .before .before .before .before .pre .1, omega arith)
+    (store-held _ _ (c .before .before .before .before .before .before .before .before .before .before .before .before .before .before .before .pre .0) .policy, omega (arith, leb-false 64 (subjectCount (policyBytes s)) ((passed (subjectChecks (policyBytes s) (a .name .now)) _ refl (c .before .before .before .before .before .before .before .before .subject-refusal .ensures ∙ ap (λ p. firstRefusal (subjectChecks p (a .name .now))) (rest-of s 8)) (c .before .before .before .before .before .before .before .if1 .left)) .1 .0)), c .before .before .before .before .before .before .before .before .before .before .before .before .before .before .before .pre .1, omega arith)
 
 returns-3 : tie.Need-returns-3
 returns-3 c = let a = c .before .before .before .before .before .before .before .before .before .before .before .before .before .before .before .before .before .before .args in
     let s = a .state .now in
-    let t = a .table .now in
     let n = a .name .now in
-    let e = c .before .before .before .before .before .before .before .before .before .before .before .subject-refusal .ensures ∙ ap (λ p. firstRefusal (subjectChecks p n)) (rest-of s 8) in
-    let p = passed (subjectChecks (policyBytes s) n) _ refl e (c .before .before .before .before .before .before .before .before .before .before .if1 .left) in
-    let q = c .before .before .add-subject .ensures ∙ ap (withSubject _) (take-length n) in
-    performs-done (workSubject s n) s t p (c .before .before .before .before .before .before .before .before .answer-ok .ensures) (c .before .before .before .before .before .area-refusal .ensures) (c .before .before .before .before .if2 .left)
-    (put-kept s _ (λ x. withSubject x n) (omega (arith, store-held s t (c .before .before .before .before .before .before .before .before .before .before .before .before .before .before .before .before .before .before .pre .0) .size)) q) refl
+    performs-done _ _ _ (passed (subjectChecks (policyBytes s) n) _ refl (c .before .before .before .before .before .before .before .before .before .before .before .subject-refusal .ensures ∙ ap (λ p. firstRefusal (subjectChecks p n)) (rest-of s 8)) (c .before .before .before .before .before .before .before .before .before .before .if1 .left)) (c .before .before .before .before .before .before .before .before .answer-ok .ensures) (c .before .before .before .before .before .area-refusal .ensures) (c .before .before .before .before .if2 .left)
+    (put-kept s _ (λ x. withSubject x n) (omega (arith, store-held s (a .table .now) (c .before .before .before .before .before .before .before .before .before .before .before .before .before .before .before .before .before .before .pre .0) .size)) (c .before .before .add-subject .ensures ∙ ap (withSubject _) (take-length n))) refl
 
 pub declare-spec : {M : Type 1} → statement M
 declare-spec =

@@ -7,7 +7,7 @@ use Rattle.rights.specs.PolicyBytes.{isaCount}
 use Rattle.rights.proofs.Lists.{rest-of}
 use Rattle.lines.specs.PolicyEdit.{subjectNamed, numberIn, withIsa}
 use Rattle.lines.specs.State.{policyBytes, policyIn}
-use Rattle.lines.specs.Work.{isaChecks, workIsa}
+use Rattle.lines.specs.Work.{isaChecks}
 use Rattle.lines.proofs.PolicyLineLaws.{found-part, found-declared, isa-number, put-kept}
 use Rattle.lines.proofs.RefusalLaws.{passed, performs-refused, performs-short, performs-done}
 use Rattle.lines.proofs.StateLaws.{store-held}
@@ -45,25 +45,12 @@ isa-refusal-requires c κs = rw (rest-of (c .before .before .before .before .bef
 returns : tie.Need-returns
 returns c = let a = c .before .before .before .before .before .before .before .before .before .before .before .before .before .before .before .args in
     let s = a .state .now in
-    let t = a .table .now in
-    let m = a .member .now in
-    let r = a .role .now in
-    let f = found-part s m (c .before .before .before .before .before .before .before .find-name .ensures) in
-    let g = found-part s r (c .before .before .before .before .find-name2 .ensures) in
-    let e = isa-number s (c .before .isa-refusal .ensures) f g in
-    performs-refused (workIsa s m r) s t e (c .if1 .taken)
+    performs-refused _ _ _ (isa-number s (c .before .isa-refusal .ensures) (found-part s (a .member .now) (c .before .before .before .before .before .before .before .find-name .ensures)) (found-part s (a .role .now) (c .before .before .before .before .find-name2 .ensures))) (c .if1 .taken)
 
 returns-2 : tie.Need-returns-2
 returns-2 c = let a = c .before .before .before .before .before .before .before .before .before .before .before .before .before .before .before .before .before .before .before .before .before .args in
     let s = a .state .now in
-    let t = a .table .now in
-    let m = a .member .now in
-    let r = a .role .now in
-    let f = found-part s m (c .before .before .before .before .before .before .before .before .before .before .before .before .before .find-name .ensures) in
-    let g = found-part s r (c .before .before .before .before .before .before .before .before .before .before .find-name2 .ensures) in
-    let e = isa-number s (c .before .before .before .before .before .before .before .isa-refusal .ensures) f g in
-    let p = passed (isaChecks (policyBytes s) (subjectNamed (policyIn s) m) (subjectNamed (policyIn s) r)) _ refl e (c .before .before .before .before .before .before .if1 .left) in
-    performs-short (workIsa s m r) s t p (c .before .before .before .before .answer-ok .ensures) (c .before .area-refusal .ensures) (c .if2 .taken)
+    performs-short _ _ _ (passed (isaChecks (policyBytes s) (subjectNamed (policyIn s) (a .member .now)) (subjectNamed (policyIn s) (a .role .now))) _ refl (isa-number s (c .before .before .before .before .before .before .before .isa-refusal .ensures) (found-part s (a .member .now) (c .before .before .before .before .before .before .before .before .before .before .before .before .before .find-name .ensures)) (found-part s (a .role .now) (c .before .before .before .before .before .before .before .before .before .before .find-name2 .ensures))) (c .before .before .before .before .before .before .if1 .left)) (c .before .before .before .before .answer-ok .ensures) (c .before .area-refusal .ensures) (c .if2 .taken)
 
 sub-add-isa : tie.Need-sub-add-isa
 sub-add-isa c = omega (arith, store-held _ _ (c .before .before .before .before .before .before .before .before .before .before .before .before .before .before .before .before .before .before .before .before .before .pre) .size)
@@ -74,14 +61,12 @@ part-add-isa-start c = omega (arith, store-held _ _ (c .before .before .before .
 add-isa-requires : tie.Need-add-isa-requires
 add-isa-requires c κs = let a = c .before .before .before .before .before .before .before .before .before .before .before .before .before .before .before .before .before .before .before .before .before .before .before .before .args in
     let s = a .state .now in
-    let t = a .table .now in
     let m = a .member .now in
     let r = a .role .now in
     let f = found-part s m (c .before .before .before .before .before .before .before .before .before .before .before .before .before .before .before .before .find-name .ensures) in
     let g = found-part s r (c .before .before .before .before .before .before .before .before .before .before .before .before .before .find-name2 .ensures) in
-    let e = isa-number s (c .before .before .before .before .before .before .before .before .before .before .isa-refusal .ensures) f g in
-    let p = passed (isaChecks (policyBytes s) (subjectNamed (policyIn s) m) (subjectNamed (policyIn s) r)) _ refl e (c .before .before .before .before .before .before .before .before .before .if1 .left) in
-    let h = store-held s t (c .before .before .before .before .before .before .before .before .before .before .before .before .before .before .before .before .before .before .before .before .before .before .before .before .pre) in
+    let p = passed (isaChecks (policyBytes s) (subjectNamed (policyIn s) m) (subjectNamed (policyIn s) r)) _ refl (isa-number s (c .before .before .before .before .before .before .before .before .before .before .isa-refusal .ensures) f g) (c .before .before .before .before .before .before .before .before .before .if1 .left) in
+    let h = store-held s (a .table .now) (c .before .before .before .before .before .before .before .before .before .before .before .before .before .before .before .before .before .before .before .before .before .before .before .before .pre) in
     rw (rest-of s 8) (
       h .policy,
       omega (arith, leb-false 128 (isaCount (policyBytes s)) (p .1 .1 .1 .1 .0)),
@@ -92,21 +77,15 @@ add-isa-requires c κs = let a = c .before .before .before .before .before .befo
 returns-3 : tie.Need-returns-3
 returns-3 c = let a = c .before .before .before .before .before .before .before .before .before .before .before .before .before .before .before .before .before .before .before .before .before .before .before .before .before .before .before .args in
     let s = a .state .now in
-    let t = a .table .now in
     let m = a .member .now in
     let r = a .role .now in
     let f = found-part s m (c .before .before .before .before .before .before .before .before .before .before .before .before .before .before .before .before .before .before .before .find-name .ensures) in
     let g = found-part s r (c .before .before .before .before .before .before .before .before .before .before .before .before .before .before .before .before .find-name2 .ensures) in
-    let e = isa-number s (c .before .before .before .before .before .before .before .before .before .before .before .before .before .isa-refusal .ensures) f g in
-    let p = passed (isaChecks (policyBytes s) (subjectNamed (policyIn s) m) (subjectNamed (policyIn s) r)) _ refl e (c .before .before .before .before .before .before .before .before .before .before .before .before .if1 .left) in
     let n = numberIn (subjectNamed (policyIn s) m) in
-    let k = numberIn (subjectNamed (policyIn s) r) in
-    let q =
-    c .before .before .add-isa .ensures
+    performs-done _ _ _ (passed (isaChecks (policyBytes s) (subjectNamed (policyIn s) m) (subjectNamed (policyIn s) r)) _ refl (isa-number s (c .before .before .before .before .before .before .before .before .before .before .before .before .before .isa-refusal .ensures) f g) (c .before .before .before .before .before .before .before .before .before .before .before .before .if1 .left)) (c .before .before .before .before .before .before .before .before .before .before .answer-ok .ensures) (c .before .before .before .before .before .before .before .area-refusal .ensures) (c .before .before .before .before .before .before .if2 .left)
+    (put-kept s _ (λ x. withIsa x n (numberIn (subjectNamed (policyIn s) r))) (omega (arith, store-held s (a .table .now) (c .before .before .before .before .before .before .before .before .before .before .before .before .before .before .before .before .before .before .before .before .before .before .before .before .before .before .before .pre) .size)) (c .before .before .add-isa .ensures
     ∙ ap (λ x. withIsa (take (length s - 8) (drop 8 s)) x (c .before .before .before .number-in2 .result)) (c .before .before .before .before .number-in .ensures ∙ ap numberIn f)
-    ∙ ap (λ x. withIsa (take (length s - 8) (drop 8 s)) n x) (c .before .before .before .number-in2 .ensures ∙ ap numberIn g) in
-    performs-done (workIsa s m r) s t p (c .before .before .before .before .before .before .before .before .before .before .answer-ok .ensures) (c .before .before .before .before .before .before .before .area-refusal .ensures) (c .before .before .before .before .before .before .if2 .left)
-    (put-kept s _ (λ x. withIsa x n k) (omega (arith, store-held s t (c .before .before .before .before .before .before .before .before .before .before .before .before .before .before .before .before .before .before .before .before .before .before .before .before .before .before .before .pre) .size)) q) refl
+    ∙ ap (λ x. withIsa (take (length s - 8) (drop 8 s)) n x) (c .before .before .before .number-in2 .ensures ∙ ap numberIn g))) refl
 
 pub relate-spec : {M : Type 1} → statement M
 relate-spec =

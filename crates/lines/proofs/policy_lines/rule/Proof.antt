@@ -7,7 +7,7 @@ use Rattle.rights.specs.PolicyBytes.{ruleCount}
 use Rattle.rights.proofs.Lists.{rest-of}
 use Rattle.lines.specs.PolicyEdit.{subjectNamed, numberIn, stepsIn, withRule}
 use Rattle.lines.specs.State.{policyBytes, policyIn}
-use Rattle.lines.specs.Work.{ruleChecks, workRule}
+use Rattle.lines.specs.Work.{ruleChecks}
 use Rattle.lines.proofs.PolicyLineLaws.{found-part, found-declared, rule-number, plain-rule, put-room, put-staged}
 use Rattle.lines.proofs.RefusalLaws.{passed, performs-refused, performs-short, performs-done}
 use Rattle.lines.proofs.StateLaws.{store-held}
@@ -35,26 +35,12 @@ rule-refusal-requires c κs = rw (rest-of (c .before .before .before .before .be
 
 returns : tie.Need-returns
 returns c = let a = c .before .before .before .before .before .before .before .before .before .before .before .before .args in
-    let s = a .state .now in
-    let t = a .table .now in
-    let h = a .path .now in
-    let n = a .name .now in
-    let w = workRule s (a .accept) (a .right) h n in
-    let f = found-part s n (c .before .before .before .before .find-name .ensures) in
-    let e = rule-number s h (c .before .rule-refusal .ensures) f in
-    performs-refused w s t e (c .if1 .taken)
+    performs-refused _ _ _ (rule-number (a .state .now) (a .path .now) (c .before .rule-refusal .ensures) (found-part (a .state .now) (a .name .now) (c .before .before .before .before .find-name .ensures))) (c .if1 .taken)
 
 returns-2 : tie.Need-returns-2
 returns-2 c = let a = c .before .before .before .before .before .before .before .before .before .before .before .before .before .before .before .before .before .before .args in
     let s = a .state .now in
-    let t = a .table .now in
-    let h = a .path .now in
-    let n = a .name .now in
-    let w = workRule s (a .accept) (a .right) h n in
-    let f = found-part s n (c .before .before .before .before .before .before .before .before .before .before .find-name .ensures) in
-    let e = rule-number s h (c .before .before .before .before .before .before .before .rule-refusal .ensures) f in
-    let p = passed (ruleChecks (policyBytes s) h (subjectNamed (policyIn s) n)) _ refl e (c .before .before .before .before .before .before .if1 .left) in
-    performs-short w s t p (c .before .before .before .before .answer-ok .ensures) (c .before .area-refusal .ensures) (c .if2 .taken)
+    performs-short _ _ _ (passed (ruleChecks (policyBytes s) (a .path .now) (subjectNamed (policyIn s) (a .name .now))) _ refl (rule-number s (a .path .now) (c .before .before .before .before .before .before .before .rule-refusal .ensures) (found-part s (a .name .now) (c .before .before .before .before .before .before .before .before .before .before .find-name .ensures))) (c .before .before .before .before .before .before .if1 .left)) (c .before .before .before .before .answer-ok .ensures) (c .before .area-refusal .ensures) (c .if2 .taken)
 
 sub-add-rule : tie.Need-sub-add-rule
 sub-add-rule c = omega (arith, store-held _ _ (c .before .before .before .before .before .before .before .before .before .before .before .before .before .before .before .before .before .before .pre) .size)
@@ -65,14 +51,11 @@ part-add-rule-start c = omega (arith, store-held _ _ (c .before .before .before 
 add-rule-requires : tie.Need-add-rule-requires
 add-rule-requires c κs = let a = c .before .before .before .before .before .before .before .before .before .before .before .before .before .before .before .before .before .before .before .before .args in
     let s = a .state .now in
-    let t = a .table .now in
     let h = a .path .now in
     let n = a .name .now in
-    let w = workRule s (a .accept) (a .right) h n in
     let f = found-part s n (c .before .before .before .before .before .before .before .before .before .before .before .before .find-name .ensures) in
-    let e = rule-number s h (c .before .before .before .before .before .before .before .before .before .rule-refusal .ensures) f in
-    let p = passed (ruleChecks (policyBytes s) h (subjectNamed (policyIn s) n)) _ refl e (c .before .before .before .before .before .before .before .before .if1 .left) in
-    let g = store-held s t (c .before .before .before .before .before .before .before .before .before .before .before .before .before .before .before .before .before .before .before .before .pre) in
+    let p = passed (ruleChecks (policyBytes s) h (subjectNamed (policyIn s) n)) _ refl (rule-number s h (c .before .before .before .before .before .before .before .before .before .rule-refusal .ensures) f) (c .before .before .before .before .before .before .before .before .if1 .left) in
+    let g = store-held s (a .table .now) (c .before .before .before .before .before .before .before .before .before .before .before .before .before .before .before .before .before .before .before .before .pre) in
     rw (rest-of s 8) (
       g .policy,
       omega (arith, leb-false 128 (ruleCount (policyBytes s)) (p .1 .1 .1 .0)),
@@ -86,19 +69,12 @@ slice-write-state c = put-room (c .before .before .before .before .before .befor
 returns-3 : tie.Need-returns-3
 returns-3 c = let a = c .before .before .before .before .before .before .before .before .before .before .before .before .before .before .before .before .before .before .before .before .before .before .before .args in
     let s = a .state .now in
-    let t = a .table .now in
     let h = a .path .now in
     let n = a .name .now in
-    let w = workRule s (a .accept) (a .right) h n in
     let f = found-part s n (c .before .before .before .before .before .before .before .before .before .before .before .before .before .before .before .find-name .ensures) in
-    let e = rule-number s h (c .before .before .before .before .before .before .before .before .before .before .before .before .rule-refusal .ensures) f in
-    let p = passed (ruleChecks (policyBytes s) h (subjectNamed (policyIn s) n)) _ refl e (c .before .before .before .before .before .before .before .before .before .before .before .if1 .left) in
-    let u = numberIn (subjectNamed (policyIn s) n) in
-    let q =
-    c .before .before .add-rule .ensures
-    ∙ ap (λ x. withRule (take (length s - 8) (drop 8 s)) (a .accept) (a .right) x (stepsIn h)) (c .before .before .before .number-in .ensures ∙ ap numberIn f) in
-    performs-done w s t p (c .before .before .before .before .before .before .before .before .before .answer-ok .ensures) (c .before .before .before .before .before .before .area-refusal .ensures) (c .before .before .before .before .before .if2 .left)
-    (put-staged s _ (λ x. withRule x (a .accept) (a .right) u (stepsIn h)) (omega (arith, store-held s t (c .before .before .before .before .before .before .before .before .before .before .before .before .before .before .before .before .before .before .before .before .before .before .before .pre) .size)) q 1) refl
+    performs-done _ _ _ (passed (ruleChecks (policyBytes s) h (subjectNamed (policyIn s) n)) _ refl (rule-number s h (c .before .before .before .before .before .before .before .before .before .before .before .before .rule-refusal .ensures) f) (c .before .before .before .before .before .before .before .before .before .before .before .if1 .left)) (c .before .before .before .before .before .before .before .before .before .answer-ok .ensures) (c .before .before .before .before .before .before .area-refusal .ensures) (c .before .before .before .before .before .if2 .left)
+    (put-staged s _ (λ x. withRule x (a .accept) (a .right) (numberIn (subjectNamed (policyIn s) n)) (stepsIn h)) (omega (arith, store-held s (a .table .now) (c .before .before .before .before .before .before .before .before .before .before .before .before .before .before .before .before .before .before .before .before .before .before .before .pre) .size)) (c .before .before .add-rule .ensures
+    ∙ ap (λ x. withRule (take (length s - 8) (drop 8 s)) (a .accept) (a .right) x (stepsIn h)) (c .before .before .before .number-in .ensures ∙ ap numberIn f)) 1) refl
 
 pub rule-spec : {M : Type 1} → statement M
 rule-spec =

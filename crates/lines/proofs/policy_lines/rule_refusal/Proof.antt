@@ -18,38 +18,28 @@ returns-2 : tie.Need-returns-2
 returns-2 c = rw (is-path (pathOf (c .before .before .before .before .before .before .before .args .path .now)) _ (sym (c .before .before .before .before .check-path .ensures) ∙ c .before .before .enum-told .given .1), c .enum-told4 .given .1)
 
 returns-3 : tie.Need-returns-3
-returns-3 c = let r = is-path (pathOf (c .before .before .before .before .before .before .before .before .before .args .path .now)) _ (sym (c .before .before .before .before .before .before .check-path .ensures) ∙ c .before .before .before .before .enum-told .given .1) in
-    rw (r, c .before .before .enum-told3 .given .1, sym (c .before .has-bracket .ensures) ∙ c .if1 .taken)
+returns-3 c = rw ((is-path (pathOf (c .before .before .before .before .before .before .before .before .before .args .path .now)) _ (sym (c .before .before .before .before .before .before .check-path .ensures) ∙ c .before .before .before .before .enum-told .given .1)), c .before .before .enum-told3 .given .1, sym (c .before .has-bracket .ensures) ∙ c .if1 .taken)
 
 shared-slice-read-wide : tie.Need-shared-slice-read-wide
 shared-slice-read-wide c = omega (arith, policy-sound (c .before .before .before .before .before .before .before .before .before .before .args .policy .now) (c .before .before .before .before .before .before .before .before .before .before .pre) .size)
 
 returns-4 : tie.Need-returns-4
 returns-4 c = let p = c .before .before .before .before .before .before .before .before .before .before .before .before .args .policy .now in
-    let h = c .before .before .before .before .before .before .before .before .before .before .before .before .args .path .now in
-    let r = is-path (pathOf h) _ (sym (c .before .before .before .before .before .before .before .before .before .check-path .ensures) ∙ c .before .before .before .before .before .before .before .enum-told .given .1) in
-    let b = sym (c .before .before .before .before .has-bracket .ensures) ∙ c .before .before .before .if1 .left in
     let k : 128 ≤ ruleCount p = omega (arith, c .before .wide .ensures) in
-    rw (r, c .before .before .before .before .before .enum-told3 .given .1, b, le-leb 128 (ruleCount p) k)
+    rw ((is-path (pathOf (c .before .before .before .before .before .before .before .before .before .before .before .before .args .path .now)) _ (sym (c .before .before .before .before .before .before .before .before .before .check-path .ensures) ∙ c .before .before .before .before .before .before .before .enum-told .given .1)), c .before .before .before .before .before .enum-told3 .given .1, (sym (c .before .before .before .before .has-bracket .ensures) ∙ c .before .before .before .if1 .left), le-leb 128 (ruleCount p) k)
 
 path-restricted-requires : tie.Need-path-restricted-requires
 path-restricted-requires c κs = plain (c .before .before .before .before .before .before .before .before .before .before .before .before .args .path .now) _ (sym (c .before .before .before .before .before .before .before .before .before .check-path .ensures) ∙ c .before .before .before .before .before .before .before .enum-told .given .1) (sym (c .before .before .before .before .has-bracket .ensures) ∙ c .before .before .before .if1 .left)
 
 returns-5 : tie.Need-returns-5
 returns-5 c = let p = c .before .before .before .before .before .before .before .before .before .before .before .before .before .before .args .policy .now in
-    let h = c .before .before .before .before .before .before .before .before .before .before .before .before .before .before .args .path .now in
-    let r = is-path (pathOf h) _ (sym (c .before .before .before .before .before .before .before .before .before .before .before .check-path .ensures) ∙ c .before .before .before .before .before .before .before .before .before .enum-told .given .1) in
-    let b = sym (c .before .before .before .before .before .before .has-bracket .ensures) ∙ c .before .before .before .before .before .if1 .left in
     let k : ruleCount p < 128 = omega (arith, c .before .before .before .wide .ensures) in
-    rw (r, c .before .before .before .before .before .before .before .enum-told3 .given .1, b, lt-leb 128 (ruleCount p) k, sym (c .before .path-restricted .ensures) ∙ c .if3 .taken)
+    rw ((is-path (pathOf (c .before .before .before .before .before .before .before .before .before .before .before .before .before .before .args .path .now)) _ (sym (c .before .before .before .before .before .before .before .before .before .before .before .check-path .ensures) ∙ c .before .before .before .before .before .before .before .before .before .enum-told .given .1)), c .before .before .before .before .before .before .before .enum-told3 .given .1, (sym (c .before .before .before .before .before .before .has-bracket .ensures) ∙ c .before .before .before .before .before .if1 .left), lt-leb 128 (ruleCount p) k, sym (c .before .path-restricted .ensures) ∙ c .if3 .taken)
 
 returns-6 : tie.Need-returns-6
 returns-6 c = let p = c .before .before .before .before .before .before .before .before .before .before .before .before .before .before .args .policy .now in
-    let h = c .before .before .before .before .before .before .before .before .before .before .before .before .before .before .args .path .now in
-    let r = is-path (pathOf h) _ (sym (c .before .before .before .before .before .before .before .before .before .before .before .check-path .ensures) ∙ c .before .before .before .before .before .before .before .before .before .enum-told .given .1) in
-    let b = sym (c .before .before .before .before .before .before .has-bracket .ensures) ∙ c .before .before .before .before .before .if1 .left in
     let k : ruleCount p < 128 = omega (arith, c .before .before .before .wide .ensures) in
-    rw (r, c .before .before .before .before .before .before .before .enum-told3 .given .1, b, lt-leb 128 (ruleCount p) k, sym (c .before .path-restricted .ensures) ∙ c .if3 .left)
+    rw ((is-path (pathOf (c .before .before .before .before .before .before .before .before .before .before .before .before .before .before .args .path .now)) _ (sym (c .before .before .before .before .before .before .before .before .before .before .before .check-path .ensures) ∙ c .before .before .before .before .before .before .before .before .before .enum-told .given .1)), c .before .before .before .before .before .before .before .enum-told3 .given .1, (sym (c .before .before .before .before .before .before .has-bracket .ensures) ∙ c .before .before .before .before .before .if1 .left), lt-leb 128 (ruleCount p) k, sym (c .before .path-restricted .ensures) ∙ c .if3 .left)
 
 pub rule-refusal-spec : {M : Type 1} → statement M
 rule-refusal-spec =

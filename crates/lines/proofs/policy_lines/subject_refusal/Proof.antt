@@ -18,26 +18,18 @@ shared-slice-read-wide c = omega (arith, policy-sound (c .before .before .before
 
 returns-2 : tie.Need-returns-2
 returns-2 c = let p = c .before .before .before .before .before .before .before .before .args .policy .now in
-    let n = c .before .before .before .before .before .before .before .before .args .name .now in
-    let e = sym (c .before .before .before .before .before .find-name .ensures) ∙ c .before .before .before .enum-told .given .1 in
     let k : 64 ≤ subjectCount p = omega (arith, c .before .wide .ensures) in
-    rw (e, le-leb 64 (subjectCount p) k)
+    rw ((sym (c .before .before .before .before .before .find-name .ensures) ∙ c .before .before .before .enum-told .given .1), le-leb 64 (subjectCount p) k)
 
 returns-3 : tie.Need-returns-3
 returns-3 c = let p = c .before .before .before .before .before .before .before .before .before .before .args .policy .now in
-    let n = c .before .before .before .before .before .before .before .before .before .before .args .name .now in
-    let e = sym (c .before .before .before .before .before .before .before .find-name .ensures) ∙ c .before .before .before .before .before .enum-told .given .1 in
-    let q = ap (λ x. sameLabel x restricted) (sym (take-length n)) ∙ sym (c .before .is-restricted .ensures) in
     let k : subjectCount p < 64 = omega (arith, c .before .before .before .wide .ensures) in
-    rw (e, lt-leb 64 (subjectCount p) k, q ∙ c .if2 .taken)
+    rw ((sym (c .before .before .before .before .before .before .before .find-name .ensures) ∙ c .before .before .before .before .before .enum-told .given .1), lt-leb 64 (subjectCount p) k, (ap (λ x. sameLabel x restricted) (sym (take-length (c .before .before .before .before .before .before .before .before .before .before .args .name .now))) ∙ sym (c .before .is-restricted .ensures)) ∙ c .if2 .taken)
 
 returns-4 : tie.Need-returns-4
 returns-4 c = let p = c .before .before .before .before .before .before .before .before .before .before .args .policy .now in
-    let n = c .before .before .before .before .before .before .before .before .before .before .args .name .now in
-    let e = sym (c .before .before .before .before .before .before .before .find-name .ensures) ∙ c .before .before .before .before .before .enum-told .given .1 in
-    let q = ap (λ x. sameLabel x restricted) (sym (take-length n)) ∙ sym (c .before .is-restricted .ensures) in
     let k : subjectCount p < 64 = omega (arith, c .before .before .before .wide .ensures) in
-    rw (e, lt-leb 64 (subjectCount p) k, q ∙ c .if2 .left)
+    rw ((sym (c .before .before .before .before .before .before .before .find-name .ensures) ∙ c .before .before .before .before .before .enum-told .given .1), lt-leb 64 (subjectCount p) k, (ap (λ x. sameLabel x restricted) (sym (take-length (c .before .before .before .before .before .before .before .before .before .before .args .name .now))) ∙ sym (c .before .is-restricted .ensures)) ∙ c .if2 .left)
 
 pub subject-refusal-spec : {M : Type 1} → statement M
 subject-refusal-spec =

@@ -1,7 +1,6 @@
 use mathlib.Core.Path.{refl}
 use native.Mathlib.Omega.{arith}
-use Rattle.answers.specs.AnswerChoice.{chosen}
-use Rattle.lines.specs.Work.{onView, workAsk}
+use Rattle.lines.specs.Work.{onView}
 use Rattle.lines.proofs.RefusalLaws.{passed, performs-refused, performs-short, performs-done}
 use Rattle.lines.proofs.StateLaws.{store-held}
 use Rattle.lines.proofs.UserViewLaws.{shown-fits, shown-long, shown-view, marks-part, marks-long-enough, marks-cover}
@@ -13,74 +12,41 @@ path-refusal-requires : tie.Need-path-refusal-requires
 path-refusal-requires c κs = omega (arith, store-held _ _ (c .before .before .before .before .pre) .size)
 
 returns : tie.Need-returns
-returns c = let a = c .before .before .before .before .before .before .args in
-    let g = c .before .before .before .before .before .before .pre in
-    let s = a .state .now in
-    let t = a .table .now in
-    let h = a .path .now in
-    performs-refused (workAsk chosen (a .what) s t h) s t (c .before .path-refusal .ensures) (c .if1 .taken)
+returns c = performs-refused _ _ _ (c .before .path-refusal .ensures) (c .if1 .taken)
 
 select-user-requires : tie.Need-select-user-requires
 select-user-requires c κs = let a = c .before .before .before .before .before .before .before .before .before .args in
-    let g = c .before .before .before .before .before .before .before .before .before .pre in
-    let s = a .state .now in
-    let t = a .table .now in
-    let h = a .path .now in
-    let p = passed (onView h s) _ refl (c .before .before .before .before .path-refusal .ensures) (c .before .before .before .if1 .left) in
-    (g, p, record { reading = refl; seeing = refl }, refl {a = 16384}, refl {a = 16384}, refl {a = 16384})
+    ((c .before .before .before .before .before .before .before .before .before .pre), (passed (onView (a .path .now) (a .state .now)) _ refl (c .before .before .before .before .path-refusal .ensures) (c .before .before .before .if1 .left)), record { reading = refl; seeing = refl }, refl {a = 16384}, refl {a = 16384}, refl {a = 16384})
 
 part-answer-ask-end : tie.Need-part-answer-ask-end
 part-answer-ask-end c = let a = c .before .before .before .before .before .before .before .before .before .before .before .before .before .before .args in
-    let g = c .before .before .before .before .before .before .before .before .before .before .before .before .before .before .pre in
-    let s = a .state .now in
-    let t = a .table .now in
-    let h = a .path .now in
     let r = c .before .before .before .before .select-user .ensures .0 in
-    shown-long s t g _ _ _ (r .size) (r .numbers)
+    shown-long (a .state .now) (a .table .now) (c .before .before .before .before .before .before .before .before .before .before .before .before .before .before .pre) _ _ _ (r .size) (r .numbers)
 
 part-answer-ask-end-2 : tie.Need-part-answer-ask-end-2
 part-answer-ask-end-2 c = let a = c .before .before .before .before .before .before .before .before .before .before .before .before .before .before .before .before .args in
-    let g = c .before .before .before .before .before .before .before .before .before .before .before .before .before .before .before .before .pre in
-    let s = a .state .now in
-    let t = a .table .now in
-    let h = a .path .now in
     let r = c .before .before .before .before .before .before .select-user .ensures .0 in
-    marks-long-enough s t h _ _ _ g (r .size) (r .picked)
+    marks-long-enough (a .state .now) (a .table .now) (a .path .now) _ _ _ (c .before .before .before .before .before .before .before .before .before .before .before .before .before .before .before .before .pre) (r .size) (r .picked)
 
 answer-ask-requires : tie.Need-answer-ask-requires
 answer-ask-requires c κs = let a = c .before .before .before .before .before .before .before .before .before .before .before .before .before .before .before .before .before .before .args in
     let g = c .before .before .before .before .before .before .before .before .before .before .before .before .before .before .before .before .before .before .pre in
-    let s = a .state .now in
-    let t = a .table .now in
-    let h = a .path .now in
     let r = c .before .before .before .before .before .before .before .before .select-user .ensures .0 in
-    (shown-fits s t g _ _ _ (r .size) (r .numbers), marks-cover s t h _ _ _ _ _ g (r .size) (r .numbers) (r .picked))
+    (shown-fits (a .state .now) (a .table .now) g _ _ _ (r .size) (r .numbers), marks-cover (a .state .now) (a .table .now) (a .path .now) _ _ _ _ _ g (r .size) (r .numbers) (r .picked))
 
 returns-2 : tie.Need-returns-2
 returns-2 c = let a = c .before .before .before .before .before .before .before .before .before .before .before .before .before .before .before .before .before .before .before .before .before .before .before .args in
     let g = c .before .before .before .before .before .before .before .before .before .before .before .before .before .before .before .before .before .before .before .before .before .before .before .pre in
     let s = a .state .now in
-    let t = a .table .now in
-    let h = a .path .now in
-    let p = passed (onView h s) _ refl (c .before .before .before .before .before .before .before .before .before .before .before .before .before .before .before .before .before .before .path-refusal .ensures) (c .before .before .before .before .before .before .before .before .before .before .before .before .before .before .before .before .before .if1 .left) in
     let r = c .before .before .before .before .before .before .before .before .before .before .before .before .before .select-user .ensures .0 in
-    let v = shown-view s t g _ _ _ (r .size) (r .numbers) in
-    let m = marks-part s t h _ _ _ g (r .size) (r .picked) in
-    let w = workAsk chosen (a .what) s t h in
-    performs-short w s t p (rw (v, m) at (c .before .before .before .before .answer-ask .ensures)) (c .before .area-refusal .ensures) (c .if2 .taken)
+    performs-short _ _ _ (passed (onView (a .path .now) s) _ refl (c .before .before .before .before .before .before .before .before .before .before .before .before .before .before .before .before .before .before .path-refusal .ensures) (c .before .before .before .before .before .before .before .before .before .before .before .before .before .before .before .before .before .if1 .left)) (rw ((shown-view s (a .table .now) g _ _ _ (r .size) (r .numbers)), (marks-part s (a .table .now) (a .path .now) _ _ _ g (r .size) (r .picked))) at (c .before .before .before .before .answer-ask .ensures)) (c .before .area-refusal .ensures) (c .if2 .taken)
 
 returns-3 : tie.Need-returns-3
 returns-3 c = let a = c .before .before .before .before .before .before .before .before .before .before .before .before .before .before .before .before .before .before .before .before .before .before .before .args in
     let g = c .before .before .before .before .before .before .before .before .before .before .before .before .before .before .before .before .before .before .before .before .before .before .before .pre in
     let s = a .state .now in
-    let t = a .table .now in
-    let h = a .path .now in
-    let p = passed (onView h s) _ refl (c .before .before .before .before .before .before .before .before .before .before .before .before .before .before .before .before .before .before .path-refusal .ensures) (c .before .before .before .before .before .before .before .before .before .before .before .before .before .before .before .before .before .if1 .left) in
     let r = c .before .before .before .before .before .before .before .before .before .before .before .before .before .select-user .ensures .0 in
-    let v = shown-view s t g _ _ _ (r .size) (r .numbers) in
-    let m = marks-part s t h _ _ _ g (r .size) (r .picked) in
-    let w = workAsk chosen (a .what) s t h in
-    performs-done w s t p (rw (v, m) at (c .before .before .before .before .answer-ask .ensures)) (c .before .area-refusal .ensures) (c .if2 .left) refl refl
+    performs-done _ _ _ (passed (onView (a .path .now) s) _ refl (c .before .before .before .before .before .before .before .before .before .before .before .before .before .before .before .before .before .before .path-refusal .ensures) (c .before .before .before .before .before .before .before .before .before .before .before .before .before .before .before .before .before .if1 .left)) (rw ((shown-view s (a .table .now) g _ _ _ (r .size) (r .numbers)), (marks-part s (a .table .now) (a .path .now) _ _ _ g (r .size) (r .picked))) at (c .before .before .before .before .answer-ask .ensures)) (c .before .area-refusal .ensures) (c .if2 .left) refl refl
 
 pub ask-path-spec : {M : Type 1} → statement M
 ask-path-spec =

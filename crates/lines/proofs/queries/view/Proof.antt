@@ -1,6 +1,6 @@
 use mathlib.Core.Path.{refl}
 use native.Mathlib.Omega.{arith}
-use Rattle.lines.specs.Work.{viewChecks, workView}
+use Rattle.lines.specs.Work.{viewChecks}
 use Rattle.lines.proofs.RefusalLaws.{passed, performs-refused, performs-short, performs-done}
 use Rattle.lines.proofs.StateLaws.{store-held}
 use Rattle.lines.proofs.UserViewLaws.{shown-fits, shown-long, shown-view}
@@ -12,51 +12,27 @@ view-refusal-requires : tie.Need-view-refusal-requires
 view-refusal-requires c κs = omega (arith, store-held _ _ (c .before .before .before .pre) .size)
 
 returns : tie.Need-returns
-returns c = let a = c .before .before .before .before .before .args in
-    let g = c .before .before .before .before .before .pre in
-    let s = a .state .now in
-    let t = a .table .now in
-    performs-refused (workView s t) s t (c .before .view-refusal .ensures) (c .if1 .taken)
+returns c = performs-refused _ _ _ (c .before .view-refusal .ensures) (c .if1 .taken)
 
 show-user-requires : tie.Need-show-user-requires
 show-user-requires c κs = let a = c .before .before .before .before .before .before .before .args in
-    let g = c .before .before .before .before .before .before .before .pre in
-    let s = a .state .now in
-    let t = a .table .now in
-    let p = passed (viewChecks s) _ refl (c .before .before .before .view-refusal .ensures) (c .before .before .if1 .left) in
-    (g, p, record { reading = refl; seeing = refl }, refl {a = 16384}, refl {a = 16384})
+    ((c .before .before .before .before .before .before .before .pre), (passed (viewChecks (a .state .now)) _ refl (c .before .before .before .view-refusal .ensures) (c .before .before .if1 .left)), record { reading = refl; seeing = refl }, refl {a = 16384}, refl {a = 16384})
 
 part-answer-view-end : tie.Need-part-answer-view-end
 part-answer-view-end c = let a = c .before .before .before .before .before .before .before .before .before .before .before .args in
-    let g = c .before .before .before .before .before .before .before .before .before .before .before .pre in
-    let s = a .state .now in
-    let t = a .table .now in
-    shown-long s t g _ _ _ (c .before .before .before .show-user .ensures .0) (c .before .before .before .show-user .ensures .1)
+    shown-long (a .state .now) (a .table .now) (c .before .before .before .before .before .before .before .before .before .before .before .pre) _ _ _ (c .before .before .before .show-user .ensures .0) (c .before .before .before .show-user .ensures .1)
 
 answer-view-requires : tie.Need-answer-view-requires
 answer-view-requires c κs = let a = c .before .before .before .before .before .before .before .before .before .before .before .before .before .args in
-    let g = c .before .before .before .before .before .before .before .before .before .before .before .before .before .pre in
-    let s = a .state .now in
-    let t = a .table .now in
-    shown-fits s t g _ _ _ (c .before .before .before .before .before .show-user .ensures .0) (c .before .before .before .before .before .show-user .ensures .1)
+    shown-fits (a .state .now) (a .table .now) (c .before .before .before .before .before .before .before .before .before .before .before .before .before .pre) _ _ _ (c .before .before .before .before .before .show-user .ensures .0) (c .before .before .before .before .before .show-user .ensures .1)
 
 returns-2 : tie.Need-returns-2
 returns-2 c = let a = c .before .before .before .before .before .before .before .before .before .before .before .before .before .before .before .before .before .before .args in
-    let g = c .before .before .before .before .before .before .before .before .before .before .before .before .before .before .before .before .before .before .pre in
-    let s = a .state .now in
-    let t = a .table .now in
-    let p = passed (viewChecks s) _ refl (c .before .before .before .before .before .before .before .before .before .before .before .before .before .before .view-refusal .ensures) (c .before .before .before .before .before .before .before .before .before .before .before .before .before .if1 .left) in
-    let v = shown-view s t g _ _ _ (c .before .before .before .before .before .before .before .before .before .before .show-user .ensures .0) (c .before .before .before .before .before .before .before .before .before .before .show-user .ensures .1) in
-    performs-short (workView s t) s t p (rw v at (c .before .before .before .before .answer-view .ensures)) (c .before .area-refusal .ensures) (c .if2 .taken)
+    performs-short _ _ _ (passed (viewChecks (a .state .now)) _ refl (c .before .before .before .before .before .before .before .before .before .before .before .before .before .before .view-refusal .ensures) (c .before .before .before .before .before .before .before .before .before .before .before .before .before .if1 .left)) (rw (shown-view (a .state .now) (a .table .now) (c .before .before .before .before .before .before .before .before .before .before .before .before .before .before .before .before .before .before .pre) _ _ _ (c .before .before .before .before .before .before .before .before .before .before .show-user .ensures .0) (c .before .before .before .before .before .before .before .before .before .before .show-user .ensures .1)) at (c .before .before .before .before .answer-view .ensures)) (c .before .area-refusal .ensures) (c .if2 .taken)
 
 returns-3 : tie.Need-returns-3
 returns-3 c = let a = c .before .before .before .before .before .before .before .before .before .before .before .before .before .before .before .before .before .before .args in
-    let g = c .before .before .before .before .before .before .before .before .before .before .before .before .before .before .before .before .before .before .pre in
-    let s = a .state .now in
-    let t = a .table .now in
-    let p = passed (viewChecks s) _ refl (c .before .before .before .before .before .before .before .before .before .before .before .before .before .before .view-refusal .ensures) (c .before .before .before .before .before .before .before .before .before .before .before .before .before .if1 .left) in
-    let v = shown-view s t g _ _ _ (c .before .before .before .before .before .before .before .before .before .before .show-user .ensures .0) (c .before .before .before .before .before .before .before .before .before .before .show-user .ensures .1) in
-    performs-done (workView s t) s t p (rw v at (c .before .before .before .before .answer-view .ensures)) (c .before .area-refusal .ensures) (c .if2 .left) refl refl
+    performs-done _ _ _ (passed (viewChecks (a .state .now)) _ refl (c .before .before .before .before .before .before .before .before .before .before .before .before .before .before .view-refusal .ensures) (c .before .before .before .before .before .before .before .before .before .before .before .before .before .if1 .left)) (rw (shown-view (a .state .now) (a .table .now) (c .before .before .before .before .before .before .before .before .before .before .before .before .before .before .before .before .before .before .pre) _ _ _ (c .before .before .before .before .before .before .before .before .before .before .show-user .ensures .0) (c .before .before .before .before .before .before .before .before .before .before .show-user .ensures .1)) at (c .before .before .before .before .answer-view .ensures)) (c .before .area-refusal .ensures) (c .if2 .left) refl refl
 
 pub view-spec : {M : Type 1} → statement M
 view-spec =

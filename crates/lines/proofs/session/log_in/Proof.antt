@@ -1,12 +1,12 @@
 use Prim.Native.Nat.{_+_}
-use mathlib.Core.Path.{refl, sym, ap, _∙_}
+use mathlib.Core.Path.{refl, ap, _∙_}
 use native.Mathlib.Omega.{arith}
-use lib.ListN.{length, length-set}
+use lib.ListN.{length-set}
 use Rattle.rights.proofs.Lists.{rest-of}
 use Rattle.lines.specs.PolicyEdit.{subjectNamed, numberIn}
 use Rattle.lines.specs.Refusal.{firstRefusal}
 use Rattle.lines.specs.State.{policyIn, policyBytes, withSession}
-use Rattle.lines.specs.Work.{userChecks, workUser}
+use Rattle.lines.specs.Work.{userChecks}
 use Rattle.lines.proofs.PolicyLineLaws.{found-part, found-small}
 use Rattle.lines.proofs.RefusalLaws.{passed, performs-refused, performs-short, performs-done}
 use Rattle.lines.proofs.StateLaws.{store-held, session-put}
@@ -25,22 +25,11 @@ find-name-requires c κs = rw (rest-of (c .before .before .before .before .befor
 
 returns : tie.Need-returns
 returns c = let a = c .before .before .before .before .before .before .before .before .before .args in
-    let s = a .state .now in
-    let t = a .table .now in
-    let n = a .name .now in
-    let f = found-part s n (c .before .before .find-name .ensures) in
-    let e = c .before .user-refusal .ensures ∙ ap (λ x. firstRefusal (userChecks x)) f in
-    performs-refused (workUser s n) s t e (c .if1 .taken)
+    performs-refused _ _ _ (c .before .user-refusal .ensures ∙ ap (λ x. firstRefusal (userChecks x)) (found-part (a .state .now) (a .name .now) (c .before .before .find-name .ensures))) (c .if1 .taken)
 
 returns-2 : tie.Need-returns-2
 returns-2 c = let a = c .before .before .before .before .before .before .before .before .before .before .before .before .before .before .before .args in
-    let s = a .state .now in
-    let t = a .table .now in
-    let n = a .name .now in
-    let f = found-part s n (c .before .before .before .before .before .before .before .before .find-name .ensures) in
-    let e = c .before .before .before .before .before .before .before .user-refusal .ensures ∙ ap (λ x. firstRefusal (userChecks x)) f in
-    let p = passed (userChecks (subjectNamed (policyIn s) n)) _ refl e (c .before .before .before .before .before .before .if1 .left) in
-    performs-short (workUser s n) s t p (c .before .before .before .before .answer-ok .ensures) (c .before .area-refusal .ensures) (c .if2 .taken)
+    performs-short _ _ _ (passed (userChecks (subjectNamed (policyIn (a .state .now)) (a .name .now))) _ refl (c .before .before .before .before .before .before .before .user-refusal .ensures ∙ ap (λ x. firstRefusal (userChecks x)) (found-part (a .state .now) (a .name .now) (c .before .before .before .before .before .before .before .before .find-name .ensures))) (c .before .before .before .before .before .before .if1 .left)) (c .before .before .before .before .answer-ok .ensures) (c .before .area-refusal .ensures) (c .if2 .taken)
 
 slice-write-state : tie.Need-slice-write-state
 slice-write-state c = omega (arith, store-held _ _ (c .before .before .before .before .before .before .before .before .before .before .before .before .before .before .before .pre) .size)
@@ -48,22 +37,16 @@ slice-write-state c = omega (arith, store-held _ _ (c .before .before .before .b
 add-state : tie.Need-add-state
 add-state c = let a = c .before .before .before .before .before .before .before .before .before .before .before .before .before .before .before .before .args in
     let s = a .state .now in
-    let t = a .table .now in
     let n = a .name .now in
     let f = found-part s n (c .before .before .before .before .before .before .before .before .before .find-name .ensures) in
-    let e = c .before .before .before .before .before .before .before .before .user-refusal .ensures ∙ ap (λ x. firstRefusal (userChecks x)) f in
-    let p = passed (userChecks (subjectNamed (policyIn s) n)) _ refl e (c .before .before .before .before .before .before .before .if1 .left) in
-    omega (arith, c .number-in .ensures ∙ ap numberIn f, found-small (policyBytes s) n (store-held s t (c .before .before .before .before .before .before .before .before .before .before .before .before .before .before .before .before .pre) .policy) (p .0))
+    omega (arith, c .number-in .ensures ∙ ap numberIn f, found-small (policyBytes s) n (store-held s (a .table .now) (c .before .before .before .before .before .before .before .before .before .before .before .before .before .before .before .before .pre) .policy) ((passed (userChecks (subjectNamed (policyIn s) n)) _ refl (c .before .before .before .before .before .before .before .before .user-refusal .ensures ∙ ap (λ x. firstRefusal (userChecks x)) f) (c .before .before .before .before .before .before .before .if1 .left)) .0))
 
 cast-state : tie.Need-cast-state
 cast-state c = let a = c .before .before .before .before .before .before .before .before .before .before .before .before .before .before .before .before .args in
     let s = a .state .now in
-    let t = a .table .now in
     let n = a .name .now in
     let f = found-part s n (c .before .before .before .before .before .before .before .before .before .find-name .ensures) in
-    let e = c .before .before .before .before .before .before .before .before .user-refusal .ensures ∙ ap (λ x. firstRefusal (userChecks x)) f in
-    let p = passed (userChecks (subjectNamed (policyIn s) n)) _ refl e (c .before .before .before .before .before .before .before .if1 .left) in
-    omega (arith, c .number-in .ensures ∙ ap numberIn f, found-small (policyBytes s) n (store-held s t (c .before .before .before .before .before .before .before .before .before .before .before .before .before .before .before .before .pre) .policy) (p .0))
+    omega (arith, c .number-in .ensures ∙ ap numberIn f, found-small (policyBytes s) n (store-held s (a .table .now) (c .before .before .before .before .before .before .before .before .before .before .before .before .before .before .before .before .pre) .policy) ((passed (userChecks (subjectNamed (policyIn s) n)) _ refl (c .before .before .before .before .before .before .before .before .user-refusal .ensures ∙ ap (λ x. firstRefusal (userChecks x)) f) (c .before .before .before .before .before .before .before .if1 .left)) .0))
 
 slice-write-state-2 : tie.Need-slice-write-state-2
 slice-write-state-2 c = simp length-set (omega (arith, store-held _ _ (c .before .before .before .before .before .before .before .before .before .before .before .before .before .before .before .before .pre) .size))
@@ -71,13 +54,9 @@ slice-write-state-2 c = simp length-set (omega (arith, store-held _ _ (c .before
 returns-3 : tie.Need-returns-3
 returns-3 c = let a = c .before .before .before .before .before .before .before .before .before .before .before .before .before .before .before .before .args in
     let s = a .state .now in
-    let t = a .table .now in
-    let n = a .name .now in
-    let f = found-part s n (c .before .before .before .before .before .before .before .before .before .find-name .ensures) in
-    let e = c .before .before .before .before .before .before .before .before .user-refusal .ensures ∙ ap (λ x. firstRefusal (userChecks x)) f in
-    let p = passed (userChecks (subjectNamed (policyIn s) n)) _ refl e (c .before .before .before .before .before .before .before .if1 .left) in
-    performs-done (workUser s n) s t p (c .before .before .before .before .before .answer-ok .ensures) (c .before .before .area-refusal .ensures) (c .before .if2 .left)
-    (session-put s 4 _ (omega (arith, store-held s t (c .before .before .before .before .before .before .before .before .before .before .before .before .before .before .before .before .pre) .size)) ∙ ap (λ u. withSession 4 (u + 1) s) (c .number-in .ensures ∙ ap numberIn f)) refl
+    let f = found-part s (a .name .now) (c .before .before .before .before .before .before .before .before .before .find-name .ensures) in
+    performs-done _ _ _ (passed (userChecks (subjectNamed (policyIn s) (a .name .now))) _ refl (c .before .before .before .before .before .before .before .before .user-refusal .ensures ∙ ap (λ x. firstRefusal (userChecks x)) f) (c .before .before .before .before .before .before .before .if1 .left)) (c .before .before .before .before .before .answer-ok .ensures) (c .before .before .area-refusal .ensures) (c .before .if2 .left)
+    (session-put s 4 _ (omega (arith, store-held s (a .table .now) (c .before .before .before .before .before .before .before .before .before .before .before .before .before .before .before .before .pre) .size)) ∙ ap (λ u. withSession 4 (u + 1) s) (c .number-in .ensures ∙ ap numberIn f)) refl
 
 pub log-in-spec : {M : Type 1} → statement M
 log-in-spec =

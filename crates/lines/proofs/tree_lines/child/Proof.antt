@@ -9,7 +9,7 @@ use Rattle.views.specs.Change.{chunks, changed, placed, lower, deepest, tooDeep
 use Rattle.rights.specs.Marks.{marksOf}
 use Rattle.views.specs.declared.insert.Place.the-variants.{Append}
 use Rattle.lines.specs.Refusal.{firstRefusal}
-use Rattle.lines.specs.Work.{labelCheck, insertChecks, rootAlone, workChild}
+use Rattle.lines.specs.Work.{labelCheck, insertChecks, rootAlone}
 use Rattle.lines.proofs.RefusalLaws.{passed, performs-refused, performs-short, performs-done}
 use Rattle.lines.proofs.StateLaws.{store-held, stage-put}
 use Rattle.lines.proofs.TreeLineLaws.{root-marks}
@@ -24,32 +24,20 @@ child-refusal-requires c κs = let g = c .before .before .before .before .before
 
 returns : tie.Need-returns
 returns c = let a = c .before .before .before .before .before .before .before .before .args in
-    let g = c .before .before .before .before .before .before .before .before .pre in
-    let s = a .state .now in
-    let t = a .table .now in
-    let x = a .tree .now in
-    let e = c .before .child-refusal .ensures ∙ ap (λ k. firstRefusal (labelCheck (a .m) x ∷ insertChecks Append k (a .m) x t)) root-marks in
-    performs-refused (workChild t (a .m) x) s t e (c .if1 .taken)
+    performs-refused _ _ _ (c .before .child-refusal .ensures ∙ ap (λ k. firstRefusal (labelCheck (a .m) (a .tree .now) ∷ insertChecks Append k (a .m) (a .tree .now) (a .table .now))) root-marks) (c .if1 .taken)
 
 returns-2 : tie.Need-returns-2
 returns-2 c = let a = c .before .before .before .before .before .before .before .before .before .before .before .before .before .before .args in
-    let g = c .before .before .before .before .before .before .before .before .before .before .before .before .before .before .pre in
-    let s = a .state .now in
-    let t = a .table .now in
     let x = a .tree .now in
-    let e = c .before .before .before .before .before .before .before .child-refusal .ensures ∙ ap (λ k. firstRefusal (labelCheck (a .m) x ∷ insertChecks Append k (a .m) x t)) root-marks in
-    let p = passed (labelCheck (a .m) x ∷ insertChecks Append rootAlone (a .m) x t) _ refl e (c .before .before .before .before .before .before .if1 .left) in
-    performs-short (workChild t (a .m) x) s t p (c .before .before .before .before .answer-ok .ensures) (c .before .area-refusal .ensures) (c .if2 .taken)
+    performs-short _ _ _ (passed (labelCheck (a .m) x ∷ insertChecks Append rootAlone (a .m) x (a .table .now)) _ refl (c .before .before .before .before .before .before .before .child-refusal .ensures ∙ ap (λ k. firstRefusal (labelCheck (a .m) x ∷ insertChecks Append k (a .m) x (a .table .now))) root-marks) (c .before .before .before .before .before .before .if1 .left)) (c .before .before .before .before .answer-ok .ensures) (c .before .area-refusal .ensures) (c .if2 .taken)
 
 insert-marked-requires : tie.Need-insert-marked-requires
 insert-marked-requires c κs = let a = c .before .before .before .before .before .before .before .before .before .before .before .before .before .before .before .before .args in
     let g = c .before .before .before .before .before .before .before .before .before .before .before .before .before .before .before .before .pre in
-    let s = a .state .now in
     let t = a .table .now in
     let x = a .tree .now in
-    let e = c .before .before .before .before .before .before .before .before .before .child-refusal .ensures ∙ ap (λ k. firstRefusal (labelCheck (a .m) x ∷ insertChecks Append k (a .m) x t)) root-marks in
-    let p = passed (labelCheck (a .m) x ∷ insertChecks Append rootAlone (a .m) x t) _ refl e (c .before .before .before .before .before .before .before .before .if1 .left) in
-    let h = store-held s t (g .0) .table in (
+    let p = passed (labelCheck (a .m) x ∷ insertChecks Append rootAlone (a .m) x t) _ refl (c .before .before .before .before .before .before .before .before .before .child-refusal .ensures ∙ ap (λ k. firstRefusal (labelCheck (a .m) x ∷ insertChecks Append k (a .m) x t)) root-marks) (c .before .before .before .before .before .before .before .before .if1 .left) in
+    let h = store-held (a .state .now) t (g .0) .table in (
       (h, table-few t h, g .1),
       (
         ap (λ k. tooDeep (lower Append + deepest (chunks (a .m) x)) (marksOf k) (records t)) root-marks ∙ p .1 .0,
@@ -62,14 +50,10 @@ slice-write-state c = omega (arith, store-held _ _ (c .before .before .before .b
 
 returns-3 : tie.Need-returns-3
 returns-3 c = let a = c .before .before .before .before .before .before .before .before .before .before .before .before .before .before .before .before .before .before .before .args in
-    let g = c .before .before .before .before .before .before .before .before .before .before .before .before .before .before .before .before .before .before .before .pre in
-    let s = a .state .now in
     let t = a .table .now in
     let x = a .tree .now in
-    let e = c .before .before .before .before .before .before .before .before .before .before .before .before .child-refusal .ensures ∙ ap (λ k. firstRefusal (labelCheck (a .m) x ∷ insertChecks Append k (a .m) x t)) root-marks in
-    let p = passed (labelCheck (a .m) x ∷ insertChecks Append rootAlone (a .m) x t) _ refl e (c .before .before .before .before .before .before .before .before .before .before .before .if1 .left) in
-    performs-done (workChild t (a .m) x) s t p (c .before .before .before .before .before .before .before .before .before .answer-ok .ensures) (c .before .before .before .before .before .before .area-refusal .ensures) (c .before .before .before .before .before .if2 .left)
-    (stage-put s 3 (omega (arith, store-held s t (g .0) .size)))
+    performs-done _ _ _ (passed (labelCheck (a .m) x ∷ insertChecks Append rootAlone (a .m) x t) _ refl (c .before .before .before .before .before .before .before .before .before .before .before .before .child-refusal .ensures ∙ ap (λ k. firstRefusal (labelCheck (a .m) x ∷ insertChecks Append k (a .m) x t)) root-marks) (c .before .before .before .before .before .before .before .before .before .before .before .if1 .left)) (c .before .before .before .before .before .before .before .before .before .answer-ok .ensures) (c .before .before .before .before .before .before .area-refusal .ensures) (c .before .before .before .before .before .if2 .left)
+    (stage-put (a .state .now) 3 (omega (arith, store-held (a .state .now) t (c .before .before .before .before .before .before .before .before .before .before .before .before .before .before .before .before .before .before .before .pre .0) .size)))
     (c .before .before .insert-marked .ensures ∙ ap (λ k. changed t (placed Append (a .m) x k (records t))) root-marks)
 
 pub child-spec : {M : Type 1} → statement M

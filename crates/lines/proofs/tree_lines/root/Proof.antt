@@ -5,7 +5,7 @@ use borrow.Author.Tests.{ltb-false}
 use lib.ListN.{length}
 use Rattle.rights.specs.Table.{capacity}
 use Rattle.views.specs.Change.{free}
-use Rattle.lines.specs.Work.{rootChecks, workRoot}
+use Rattle.lines.specs.Work.{rootChecks}
 use Rattle.lines.proofs.RefusalLaws.{passed, performs-refused, performs-short, performs-done}
 use Rattle.lines.proofs.StateLaws.{store-held, stage-put}
 use Rattle.lines.proofs.TreeLineLaws.{no-records, root-room, root-put}
@@ -16,48 +16,27 @@ use Rattle.lines.proofs.tree_lines.root.Tie as tie
 root-refusal-requires : tie.Need-root-refusal-requires
 root-refusal-requires c κs = let a = c .before .before .before .before .before .args in
     let g = c .before .before .before .before .before .pre in
-    let s = a .state .now in
-    let t = a .table .now in
-    let l = a .label .now in
-    (store-held s t (g .0) .table, no-records s t (g .0) (g .1))
+    (store-held (a .state .now) (a .table .now) (g .0) .table, no-records (a .state .now) (a .table .now) (g .0) (g .1))
 
 returns : tie.Need-returns
-returns c = let a = c .before .before .before .before .before .before .before .args in
-    let g = c .before .before .before .before .before .before .before .pre in
-    let s = a .state .now in
-    let t = a .table .now in
-    let l = a .label .now in
-    performs-refused (workRoot t l) s t (c .before .root-refusal .ensures) (c .if1 .taken)
+returns c = performs-refused _ _ _ (c .before .root-refusal .ensures) (c .if1 .taken)
 
 returns-2 : tie.Need-returns-2
 returns-2 c = let a = c .before .before .before .before .before .before .before .before .before .before .before .before .before .args in
-    let g = c .before .before .before .before .before .before .before .before .before .before .before .before .before .pre in
-    let s = a .state .now in
-    let t = a .table .now in
-    let l = a .label .now in
-    let p = passed (rootChecks t l) _ refl (c .before .before .before .before .before .before .before .root-refusal .ensures) (c .before .before .before .before .before .before .if1 .left) in
-    performs-short (workRoot t l) s t p (c .before .before .before .before .answer-ok .ensures) (c .before .area-refusal .ensures) (c .if2 .taken)
+    performs-short _ _ _ (passed (rootChecks (a .table .now) (a .label .now)) _ refl (c .before .before .before .before .before .before .before .root-refusal .ensures) (c .before .before .before .before .before .before .if1 .left)) (c .before .before .before .before .answer-ok .ensures) (c .before .area-refusal .ensures) (c .if2 .taken)
 
 put-node-requires : tie.Need-put-node-requires
 put-node-requires c κs = let a = c .before .before .before .before .before .before .before .before .before .before .before .before .before .before .args in
     let g = c .before .before .before .before .before .before .before .before .before .before .before .before .before .before .pre in
-    let s = a .state .now in
     let t = a .table .now in
-    let l = a .label .now in
-    let p = passed (rootChecks t l) _ refl (c .before .before .before .before .before .before .before .before .root-refusal .ensures) (c .before .before .before .before .before .before .before .if1 .left) in
-    let n = no-records s t (g .0) (g .1) in
-    let f : 1 ≤ capacity (length t) = omega (arith, ltb-false (free t) 1 (p .1 .0), n) in
+    let f : 1 ≤ capacity (length t) = omega (arith, ltb-false (free t) 1 ((passed (rootChecks t (a .label .now)) _ refl (c .before .before .before .before .before .before .before .before .root-refusal .ensures) (c .before .before .before .before .before .before .before .if1 .left)) .1 .0), (no-records (a .state .now) t (g .0) (g .1))) in
     (omega (arith, root-room t f), g .2, omega arith)
 
 put-count-requires : tie.Need-put-count-requires
 put-count-requires c κs = let a = c .before .before .before .before .before .before .before .before .before .before .before .before .before .before .before .before .before .before .args in
     let g = c .before .before .before .before .before .before .before .before .before .before .before .before .before .before .before .before .before .before .pre in
-    let s = a .state .now in
     let t = a .table .now in
-    let l = a .label .now in
-    let p = passed (rootChecks t l) _ refl (c .before .before .before .before .before .before .before .before .before .before .before .before .root-refusal .ensures) (c .before .before .before .before .before .before .before .before .before .before .before .if1 .left) in
-    let n = no-records s t (g .0) (g .1) in
-    let f : 1 ≤ capacity (length t) = omega (arith, ltb-false (free t) 1 (p .1 .0), n) in
+    let f : 1 ≤ capacity (length t) = omega (arith, ltb-false (free t) 1 ((passed (rootChecks t (a .label .now)) _ refl (c .before .before .before .before .before .before .before .before .before .before .before .before .root-refusal .ensures) (c .before .before .before .before .before .before .before .before .before .before .before .if1 .left)) .1 .0), (no-records (a .state .now) t (g .0) (g .1))) in
     let k = root-room t f in (omega (arith, k), search needs)
 
 slice-write-state : tie.Need-slice-write-state
@@ -68,13 +47,12 @@ returns-3 c = let a = c .before .before .before .before .before .before .before 
     let g = c .before .before .before .before .before .before .before .before .before .before .before .before .before .before .before .before .before .before .before .before .before .pre in
     let s = a .state .now in
     let t = a .table .now in
-    let l = a .label .now in
-    let p = passed (rootChecks t l) _ refl (c .before .before .before .before .before .before .before .before .before .before .before .before .before .before .before .root-refusal .ensures) (c .before .before .before .before .before .before .before .before .before .before .before .before .before .before .if1 .left) in
+    let p = passed (rootChecks t (a .label .now)) _ refl (c .before .before .before .before .before .before .before .before .before .before .before .before .before .before .before .root-refusal .ensures) (c .before .before .before .before .before .before .before .before .before .before .before .before .before .before .if1 .left) in
     let n = no-records s t (g .0) (g .1) in
     let f : 1 ≤ capacity (length t) = omega (arith, ltb-false (free t) 1 (p .1 .0), n) in
     let h = store-held s t (g .0) in
-    performs-done (workRoot t l) s t p (c .before .before .before .before .before .before .before .before .before .before .before .before .answer-ok .ensures) (c .before .before .before .before .before .before .before .before .before .area-refusal .ensures) (c .before .before .before .before .before .before .before .before .if2 .left)
-    (stage-put s 2 (omega (arith, h .size))) (root-put t l _ _ (h .table) n f (g .2) (c .before .before .before .before .before .before .put-node .ensures) (c .before .before .put-count .ensures))
+    performs-done _ _ _ p (c .before .before .before .before .before .before .before .before .before .before .before .before .answer-ok .ensures) (c .before .before .before .before .before .before .before .before .before .area-refusal .ensures) (c .before .before .before .before .before .before .before .before .if2 .left)
+    (stage-put s 2 (omega (arith, h .size))) (root-put t (a .label .now) _ _ (h .table) n f (g .2) (c .before .before .before .before .before .before .put-node .ensures) (c .before .before .put-count .ensures))
 
 pub root-spec : {M : Type 1} → statement M
 root-spec =
