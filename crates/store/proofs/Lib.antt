@@ -1,2 +1,3 @@
 pub mod FormParts
 pub mod LineLaws
+pub mod ChecksOrdered
