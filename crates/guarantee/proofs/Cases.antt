@@ -10,7 +10,7 @@ use Rattle.guarantee.specs.Cases.{exampleAnswered, exampleRenamed, brack
 use Rattle.rights.specs.Bytes.{digitByte, run, all, every}
 use Rattle.rights.specs.Labels.{labelByte, folded, sameLabel}
 use Rattle.rights.specs.Path.{passes}
-use Rattle.rights.specs.PathReader.{readTest, numberOf, isPosition, readPosition, closes, readBrackets, readSteps, brackets, steps, pathOf}
+use Rattle.rights.specs.PathReader.{readTest, numberOf, isPosition, readPosition, closes, readBrackets, readSteps, brackets, steps, pathOf, readStep, unslashed}
 use Rattle.rights.specs.PathText.{decimal, writeTest}
 use Rattle.rights.specs.Policy.{some, policyWord}
 use Rattle.rights.specs.Isa.{isBy, standsFor, subjectsWhere, passesOwn}
@@ -19,7 +19,7 @@ use Rattle.rights.specs.PolicyCheck.{subjectsOk, isasOk, rulesOk, policyOk}
 use Rattle.rights.specs.Record.{padded, recordOf}
 use Rattle.rights.specs.Rights.{finds as findsIn, decide, rightsBy, chains}
 use Rattle.rights.specs.Nodes.{levelAt, labelAt}
-use Rattle.rights.specs.Selection.{someFrom, before, above, finds, keeps, selects, selected, bitsFrom}
+use Rattle.rights.specs.Selection.{someFrom, before, above, findsFrom, keeps, selects, selected, bitsFrom}
 use Rattle.rights.specs.Table.{recordsFrom, recordsOk, tableOk}
 use Rattle.views.specs.Shown.{storedFrom, atParent, nearestFirst, shownAfter, keep}
 use Rattle.rights.specs.Marks.{eachFrom}
@@ -31,7 +31,7 @@ use Rattle.forms.specs.Word.{sameText, among, wordAt, signAt, rightAt}
 use Rattle.forms.specs.Part.{pathByte, labelEnd, runEnd, knownEnd}
 use Rattle.forms.specs.Tree.{openEnd, tailEnd, treeEnd, tailNodes, treeNodes, recordsOf}
 use Rattle.forms.specs.Form.{partsOf, treePlace, endsIn, readForm, treeIn}
-use Rattle.lines.specs.PolicyEdit.{subjectFrom, subjectNamed, isaHeld, hasBracket, stepList, stepsIn, pathRestricted, stepRecords, withLine}
+use Rattle.lines.specs.PolicyEdit.{subjectFrom, subjectNamed, isaHeld, bracketed, hasBracket, stepList, stepsIn, pathRestricted, stepRecords, withLine}
 use Rattle.forms.specs.Text.{lineByte, lineOk}
 use Rattle.lines.specs.State.{sessionOk, stateOk, storeOk}
 use Rattle.lines.specs.Effect.{guarded, performed}
@@ -73,7 +73,7 @@ small-passes = refl
 
 -- what the lines of a row give from a new store, where 13 is not computed
 unfoldable given : Choice → Case → List Reply
-unfolding bytes passedReplies passed digitByte run all labelByte sameLabel passes readTest numberOf isPosition readPosition closes readBrackets readSteps brackets steps pathOf decimal writeTest some passesOwn policyWord testOf namesFrom isaFrom stepsFrom rulesFrom policyOf recordOf isBy findsIn decide rightsBy chains levelAt labelAt someFrom before above finds keeps selects selected bitsFrom recordsFrom storedFrom atParent nearestFirst shownAfter keep eachFrom dropBelow putBehind remove insertBehind rename chunks raise join changed deepest tooDeep inTable hitsOf hitLines childLines viewText sameText among wordAt signAt rightAt pathByte labelEnd openEnd tailEnd treeEnd tailNodes treeNodes recordsOf partsOf endsIn readForm treeIn subjectFrom subjectNamed isaHeld hasBracket stepList stepsIn pathRestricted stepRecords withLine lineByte lineOk checked performed rootAlone treeRestricted folded padded standsFor subjectsWhere runEnd knownEnd treePlace
+unfolding bytes passedReplies passed digitByte run all labelByte sameLabel passes readTest readStep numberOf isPosition readPosition closes readBrackets readSteps unslashed brackets steps pathOf decimal writeTest some passesOwn policyWord testOf namesFrom isaFrom stepsFrom rulesFrom policyOf recordOf isBy findsIn decide rightsBy chains levelAt labelAt someFrom before above findsFrom keeps selects selected bitsFrom recordsFrom storedFrom atParent nearestFirst shownAfter keep eachFrom dropBelow putBehind remove insertBehind rename chunks raise join changed deepest tooDeep inTable hitsOf hitLines childLines viewText sameText among wordAt signAt rightAt pathByte labelEnd openEnd tailEnd treeEnd tailNodes treeNodes recordsOf partsOf endsIn readForm treeIn subjectFrom subjectNamed isaHeld bracketed hasBracket stepList stepsIn pathRestricted stepRecords withLine lineByte lineOk checked performed rootAlone treeRestricted folded padded standsFor subjectsWhere runEnd knownEnd treePlace
 given choice c = passedReplies choice newState (newTable (c .capacity)) (map input (c .turns))
 
 abbrev Gives : Choice → Case → Type 0

@@ -1,20 +1,18 @@
--- One step of a loop that looks for a name, an isa line or a bracket, and what the answers say. Assumes nothing.
+-- One step of a loop that looks for a name or an isa line, and what the answers say. Assumes nothing.
 use Prim.Native.Nat.{ℕ, zero, suc, _+_, _-_, _≤_, _<_}
-use mathlib.Core.Path.{_≡_, refl, sym, ap, _∙_}
+use mathlib.Core.Path.{_≡_, refl, sym, ap}
 use mathlib.Core.Bool.{true, false}
 use mathlib.Core.List.{List, [], _∷_}
 use native.Mathlib.Nat.{sub-zero}
 use native.Mathlib.Numerals.{add-one}
 use native.Mathlib.Omega.{arith}
-use borrow.Author.Tests.{eq-eqb, ne-eqb}
-use lib.ListN.{length, getD, drop, drop-of-length-le}
-use lib.Seq.{drop-cons}
+use lib.ListN.{length, getD}
 use Rattle.rights.specs.Labels.{sameLabel}
 use Rattle.rights.specs.Policy.{Policy, some}
 use Rattle.rights.specs.PolicyBytes.{policyOf, subjectCount, isaCount, nameAt, isaN, isaR, namesFrom, isaFrom}
 use Rattle.rights.specs.PolicyBytes as bytes
 use Rattle.rights.specs.PolicyCheck.{policyOk}
-use Rattle.lines.specs.PolicyEdit.{subjectFrom, subjectNamed, isLine, isaHeld, isOpen, hasBracket}
+use Rattle.lines.specs.PolicyEdit.{subjectFrom, subjectNamed, isLine, isaHeld}
 use Rattle.lines.specs.declared.policy_edit.Found.the-variants.{Subject, Unknown}
 use Rattle.rights.proofs.PathTexts.{cond-elim}
 use Rattle.rights.proofs.Sounds.{policy-sound}
@@ -62,21 +60,6 @@ module _ (p : List ℕ) (n r : ℕ) where
 
     pub line-none : m ≤ k → some (isLine n r) (isaFrom p (m - k) k) ≡ false
     line-none h = some-none (isLine n r) (isaFrom p (m - k) k) (isa-nil h)
-
--- the bytes from byte i on
-module _ (s : List ℕ) (i : ℕ) where
-  pub open-here : i < length s → getD s i 0 ≡ 91 → hasBracket s ≡ some isOpen (drop i s) → hasBracket s ≡ true
-  open-here h e q = q ∙ some-here isOpen (getD s i 0) (drop i s) (drop (suc i) s) (drop-cons s i 0 h) (eq-eqb _ _ e)
-
-  pub open-later : i < length s → (getD s i 0 ≡ 91 → ⊥) → hasBracket s ≡ some isOpen (drop i s) → hasBracket s ≡ some isOpen (drop (i + 1) s)
-  open-later h e q = q ∙ rw (add-one i) (some-later isOpen (getD s i 0) (drop i s) (drop (suc i) s) (drop-cons s i 0 h) (ne-eqb _ _ e))
-
-  pub open-none : length s ≤ i → hasBracket s ≡ some isOpen (drop i s) → hasBracket s ≡ false
-  open-none h q = q ∙ some-none isOpen (drop i s) (drop-of-length-le s h)
-
-pub open-first : (s : List ℕ) → hasBracket s ≡ some isOpen (drop 0 s)
-unfolding hasBracket
-open-first s = refl
 
 -- In the paper's words: a name is unknown exactly if no subject has it, and what is found is a subject of that name.
 subject-apart : {C : Type 0} {u : ℕ} → Subject u ≡ Unknown → C

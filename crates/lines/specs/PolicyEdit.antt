@@ -10,8 +10,8 @@ use Rattle.rights.specs.Labels.{sameLabel, restricted}
 use Rattle.rights.specs.Path.{Test, Path, last, next, Brackets, none, position, holds}
 use Rattle.rights.specs.declared.path.Axis.{Axis}
 use Rattle.rights.specs.declared.path.Axis.the-variants.{Child, Descendant}
-use Rattle.rights.specs.PathReader.{Got, got, bad, readTest, axisAt, pathOf}
-use Rattle.rights.specs.PathText.{writeTest, writeAxis}
+use Rattle.rights.specs.PathReader.{Got, got, bad, pathOf}
+use Rattle.rights.specs.PathText.{writeTest, writeStep}
 use Rattle.rights.specs.Policy.{Policy, some, uses}
 use Rattle.rights.specs.PolicyBytes.{subjectCount, isaCount, ruleCount, subjectAt, isaAt, ruleAt}
 use Rattle.rights.specs.Record.{nameRecord, pasted}
@@ -44,21 +44,22 @@ isLine n r w = eqb (w .0) n && eqb (w .1) r
 unfoldable pub isaHeld : Policy → ℕ → ℕ → Bool
 isaHeld P n r = some (isLine n r) (P .isa)
 
--- Refusal 6: "a bracket in a rule's path". In a path that is well formed, `[` stands where a bracket begins and nowhere else.
-abbrev pub isOpen : ℕ → Bool
-isOpen b = eqb b 91
-
-unfoldable pub hasBracket : List ℕ → Bool
-hasBracket s = some isOpen s
-
+-- Refusal 6: "a bracket in a rule's path", decided on what was read; a text that is no path has none
 abbrev pub anyBracket : Brackets → Bool
 anyBracket none = false
 anyBracket (position n bs) = true
 anyBracket (holds p bs) = true
 
 unfoldable pub bracketed : Path → Bool
-bracketed (last t bs) = anyBracket bs
-bracketed (next t bs a p) = anyBracket bs || bracketed p
+bracketed (last a x bs) = anyBracket bs
+bracketed (next a x bs p) = anyBracket bs || bracketed p
+
+abbrev pub bracketedIn : Got Path → Bool
+bracketedIn (got p i) = bracketed p
+bracketedIn bad = false
+
+unfoldable pub hasBracket : List ℕ → Bool
+hasBracket s = bracketedIn (pathOf s)
 
 -- a path that a rule may have: well formed and without brackets
 pub record Plain (s : List ℕ) : Type 0 where
@@ -66,23 +67,23 @@ pub record Plain (s : List ℕ) : Type 0 where
   pub read : pathOf s ≡ got path (length s)
   pub flat : bracketed path ≡ false
 
--- The steps of a path without brackets, in its order, the first of them reached by the axis a
-unfoldable pub stepList : Axis → Path → List (Axis × Test)
-stepList a (last t bs) = (a, t) ∷ []
-stepList a (next t bs b p) = (a, t) ∷ stepList b p
+-- The steps of a path without brackets, in its order
+unfoldable pub stepList : Path → List (Axis × Test)
+stepList (last a x bs) = (a, x) ∷ []
+stepList (next a x bs p) = (a, x) ∷ stepList p
 
 -- the steps that a text writes; none, if it is no path
-abbrev pub stepsGot : Axis → Got Path → List (Axis × Test)
-stepsGot a (got p i) = stepList a p
-stepsGot a bad = []
+abbrev pub stepsGot : Got Path → List (Axis × Test)
+stepsGot (got p i) = stepList p
+stepsGot bad = []
 
 unfoldable pub stepsIn : List ℕ → List (Axis × Test)
-stepsIn s = stepsGot (axisAt s 0) (pathOf s)
+stepsIn s = stepsGot (pathOf s)
 
 -- the text of steps
 unfoldable pub writeStored : List (Axis × Test) → List ℕ
 writeStored [] = []
-writeStored (w ∷ ws) = writeAxis (w .0) ++ (writeTest (w .1) ++ writeStored ws)
+writeStored (w ∷ ws) = 47 ∷ (writeStep (w .0) (w .1) ++ writeStored ws)
 
 -- Refusal 9: RESTRICTED as a label of a rule's path
 unfoldable pub pathRestricted : List ℕ → Bool
@@ -118,9 +119,3 @@ ruleHead accept bit who n = accept ∷ bit ∷ who ∷ n ∷ 0 ∷ 0 ∷ 0 ∷ 0
 
 abbrev pub withRule : List ℕ → ℕ → ℕ → ℕ → List (Axis × Test) → List ℕ
 withRule p accept bit who ws = withLine p 2 (ruleAt (ruleCount p)) (ruleHead accept bit who (length ws) ++ stepRecords ws)
-
--- What a reader of steps promises: r is the place after the test at a place, where one stands
-pub record TestEnd (s : List ℕ) (at r : ℕ) : Type 0 where
-  pub is : (t : Test) (i : ℕ) → readTest s at ≡ got t i → r ≡ i
-  pub from : at ≤ r
-  pub to : r ≤ length s

@@ -8,9 +8,10 @@ use rights::limits::RULE_BYTES;
 use rights::limits::RULES_AT;
 use rights::limits::STEPS_AT;
 use rights::limits::SUBJECTS_AT;
-use rights::path::Read;
-use rights::path::after_slash;
-use rights::path::read_test;
+use rights::path::Axis;
+use rights::path::StepRead;
+use rights::path::byte_is;
+use rights::path::read_step;
 use rights::policy::is_name;
 use rights::record::put_name;
 ghost use mathlib.Core.Path.{_≡_};
@@ -18,10 +19,10 @@ ghost use mathlib.Core.Bool.{true};
 ghost use mathlib.Core.List.{[], _∷_};
 ghost use Prim.Native.Nat.{ℕ, _+_, _*_, _≤_, _<_};
 ghost use lib.ListN.{length, take, drop};
-ghost use Rattle.rights.specs.PathReader.{axisAt};
+ghost use Rattle.rights.specs.PathReader.{bad, pathOf};
 ghost use Rattle.rights.specs.PolicyBytes.{policyOf, subjectCount, isaCount, ruleCount, isaN, isaR};
 ghost use Rattle.rights.specs.PolicyCheck.{policyOk};
-ghost use Rattle.lines.specs.PolicyEdit.{numberIn, subjectNamed, isLine, isaHeld, hasBracket, Plain, stepsIn, pathRestricted, axisByte, stepRecords, ruleHead, withSubject, withIsa, withRule, TestEnd};
+ghost use Rattle.lines.specs.PolicyEdit.{numberIn, subjectNamed, isLine, isaHeld, hasBracket, Plain, stepsIn, pathRestricted, axisByte, stepRecords, ruleHead, withSubject, withIsa, withRule};
 ghost use Rattle.rights.specs.Record.{pasted};
 
 // A subject's number, or none of that name.
@@ -84,44 +85,35 @@ pub fn isa_held(policy: &[u8], n: usize, r: usize) -> bool
     false
 }
 
-// Whether a path's text has a bracket.
+// Whether a rule's path has a bracket: one stands after the test of a step.
 pub fn has_bracket(s: &[u8]) -> bool
+    requires { ⌜ pathOf (now s) ≡ bad → ⊥ ⌝ }
     ensures { λ r. ⌜ r ≡ hasBracket (now (s .entry)) ⌝ }
 {
-    let mut i = 0;
-    while i < s.len() {
-        if s[i] == b'[' {
+    let mut at = 1;
+    while at < s.len() {
+        let StepRead::Step(_, _, end) = read_step(s, at) else {
+            return false;
+        };
+        if byte_is(s, end, b'[') {
             return true;
         }
-        i += 1;
+        if byte_is(s, end, b'/') {} else {
+            return false;
+        }
+        at = end + 1;
     }
     false
 }
 
-// The place after the test at `at`.
-fn test_end(s: &[u8], at: usize) -> usize
-    requires { ⌜ at ≤ length (now s) ⌝ }
-    ensures { λ r. ⌜ TestEnd (now (s .entry)) at r ⌝ }
+// The first byte of a step's record.
+fn axis_byte(axis: Axis) -> u8
+    ensures { λ r. ⌜ r ≡ axisByte axis ⌝ }
 {
-    let Read::At(e) = read_test(s, at) else {
-        return at;
-    };
-    e
-}
-
-// The first byte of the record of the step whose slashes stand at `at`.
-fn axis_byte(s: &[u8], at: usize) -> u8
-    requires { ⌜ at < length (now s) ⌝ }
-    ensures { λ r. ⌜ r ≡ axisByte (axisAt (now (s .entry)) at) ⌝ }
-{
-    let i = at + 1;
-    if s.len() <= i {
-        return 0;
+    match axis {
+        Axis::Child => 0,
+        Axis::Descendant => 1,
     }
-    if s[i] == b'/' {
-        return 1;
-    }
-    0
 }
 
 // Whether a step of a rule's path names RESTRICTED.
@@ -131,8 +123,9 @@ pub fn path_restricted(s: &[u8]) -> bool
 {
     let mut i = 0;
     while i < s.len() {
-        let k = after_slash(s, i);
-        let e = test_end(s, k);
+        let StepRead::Step(_, k, e) = read_step(s, i + 1) else {
+            return false;
+        };
         if is_restricted(s, k, e - k) {
             return true;
         }
@@ -172,10 +165,11 @@ fn put_steps(policy: &mut [u8], at: usize, path: &[u8]) -> usize
     let mut n = 0;
     let mut i = 0;
     while i < path.len() {
-        let axis = axis_byte(path, i);
-        let k = after_slash(path, i);
-        let e = test_end(path, k);
-        put_name(policy, at + n * RECORD_BYTES, axis, path, k, e - k);
+        let StepRead::Step(axis, k, e) = read_step(path, i + 1) else {
+            return n;
+        };
+        let first = axis_byte(axis);
+        put_name(policy, at + n * RECORD_BYTES, first, path, k, e - k);
         n += 1;
         i = e;
     }

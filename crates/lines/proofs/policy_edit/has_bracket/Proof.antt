@@ -1,34 +1,88 @@
--- `rights::policy_edit::has_bracket` meets its contract: a bracket is looked for among the bytes from byte i on.
-use mathlib.Core.Path.{_≡_, sym}
-use Prim.Native.Nat.{_-_, _≤_}
+-- A step begins at `at`, and the steps from there on have a bracket exactly if the path has.
+use Prim.Native.Nat.{_+_, _-_}
+use mathlib.Core.Path.{sym}
 use native.Mathlib.Omega.{arith}
-use lib.ListN.{length, drop}
-use Rattle.rights.specs.Policy.{some}
-use Rattle.lines.specs.PolicyEdit.{isOpen, hasBracket}
-use Rattle.lines.proofs.EditTests.{open-first, open-here, open-later, open-none}
+use lib.ListN.{length}
+use Rattle.rights.proofs.MatcherLaws.{stands, stands-not, within}
+use Rattle.rights.proofs.PathLaws.{no-step, step-on, step-end}
+use Rattle.lines.proofs.StoredPaths.{Looking, look-first, look-step, look-open, look-on, look-done}
+use borrow.Author.Needs.{needs}
 use Rattle.lines.proofs.policy_edit.has_bracket.Statement.{statement}
 use Rattle.lines.proofs.policy_edit.has_bracket.Tie as tie
 
 abbrev Inv-loop : tie.InvT-loop
-Inv-loop s i₀ i = (i ≤ length s) × (hasBracket s ≡ some isOpen (drop i s))
+Inv-loop s at₀ at = Looking s at
 
 abbrev μ-loop : tie.MeasureT-loop
-μ-loop s i₀ i = length s - i
+μ-loop s at₀ at = length s - at
 
 loop-holds : tie.Need-loop-holds Inv-loop μ-loop
-loop-holds c = (omega arith, open-first (c .args .s .now))
+loop-holds c = look-first (c .before .args .s .now) (c .before .pre)
 
 returns : tie.Need-returns Inv-loop μ-loop
-returns c = sym (open-here (c .before .before .before .before .args .s .now) (c .before .before .before .loop .i) (c .before .before .loop-test .taken) (c .if1 .taken) (c .before .before .before .loop .inv .1))
-
-loop-again : tie.Need-loop-again Inv-loop μ-loop
-loop-again c = (omega arith, open-later (c .before .before .before .before .args .s .now) (c .before .before .before .loop .i) (c .before .before .loop-test .taken) (c .if1 .left) (c .before .before .before .loop .inv .1))
+returns c =
+    let s = c .before .before .before .before .before .before .args .s .now in
+    let l = c .before .before .before .before .loop in
+    look-step s (l .at) (l .inv) (no-step s (l .at) (c .before .before .read-step .result) (c .before .before .read-step .ensures) (c .enum-told .given .1))
 
 returns-2 : tie.Need-returns-2 Inv-loop μ-loop
-returns-2 c = sym (open-none (c .before .before .args .s .now) (c .before .loop .i) (c .loop-test .left) (c .before .loop .inv .1))
+returns-2 c =
+    let s = c .before .before .before .before .before .before .before .before .before .args .s .now in
+    let l = c .before .before .before .before .before .before .before .loop in
+    let read = c .before .before .before .before .before .read-step in
+    let g = c .before .before .before .end .given in
+    let e = g .0 .1 .1 .0 in
+    sym (look-open s (l .at) (l .inv) (read .result) (read .ensures) _ _ e (g .1) (stands s e 91 (c .before .byte-is .result) (c .before .byte-is .ensures) (c .if1 .taken)))
+
+returns-3 : tie.Need-returns-3 Inv-loop μ-loop
+returns-3 c =
+    let s = c .before .before .before .before .before .before .before .before .before .before .before .args .s .now in
+    let l = c .before .before .before .before .before .before .before .before .before .loop in
+    let read = c .before .before .before .before .before .before .before .read-step in
+    let g = c .before .before .before .before .before .end .given in
+    let e = g .0 .1 .1 .0 in
+    let o = stands-not s e 91 (c .before .before .before .byte-is .result) (c .before .before .before .byte-is .ensures) (c .before .before .if1 .left) in
+    sym (look-done s (l .at) (l .inv) (read .result) (read .ensures) _ _ e (g .1) o (stands-not s e 47 (c .before .byte-is2 .result) (c .before .byte-is2 .ensures) (c .if2 .left)))
+
+add-at : tie.Need-add-at Inv-loop μ-loop
+add-at c =
+    let s = c .before .before .before .before .before .before .before .before .before .before .before .args .s .now in
+    let l = c .before .before .before .before .before .before .before .before .before .loop in
+    let read = c .before .before .before .before .before .before .before .read-step in
+    let g = c .before .before .before .before .before .end .given in
+    let e = g .0 .1 .1 .0 in
+    let w = within s e 47 (omega arith) (stands s e 47 (c .before .byte-is2 .result) (c .before .byte-is2 .ensures) (c .if2 .taken)) in
+    let good = c .before .before .before .before .before .before .before .before .before .before .before .good .0 in
+    omega (arith, w)
+
+loop-less : tie.Need-loop-less Inv-loop μ-loop
+loop-less c =
+    let s = c .before .before .before .before .before .before .before .before .before .before .before .args .s .now in
+    let l = c .before .before .before .before .before .before .before .before .before .loop in
+    let read = c .before .before .before .before .before .before .before .read-step in
+    let g = c .before .before .before .before .before .end .given in
+    let e = g .0 .1 .1 .0 in
+    let on = step-on s (l .at) (read .result) (read .ensures) _ _ e (g .1) in
+    omega (arith, on .0, on .1, on .2, c .before .before .before .before .before .before .before .before .loop-test .taken)
+
+loop-again : tie.Need-loop-again Inv-loop μ-loop
+loop-again c =
+    let s = c .before .before .before .before .before .before .before .before .before .before .before .args .s .now in
+    let l = c .before .before .before .before .before .before .before .before .before .loop in
+    let read = c .before .before .before .before .before .before .before .read-step in
+    let g = c .before .before .before .before .before .end .given in
+    let e = g .0 .1 .1 .0 in
+    let o = stands-not s e 91 (c .before .before .before .byte-is .result) (c .before .before .before .byte-is .ensures) (c .before .before .if1 .left) in
+    look-on s (l .at) (l .inv) (read .result) (read .ensures) _ _ e (g .1) o (stands s e 47 (c .before .byte-is2 .result) (c .before .byte-is2 .ensures) (c .if2 .taken))
+
+returns-4 : tie.Need-returns-4 Inv-loop μ-loop
+returns-4 c =
+    let s = c .before .before .before .args .s .now in
+    let l = c .before .loop in
+    look-step s (l .at) (l .inv) (step-end s (l .at) (omega (arith, c .loop-test .left)))
 
 pub has-bracket-spec : {M : Type 1} → statement M
 has-bracket-spec =
     tie.close
-    (tie.spec Inv-loop μ-loop loop-holds (λ c. omega arith) returns (λ c. omega arith) (λ c. omega arith) loop-again
-    returns-2)
+    (tie.spec Inv-loop μ-loop loop-holds (λ c κs. search needs) (λ c. search needs) (λ c. search needs) returns
+    (λ c κs. search needs) returns-2 (λ c κs. search needs) returns-3 add-at loop-less loop-again returns-4)

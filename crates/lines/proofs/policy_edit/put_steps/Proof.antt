@@ -1,9 +1,11 @@
--- `rights::policy_edit::put_steps` meets its contract: after n steps of the text, up to i, their records are put.
+-- After n steps of the text, up to i, their records are put.
+use Prim.Native.Nat.{_+_, _-_, _≤_}
 use mathlib.Core.Path.{_≡_, refl}
-use Prim.Native.Nat.{_-_, _≤_}
 use native.Mathlib.Omega.{arith}
 use lib.ListN.{length}
-use Rattle.lines.proofs.StoredPaths.{Putting, put-first, put-asks, put-more, put-end}
+use Rattle.rights.proofs.PathLaws.{step-on}
+use Rattle.lines.proofs.StoredPaths.{Putting, put-first, put-none, put-asks, put-more, put-end}
+use borrow.Author.Needs.{needs}
 use Rattle.lines.proofs.policy_edit.put_steps.Statement.{statement}
 use Rattle.lines.proofs.policy_edit.put_steps.Tie as tie
 
@@ -18,43 +20,85 @@ loop-holds c =
     let a = c .before .before .args in
     (omega arith, refl, put-first (a .policy .now) (a .at) (a .path .now) (c .before .before .pre .0))
 
-test-end-requires : tie.Need-test-end-requires Inv-loop μ-loop
-test-end-requires c κs = c .after-slash .ensures .2
-
-mul-put-name : tie.Need-mul-put-name Inv-loop μ-loop
-mul-put-name c = omega (arith, c .before .before .before .before .before .loop .inv .2 .room)
-
-add-put-name : tie.Need-add-put-name Inv-loop μ-loop
-add-put-name c = omega (arith, c .before .before .before .before .before .loop .inv .2 .room, c .before .before .before .before .before .before .before .before .pre .1)
-
-sub-put-name : tie.Need-sub-put-name Inv-loop μ-loop
-sub-put-name c = omega (arith, c .before .test-end .ensures .from)
-
-put-name-requires : tie.Need-put-name-requires Inv-loop μ-loop
-put-name-requires c κs =
-    let a = c .before .before .before .before .before .before .before .before .args in
-    let l = c .before .before .before .before .before .loop in
-    let w = put-asks (a .policy .now) (a .at) (a .path .now) (l .policy) (l .n) (l .i) (c .before .before .after-slash .result) (c .before .test-end .result) (l .inv .2) (c .before .before .before .before .before .before .before .before .pre .0) (c .before .before .before .before .loop-test .taken) (c .before .before .after-slash .ensures .0) (c .before .test-end .ensures) in
-    (omega (arith, w .0, c .before .before .before .before .before .before .before .before .pre .1, l .inv .1), w .1, omega (arith, c .before .test-end .ensures .from, c .before .test-end .ensures .to))
-
-add-n : tie.Need-add-n Inv-loop μ-loop
-add-n c = omega (arith, c .before .before .before .before .before .before .before .before .loop .inv .2 .room)
-
-loop-less : tie.Need-loop-less Inv-loop μ-loop
-loop-less c = omega (arith, c .before .before .before .before .test-end .ensures .from, c .before .before .before .before .test-end .ensures .to, c .before .before .before .before .before .after-slash .ensures .1)
-
-loop-again : tie.Need-loop-again Inv-loop μ-loop
-loop-again c =
-    let a = c .before .before .before .before .before .before .before .before .before .before .before .args in
-    let l = c .before .before .before .before .before .before .before .before .loop in
-    let r = c .before .before .put-name in
-    (c .before .before .before .before .test-end .ensures .to, omega (arith, l .inv .1), put-more (a .policy .now) (a .at) (a .path .now) (l .policy) (l .n) (l .i) (c .before .before .before .before .before .after-slash .result) (c .before .before .before .before .test-end .result) (l .inv .2) (c .before .before .before .before .before .before .before .before .before .before .before .pre .0) (c .before .before .before .before .before .before .before .loop-test .taken) (c .before .before .before .before .before .after-slash .ensures .0) (c .before .before .before .before .test-end .ensures) (r .last .0) (c .before .before .before .before .before .before .axis-byte .result) (c .before .before .before .before .before .before .before .before .before .before .before .pre .1) (c .before .before .before .before .before .before .axis-byte .ensures) (r .ensures))
-
 same-length : tie.Need-same-length Inv-loop μ-loop
-same-length c = c .before .loop .inv .1
+same-length c = c .before .before .before .before .loop .inv .1
 
 returns : tie.Need-returns Inv-loop μ-loop
 returns c =
+    let a = c .before .before .before .before .before .before .before .args in
+    let l = c .before .before .before .before .loop in
+    let read = c .before .before .read-step in
+    put-none (a .policy .now) (a .at) (a .path .now) (l .policy) (l .n) (l .i) (l .inv .2) (c .before .before .before .before .before .before .before .pre .0) (c .before .before .before .loop-test .taken) (read .result) (read .ensures) (c .enum-told .given .1)
+
+mul-put-name : tie.Need-mul-put-name Inv-loop μ-loop
+mul-put-name c = omega (arith, c .before .before .before .before .before .before .before .loop .inv .2 .room)
+
+add-put-name : tie.Need-add-put-name Inv-loop μ-loop
+add-put-name c = omega (arith, c .before .before .before .before .before .before .before .loop .inv .2 .room, c .before .before .before .before .before .before .before .before .before .before .pre .1)
+
+sub-put-name : tie.Need-sub-put-name Inv-loop μ-loop
+sub-put-name c =
+    let a = c .before .before .before .before .before .before .before .before .before .before .args in
+    let pre = c .before .before .before .before .before .before .before .before .before .before .pre in
+    let l = c .before .before .before .before .before .before .before .loop in
+    let t = c .before .before .before .before .before .before .loop-test .taken in
+    let read = c .before .before .before .before .before .read-step in
+    let g = c .before .before .before .axis .given in
+    let k = g .0 .1 .0 in
+    let e = g .0 .1 .1 .0 in
+    let on = step-on (a .path .now) (l .i + 1) (read .result) (read .ensures) (g .0 .0) k e (g .1) in
+    omega (arith, on .1)
+
+put-name-requires : tie.Need-put-name-requires Inv-loop μ-loop
+put-name-requires c κs =
+    let a = c .before .before .before .before .before .before .before .before .before .before .args in
+    let pre = c .before .before .before .before .before .before .before .before .before .before .pre in
+    let l = c .before .before .before .before .before .before .before .loop in
+    let t = c .before .before .before .before .before .before .loop-test .taken in
+    let read = c .before .before .before .before .before .read-step in
+    let g = c .before .before .before .axis .given in
+    let k = g .0 .1 .0 in
+    let e = g .0 .1 .1 .0 in
+    let on = step-on (a .path .now) (l .i + 1) (read .result) (read .ensures) (g .0 .0) k e (g .1) in
+    let w = put-asks (a .policy .now) (a .at) (a .path .now) (l .policy) (l .n) (l .i) (l .inv .2) (pre .0) t (read .result) (read .ensures) (g .0 .0) k e (g .1) in
+    (omega (arith, w .0, pre .1, l .inv .1), w .1, omega (arith, on .1, on .2))
+
+add-n : tie.Need-add-n Inv-loop μ-loop
+add-n c = omega (arith, c .before .before .before .before .before .before .before .before .before .before .loop .inv .2 .room)
+
+loop-less : tie.Need-loop-less Inv-loop μ-loop
+loop-less c =
+    let a = c .before .before .before .before .before .before .before .before .before .before .before .before .before .args in
+    let pre = c .before .before .before .before .before .before .before .before .before .before .before .before .before .pre in
+    let l = c .before .before .before .before .before .before .before .before .before .before .loop in
+    let t = c .before .before .before .before .before .before .before .before .before .loop-test .taken in
+    let read = c .before .before .before .before .before .before .before .before .read-step in
+    let g = c .before .before .before .before .before .before .axis .given in
+    let k = g .0 .1 .0 in
+    let e = g .0 .1 .1 .0 in
+    let on = step-on (a .path .now) (l .i + 1) (read .result) (read .ensures) (g .0 .0) k e (g .1) in
+    omega (arith, on .0, on .1, on .2)
+
+loop-again : tie.Need-loop-again Inv-loop μ-loop
+loop-again c =
+    let a = c .before .before .before .before .before .before .before .before .before .before .before .before .before .args in
+    let pre = c .before .before .before .before .before .before .before .before .before .before .before .before .before .pre in
+    let l = c .before .before .before .before .before .before .before .before .before .before .loop in
+    let t = c .before .before .before .before .before .before .before .before .before .loop-test .taken in
+    let read = c .before .before .before .before .before .before .before .before .read-step in
+    let g = c .before .before .before .before .before .before .axis .given in
+    let k = g .0 .1 .0 in
+    let e = g .0 .1 .1 .0 in
+    let on = step-on (a .path .now) (l .i + 1) (read .result) (read .ensures) (g .0 .0) k e (g .1) in
+    let r = c .before .before .put-name in
+    let b = c .before .before .before .before .axis-byte in
+    (on .2, omega (arith, l .inv .1), put-more (a .policy .now) (a .at) (a .path .now) (l .policy) (l .n) (l .i) (l .inv .2) (pre .0) t (read .result) (read .ensures) (g .0 .0) k e (g .1) (r .last .0) (b .result) (pre .1) (b .ensures) (r .ensures))
+
+same-length-2 : tie.Need-same-length-2 Inv-loop μ-loop
+same-length-2 c = c .before .loop .inv .1
+
+returns-2 : tie.Need-returns-2 Inv-loop μ-loop
+returns-2 c =
     let a = c .before .before .before .before .args in
     let l = c .before .loop in
     put-end (a .policy .now) (a .at) (a .path .now) (l .policy) (l .n) (l .i) (l .inv .2) (c .loop-test .left)
@@ -62,5 +106,6 @@ returns c =
 pub put-steps-spec : {M : Type 1} → statement M
 put-steps-spec =
     tie.close
-    (tie.spec Inv-loop μ-loop loop-holds (λ c κs. omega arith) (λ c κs. omega arith) test-end-requires mul-put-name
-    add-put-name sub-put-name put-name-requires add-n loop-less loop-again same-length returns)
+    (tie.spec Inv-loop μ-loop loop-holds (λ c. search needs) (λ c κs. search needs) (λ c. search needs)
+    (λ c. search needs) same-length returns (λ c κs. search needs) mul-put-name add-put-name sub-put-name
+    put-name-requires add-n loop-less loop-again same-length-2 returns-2)

@@ -4,6 +4,7 @@ use native.Mathlib.Omega.{arith}
 use borrow.Author.Tests.{le-leb, lt-leb}
 use Rattle.rights.specs.PathReader.{pathOf}
 use Rattle.rights.specs.PolicyBytes.{ruleCount}
+use Rattle.rights.proofs.PathLaws.{is-path as path-there}
 use Rattle.rights.proofs.Sounds.{policy-sound}
 use Rattle.lines.proofs.StoredPaths.{plain}
 use Rattle.lines.proofs.UserViewLaws.{not-path, is-path}
@@ -16,6 +17,9 @@ returns c = rw (not-path (pathOf (c .before .before .before .before .before .arg
 
 returns-2 : tie.Need-returns-2
 returns-2 c = rw (is-path (pathOf (c .before .before .before .before .before .before .before .args .path .now)) _ (sym (c .before .before .before .before .check-path .ensures) ∙ c .before .before .enum-told .given .1), c .enum-told4 .given .1)
+
+has-bracket-requires : tie.Need-has-bracket-requires
+has-bracket-requires c κs = path-there (pathOf (c .before .before .before .before .before .before .before .args .path .now)) _ (sym (c .before .before .before .before .check-path .ensures) ∙ c .before .before .enum-told .given .1)
 
 returns-3 : tie.Need-returns-3
 returns-3 c = rw ((is-path (pathOf (c .before .before .before .before .before .before .before .before .before .args .path .now)) _ (sym (c .before .before .before .before .before .before .check-path .ensures) ∙ c .before .before .before .before .enum-told .given .1)), c .before .before .enum-told3 .given .1, sym (c .before .has-bracket .ensures) ∙ c .if1 .taken)
@@ -45,5 +49,5 @@ pub rule-refusal-spec : {M : Type 1} → statement M
 rule-refusal-spec =
     tie.close
     (tie.spec (λ c κs. search needs) (λ c. search needs) (λ c. search needs) returns (λ c. search needs)
-    (λ c. search needs) returns-2 (λ c κs. search needs) returns-3 shared-slice-read-wide (λ c κs. search needs)
+    (λ c. search needs) returns-2 has-bracket-requires returns-3 shared-slice-read-wide (λ c κs. search needs)
     returns-4 path-restricted-requires returns-5 returns-6)
