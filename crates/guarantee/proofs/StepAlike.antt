@@ -49,8 +49,7 @@ module _ (choice : Choice) (u : ℕ) (s t s' t' : List ℕ) (h : Tied u s t s' t
   unfolding ChecksAlike
   front-alike =
       let g = user-stage s t (h .passes) u (h .user) in
-      let g' = user-stage s' t' (h .passes') u (h .user') in
-      (
+      let g' = user-stage s' t' (h .passes') u (h .user') in (
         (refl, inl (ap not (h .passes ∙ sym (h .passes')))),
         ((refl, inl refl), ((refl, inl refl), ((refl, inl (ap (λ k. not (inStage (stageOf form) k)) (g ∙ sym g'))), tt))),
       )
