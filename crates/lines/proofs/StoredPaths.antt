@@ -221,7 +221,7 @@ left-some s i (w ∷ vs) h e f = f w vs refl
 
 -- and where none is left, no step is
 pub left-none : (s : List ℕ) (i : ℕ) (ws : List (Axis × Test)) → GoodStored ws → length s ≤ i → drop i s ≡ writeStored ws → ws ≡ []
-unfolding writeStored writeAxis
+unfolding writeStored
 left-none s i [] g h e = refl
 left-none s i (w ∷ ws) g h e = absurd (omega (arith, length-drop i s, ap length e))
 

@@ -87,7 +87,7 @@ pub fn isa_held(policy: &[u8], n: usize, r: usize) -> bool
 
 // Whether a rule's path has a bracket: one stands after the test of a step.
 pub fn has_bracket(s: &[u8]) -> bool
-    requires { ⌜ pathOf (now s) ≡ bad → ⊥ ⌝ }
+    requires { ⌜ (pathOf (now s) ≡ bad → ⊥) ⌝ }
     ensures { λ r. ⌜ r ≡ hasBracket (now (s .entry)) ⌝ }
 {
     let mut at = 1;
