@@ -85,7 +85,8 @@ fn put_decimal(area: &mut [u8], at: usize, k: usize, n: usize) -> usize
 // Puts the label that shown node i carries.
 fn put_label(area: &mut [u8], at: usize, table: &[u8], shown: &[u16], i: usize) -> usize
     requires { ⌜ (Fits (now table) (now shown)) × (i < length (now shown)) × (at < 2 ^ 62) ⌝ }
-    ensures { λ r. ⌜ (Puts (labelAt (viewOf (now (table .entry)) (now (shown .entry))) i) at (now (area .entry)) (now (area .exit)) r) × (r ≤ at + 24) ⌝ }
+    ensures { λ r. ⌜ (Puts (labelAt (viewOf (now (table .entry)) (now (shown .entry))) i) at (now (area .entry)) (now (area .exit)) r)
+        × (r ≤ at + 24) ⌝ }
 {
     let x = shown[i];
     if RECORDS_MAX <= wide_number(x) {
@@ -100,7 +101,8 @@ fn put_label(area: &mut [u8], at: usize, table: &[u8], shown: &[u16], i: usize) 
 // Puts `(hit LEVEL L)` of shown node i.
 fn put_hit(area: &mut [u8], at: usize, table: &[u8], shown: &[u16], i: usize) -> usize
     requires { ⌜ (Fits (now table) (now shown)) × (i < length (now shown)) × (at < 2 ^ 61) ⌝ }
-    ensures { λ r. ⌜ (Puts (hitLine (nodeAt (viewOf (now (table .entry)) (now (shown .entry))) i)) at (now (area .entry)) (now (area .exit)) r) × (r ≤ at + 52) ⌝ }
+    ensures { λ r. ⌜ (Puts (hitLine (nodeAt (viewOf (now (table .entry)) (now (shown .entry))) i)) at (now (area .entry)) (now (area .exit)) r)
+        × (r ≤ at + 52) ⌝ }
 {
     let level = level_at(table, shown, i);
     let a = put_bytes(area, at, b"(hit ");
@@ -120,7 +122,8 @@ fn put_marked(
     i: usize,
 ) -> usize
     requires { ⌜ (Fits (now table) (now shown)) × (i < length (now shown)) × (i < length (now marks)) × (at < 2 ^ 61) ⌝ }
-    ensures { λ r. ⌜ (Puts (hitLineAt (now (marks .entry)) (viewOf (now (table .entry)) (now (shown .entry))) i) at (now (area .entry)) (now (area .exit)) r) × (r ≤ at + 52) ⌝ }
+    ensures { λ r. ⌜ (Puts (hitLineAt (now (marks .entry)) (viewOf (now (table .entry)) (now (shown .entry))) i) at (now (area .entry))
+        (now (area .exit)) r) × (r ≤ at + 52) ⌝ }
 {
     if marks[i] == 0 {
         return at;
@@ -131,7 +134,8 @@ fn put_marked(
 // Puts the lines of the marked nodes.
 fn put_hits(area: &mut [u8], table: &[u8], shown: &[u16], marks: &[u8]) -> usize
     requires { ⌜ (Fits (now table) (now shown)) × (length (now shown) ≤ length (now marks)) ⌝ }
-    ensures { λ r. ⌜ (Puts (hitLines (hitsOf (now (marks .entry)) (viewOf (now (table .entry)) (now (shown .entry))))) 0 (now (area .entry)) (now (area .exit)) r) × (r ≤ 52 * length (now (shown .entry))) ⌝ }
+    ensures { λ r. ⌜ (Puts (hitLines (hitsOf (now (marks .entry)) (viewOf (now (table .entry)) (now (shown .entry))))) 0 (now (area .entry))
+        (now (area .exit)) r) × (r ≤ 52 * length (now (shown .entry))) ⌝ }
 {
     let mut at = 0;
     let mut i = 0;
@@ -155,7 +159,8 @@ fn put_end(area: &mut [u8], at: usize, k: usize) -> usize
 // Puts the answer to `query`.
 fn put_query(area: &mut [u8], table: &[u8], shown: &[u16], marks: &[u8]) -> usize
     requires { ⌜ (Fits (now table) (now shown)) × (length (now shown) ≤ length (now marks)) ⌝ }
-    ensures { λ r. ⌜ (Puts (queryText (hitsOf (now (marks .entry)) (viewOf (now (table .entry)) (now (shown .entry))))) 0 (now (area .entry)) (now (area .exit)) r) × (r ≤ textMost (length (now (shown .entry)))) ⌝ }
+    ensures { λ r. ⌜ (Puts (queryText (hitsOf (now (marks .entry)) (viewOf (now (table .entry)) (now (shown .entry))))) 0 (now (area .entry))
+        (now (area .exit)) r) × (r ≤ textMost (length (now (shown .entry)))) ⌝ }
 {
     let n = shown.len();
     let k = count_marks(marks, n);
@@ -166,7 +171,8 @@ fn put_query(area: &mut [u8], table: &[u8], shown: &[u16], marks: &[u8]) -> usiz
 // Puts the answer to `find`: the first hit in document order.
 fn put_found(area: &mut [u8], table: &[u8], shown: &[u16], marks: &[u8]) -> usize
     requires { ⌜ (Fits (now table) (now shown)) × (length (now shown) ≤ length (now marks)) ⌝ }
-    ensures { λ r. ⌜ Puts (findText (chosen (now (marks .entry)) (viewOf (now (table .entry)) (now (shown .entry))))) 0 (now (area .entry)) (now (area .exit)) r ⌝ }
+    ensures { λ r. ⌜ Puts (findText (chosen (now (marks .entry)) (viewOf (now (table .entry)) (now (shown .entry))))) 0 (now (area .entry))
+        (now (area .exit)) r ⌝ }
 {
     let mut i = 0;
     while i < shown.len() {
@@ -241,7 +247,8 @@ fn next_level(table: &[u8], shown: &[u16], i: usize) -> usize
 // Puts shown node i, which is not the root.
 fn put_node(area: &mut [u8], at: usize, table: &[u8], shown: &[u16], i: usize) -> usize
     requires { ⌜ (Fits (now table) (now shown)) × (i < length (now shown)) × (at < 2 ^ 60) ⌝ }
-    ensures { λ r. ⌜ (Puts (nodeText (viewOf (now (table .entry)) (now (shown .entry))) i) at (now (area .entry)) (now (area .exit)) r) × (r ≤ at + 46) ⌝ }
+    ensures { λ r. ⌜ (Puts (nodeText (viewOf (now (table .entry)) (now (shown .entry))) i) at (now (area .entry)) (now (area .exit)) r)
+        × (r ≤ at + 46) ⌝ }
 {
     let level = level_at(table, shown, i);
     let next = next_level(table, shown, i);
@@ -253,7 +260,8 @@ fn put_node(area: &mut [u8], at: usize, table: &[u8], shown: &[u16], i: usize) -
 // Puts the lines of the root's children.
 fn put_children(area: &mut [u8], at: usize, table: &[u8], shown: &[u16]) -> usize
     requires { ⌜ (Fits (now table) (now shown)) × (0 < length (now shown)) × (at < 64) ⌝ }
-    ensures { λ r. ⌜ (Puts (childLines (drop 1 (viewOf (now (table .entry)) (now (shown .entry))))) at (now (area .entry)) (now (area .exit)) r) × (r + 46 ≤ at + 46 * length (now (shown .entry))) ⌝ }
+    ensures { λ r. ⌜ (Puts (childLines (drop 1 (viewOf (now (table .entry)) (now (shown .entry))))) at (now (area .entry)) (now (area .exit)) r)
+        × (r + 46 ≤ at + 46 * length (now (shown .entry))) ⌝ }
 {
     let mut next = at;
     let mut i = 1;
@@ -267,7 +275,8 @@ fn put_children(area: &mut [u8], at: usize, table: &[u8], shown: &[u16]) -> usiz
 // Puts `(root L)`.
 fn put_root(area: &mut [u8], table: &[u8], shown: &[u16]) -> usize
     requires { ⌜ (Fits (now table) (now shown)) × (0 < length (now shown)) ⌝ }
-    ensures { λ r. ⌜ (Puts (rootLine (labelAt (viewOf (now (table .entry)) (now (shown .entry))) 0)) 0 (now (area .entry)) (now (area .exit)) r) × (r ≤ 32) ⌝ }
+    ensures { λ r. ⌜ (Puts (rootLine (labelAt (viewOf (now (table .entry)) (now (shown .entry))) 0)) 0 (now (area .entry)) (now (area .exit)) r)
+        × (r ≤ 32) ⌝ }
 {
     let a = put_bytes(area, 0, b"(root ");
     let b = put_label(area, a, table, shown, 0);
@@ -277,7 +286,8 @@ fn put_root(area: &mut [u8], table: &[u8], shown: &[u16]) -> usize
 // Puts the answer to `view`.
 fn put_view(area: &mut [u8], table: &[u8], shown: &[u16]) -> usize
     requires { ⌜ Fits (now table) (now shown) ⌝ }
-    ensures { λ r. ⌜ (Puts (viewText (viewOf (now (table .entry)) (now (shown .entry)))) 0 (now (area .entry)) (now (area .exit)) r) × (r ≤ textMost (length (now (shown .entry)))) ⌝ }
+    ensures { λ r. ⌜ (Puts (viewText (viewOf (now (table .entry)) (now (shown .entry)))) 0 (now (area .entry)) (now (area .exit)) r)
+        × (r ≤ textMost (length (now (shown .entry)))) ⌝ }
 {
     if shown.len() == 0 {
         return put_end(area, 0, 0);
@@ -350,7 +360,8 @@ pub fn answer_view(table: &[u8], shown: &[u16], area: &mut [u8]) -> usize
 // Writes the answer to `query`, whose hits are marked.
 pub fn answer_query(table: &[u8], shown: &[u16], marks: &[u8], area: &mut [u8]) -> usize
     requires { ⌜ (Fits (now table) (now shown)) × (length (now shown) ≤ length (now marks)) ⌝ }
-    ensures { λ r. ⌜ Answered (queryText (hitsOf (now (marks .entry)) (viewOf (now (table .entry)) (now (shown .entry))))) (now (area .entry)) (now (area .exit)) r ⌝ }
+    ensures { λ r. ⌜ Answered (queryText (hitsOf (now (marks .entry)) (viewOf (now (table .entry)) (now (shown .entry))))) (now (area .entry))
+        (now (area .exit)) r ⌝ }
 {
     if surely_fits(shown.len(), area.len()) {
         return put_query(area, table, shown, marks);
@@ -366,7 +377,8 @@ pub fn answer_query(table: &[u8], shown: &[u16], marks: &[u8], area: &mut [u8]) 
 // Writes the answer to `find`, whose hits are marked.
 pub fn answer_find(table: &[u8], shown: &[u16], marks: &[u8], area: &mut [u8]) -> usize
     requires { ⌜ (Fits (now table) (now shown)) × (length (now shown) ≤ length (now marks)) ⌝ }
-    ensures { λ r. ⌜ Answered (findText (chosen (now (marks .entry)) (viewOf (now (table .entry)) (now (shown .entry))))) (now (area .entry)) (now (area .exit)) r ⌝ }
+    ensures { λ r. ⌜ Answered (findText (chosen (now (marks .entry)) (viewOf (now (table .entry)) (now (shown .entry))))) (now (area .entry))
+        (now (area .exit)) r ⌝ }
 {
     let mut scratch = [0u8; 1];
     let need = put_found(&mut scratch, table, shown, marks);

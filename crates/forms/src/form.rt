@@ -103,7 +103,8 @@ fn closed(s: &[u8], at: usize) -> bool
 // Whether the parts of w's shape stand from `at` on, with `)` as the last byte. The places after the word and after each part are put into `ends`.
 fn parts(s: &[u8], at: usize, w: Word, ends: &mut [usize; 5]) -> bool
     requires { ⌜ (at ≤ length (now s)) × (length (now ends) ≡ 5) × ((i : ℕ) → placeIn (now ends) i ≡ 0) ⌝ }
-    ensures { λ r. ⌜ PartsPut (partsOf (shapeOf w) (now (s .entry)) at) r (now (ends .exit)) (length (now (s .entry))) × (length (now (ends .exit)) ≡ 5) ⌝ }
+    ensures { λ r. ⌜ PartsPut (partsOf (shapeOf w) (now (s .entry)) at) r (now (ends .exit)) (length (now (s .entry)))
+        × (length (now (ends .exit)) ≡ 5) ⌝ }
 {
     let kinds = shape_of(w);
     let mut e = at;
@@ -139,7 +140,8 @@ fn tree_place(w: Word, ends: &[usize; 5]) -> Read
 // Puts the records of the tree at that place, if there is one; how many they are.
 fn put_tree_at(s: &[u8], place: Read, tree: &mut [u8]) -> usize
     requires { ⌜ 16 * length (now s) ≤ length (now tree) ⌝ }
-    ensures { λ r. ⌜ (r ≡ length (nodesAt (now (s .entry)) place)) × (now (tree .exit) ≡ pasted (now (tree .entry)) 0 (recordsOf (nodesAt (now (s .entry)) place))) ⌝ }
+    ensures { λ r. ⌜ (r ≡ length (nodesAt (now (s .entry)) place))
+        × (now (tree .exit) ≡ pasted (now (tree .entry)) 0 (recordsOf (nodesAt (now (s .entry)) place))) ⌝ }
 {
     let Read::At(at) = place else {
         return 0;

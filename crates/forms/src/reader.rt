@@ -43,7 +43,8 @@ fn reader_at<'a>(line: &'a [u8], at: usize) -> LineReader<'a>
 // Takes a part of kind k.
 fn take<'a>(r: LineReader<'a>, k: u8) -> LineReader<'a>
     requires { ⌜ r .at ≤ length (now (r .line)) ⌝ }
-    ensures { λ q. ⌜ (q .line ≡ r .entry .line) × Takes (endBy k (now (r .entry .line)) (r .entry .at)) (r .entry .at) (q .at) (length (now (r .entry .line))) ⌝ }
+    ensures { λ q. ⌜ (q .line ≡ r .entry .line) × Takes (endBy k (now (r .entry .line)) (r .entry .at)) (r .entry .at) (q .at)
+        (length (now (r .entry .line))) ⌝ }
 {
     let at = after_part(r.line, r.at, k);
     LineReader { line: r.line, at }

@@ -93,7 +93,8 @@ fn put_tail(s: &[u8], depth: usize, tree: &mut [u8], n: usize) -> usize
 // Puts the records of the tree at `at`, levels from 0; how many they are.
 pub fn put_tree(s: &[u8], at: usize, tree: &mut [u8]) -> usize
     requires { ⌜ 16 * length (now s) ≤ length (now tree) ⌝ }
-    ensures { λ r. ⌜ (r ≡ length (treeNodes (now (s .entry)) at)) × (now (tree .exit) ≡ pasted (now (tree .entry)) 0 (recordsOf (treeNodes (now (s .entry)) at))) ⌝ }
+    ensures { λ r. ⌜ (r ≡ length (treeNodes (now (s .entry)) at))
+        × (now (tree .exit) ≡ pasted (now (tree .entry)) 0 (recordsOf (treeNodes (now (s .entry)) at))) ⌝ }
 {
     let Read::At(e) = open_end(s, at) else {
         return 0;

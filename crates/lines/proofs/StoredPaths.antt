@@ -56,7 +56,7 @@ plain s i e b = go (pathOf s) refl e
 steps-by : {C : Type 0} (s : List ℕ) (d n at : ℕ) (p : Path) (e : ℕ)
     → ((w : Axis × Test) (i : ℕ) (bs : Brackets) (j : ℕ) → readStep s at ≡ got w i → brackets s d 2 i ≡ got bs j → (byteAt s j ≡ 47 → ⊥) → p ≡ last (w .0) (w .1) bs → C)
     → ((w : Axis × Test) (i : ℕ) (bs : Brackets) (j m : ℕ) (q : Path) → readStep s at ≡ got w i → brackets s d 2 i ≡ got bs j → byteAt s j ≡ 47 → steps s d m (j + 1) ≡ got q e
-        → p ≡ next (w .0) (w .1) bs q → C) → steps s d n at ≡ got p e → C
+    → p ≡ next (w .0) (w .1) bs q → C) → steps s d n at ≡ got p e → C
 unfolding steps readSteps
 steps-by s d zero at p e one more = never
 steps-by s d (suc n) at p e one more =

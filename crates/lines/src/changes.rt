@@ -89,7 +89,8 @@ fn mark_change(state: &[u8], table: &[u8], change: Change, path: &[u8], done: &m
 // Answers a change of which `selected` nodes are selected and the marked records done.
 fn answer_change(table: &[u8], selected: usize, done: &[u8], area: &mut [u8]) -> usize
     requires { ⌜ (tableOk (now table) ≡ true) × (count (now table) ≤ length (now done)) ⌝ }
-    ensures { λ r. ⌜ Answered (doneText selected (marked (count (now (table .entry))) (now (done .entry)))) (now (area .entry)) (now (area .exit)) r ⌝ }
+    ensures { λ r. ⌜ Answered (doneText selected (marked (count (now (table .entry))) (now (done .entry)))) (now (area .entry)) (now (area .exit))
+        r ⌝ }
 {
     let n = count_of(table);
     let d = count_marks(done, n);
@@ -210,7 +211,8 @@ fn insert_done(
     m: usize,
     area: &mut [u8],
 ) -> Answer
-    requires { ⌜ (1 ≤ length (now state)) × (tableOk (now table) ≡ true) × (count (now table) ≤ length (now done)) × (m * 32 ≤ length (now tree)) × (m ≤ 16384) ⌝ }
+    requires { ⌜ (1 ≤ length (now state)) × (tableOk (now table) ≡ true) × (count (now table) ≤ length (now done)) × (m * 32 ≤ length (now tree))
+        × (m ≤ 16384) ⌝ }
     ensures { λ r. ⌜ Performs (insertAt place (now (done .entry)) m (now (tree .entry))
         (doneText selected (marked (count (now (table .entry))) (now (done .entry)))) (stage (now (state .entry))) (now (table .entry)))
         (now (state .entry)) (now (table .entry)) (now (area .entry)) r (now (state .entry)) (now (table .exit)) (now (area .exit)) ⌝ }

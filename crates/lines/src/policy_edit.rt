@@ -147,7 +147,8 @@ pub fn add_subject(policy: &mut [u8], s: &[u8], at: usize, n: usize)
 
 // Adds the isa line of subjects n and r.
 pub fn add_isa(policy: &mut [u8], n: usize, r: usize)
-    requires { ⌜ (policyOk (now policy) ≡ true) × (isaCount (now policy) < 128) × (n < subjectCount (now policy)) × (r < subjectCount (now policy)) ⌝ }
+    requires { ⌜ (policyOk (now policy) ≡ true) × (isaCount (now policy) < 128) × (n < subjectCount (now policy))
+        × (r < subjectCount (now policy)) ⌝ }
     ensures { λ _. ⌜ now (policy .exit) ≡ withIsa (now (policy .entry)) n r ⌝ }
 {
     let count = policy[1];
@@ -160,7 +161,8 @@ pub fn add_isa(policy: &mut [u8], n: usize, r: usize)
 // Puts the steps that a path writes at byte `at`, and says how many they are.
 fn put_steps(policy: &mut [u8], at: usize, path: &[u8]) -> usize
     requires { ⌜ Plain (now path) × (at + 512 ≤ length (now policy)) ⌝ }
-    ensures { λ r. ⌜ (r ≡ length (stepsIn (now (path .entry)))) × (now (policy .exit) ≡ pasted (now (policy .entry)) at (stepRecords (stepsIn (now (path .entry))))) ⌝ }
+    ensures { λ r. ⌜ (r ≡ length (stepsIn (now (path .entry))))
+        × (now (policy .exit) ≡ pasted (now (policy .entry)) at (stepRecords (stepsIn (now (path .entry))))) ⌝ }
 {
     let mut n = 0;
     let mut i = 0;

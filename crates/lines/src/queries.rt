@@ -106,7 +106,8 @@ pub fn select_user(
 ) -> usize
     requires { ⌜ (storeOk (now state) (now table) ≡ true) × Passed (onView (now path) (now state)) × ForView asked
         × (length (now rights) ≡ 16384) × (length (now shown) ≡ 16384) × (length (now marks) ≡ 16384) ⌝ }
-    ensures { λ r. ⌜ (Chosen (now (state .entry)) (now (table .entry)) (now (path .entry)) (now (shown .entry)) (now (marks .entry)) r (now (shown .exit)) (now (marks .exit)))
+    ensures { λ r. ⌜ (Chosen (now (state .entry)) (now (table .entry)) (now (path .entry)) (now (shown .entry)) (now (marks .entry)) r
+        (now (shown .exit)) (now (marks .exit)))
         × AskedHeld asked (now (state .entry)) (now (table .entry)) (now (rights .entry)) (now (rights .exit)) ⌝ }
 {
     let k = show_user(state, table, asked, rights, shown);
@@ -118,7 +119,8 @@ pub fn select_user(
 // Answers what is asked of the marked ones of the shown nodes.
 fn answer_ask(ask: Ask, table: &[u8], shown: &[u16], marks: &[u8], area: &mut [u8]) -> usize
     requires { ⌜ (Fits (now table) (now shown)) × (length (now shown) ≤ length (now marks)) ⌝ }
-    ensures { λ r. ⌜ Answered (answerTo chosen ask (now (marks .entry)) (viewOf (now (table .entry)) (now (shown .entry)))) (now (area .entry)) (now (area .exit)) r ⌝ }
+    ensures { λ r. ⌜ Answered (answerTo chosen ask (now (marks .entry)) (viewOf (now (table .entry)) (now (shown .entry)))) (now (area .entry))
+        (now (area .exit)) r ⌝ }
 {
     match ask {
         Ask::Query => answer_query(table, shown, marks, area),

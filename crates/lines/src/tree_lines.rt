@@ -113,7 +113,8 @@ pub fn root(state: &mut [u8], table: &mut [u8], label: &[u8], area: &mut [u8]) -
 // The refusal of `(child TREE)`, where the marks are those of the root alone.
 fn child_refusal(table: &[u8], marks: &[u8], tree: &[u8], m: usize) -> u8
     requires { ⌜ (tableOk (now table) ≡ true) × (count (now table) ≤ length (now marks)) × (m * 32 ≤ length (now tree)) × (m ≤ 16384) ⌝ }
-    ensures { λ r. ⌜ r ≡ firstRefusal (labelCheck m (now (tree .entry)) ∷ insertChecks Append (now (marks .entry)) m (now (tree .entry)) (now (table .entry))) ⌝ }
+    ensures { λ r. ⌜ r ≡ firstRefusal (labelCheck m (now (tree .entry)) ∷ insertChecks Append (now (marks .entry)) m (now (tree .entry))
+        (now (table .entry))) ⌝ }
 {
     if tree_restricted(tree, m) {
         return BANNED_LABEL;

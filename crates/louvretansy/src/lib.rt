@@ -23,7 +23,8 @@ pub extern "C" fn timetable_line(
     line: &[u8],
     area: &mut [u8],
 ) -> i64
-    ensures { λ r. ⌜ Returned (step chosen (now (state .entry)) (now (table .entry)) (now (line .entry)) (length (now (area .entry)))) (now (area .entry)) r (now (state .exit)) (now (table .exit)) (now (area .exit)) ⌝ }
+    ensures { λ r. ⌜ Returned (step chosen (now (state .entry)) (now (table .entry)) (now (line .entry)) (length (now (area .entry))))
+        (now (area .entry)) r (now (state .exit)) (now (table .exit)) (now (area .exit)) ⌝ }
 {
     let answer = store::line::line(state, table, line, area);
     match answer {

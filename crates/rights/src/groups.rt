@@ -66,8 +66,10 @@ fn is_deep(policy: &[u8], step: usize) -> bool
 
 // Sets bit j in the row of the label of the record at byte `at`.
 fn note_label(policy: &[u8], words: &[u32], n: usize, at: usize, j: usize, rows: &mut [u64])
-    requires { ⌜ Words (now policy) (now words) n × Text (now policy) at × (0 < numberIn (now policy) (now words) n (label (recAt (now policy) at))) × (j ≤ 63) × (length (now rows) ≡ 2113) ⌝ }
-    ensures { λ _. ⌜ Noted (numberIn (now (policy .entry)) (now (words .entry)) n) (now (rows .entry)) (now (rows .exit)) j (λ (x : List ℕ). sameLabel x (label (recAt (now (policy .entry)) at))) ⌝ }
+    requires { ⌜ Words (now policy) (now words) n × Text (now policy) at × (0 < numberIn (now policy) (now words) n (label (recAt (now policy) at)))
+        × (j ≤ 63) × (length (now rows) ≡ 2113) ⌝ }
+    ensures { λ _. ⌜ Noted (numberIn (now (policy .entry)) (now (words .entry)) n) (now (rows .entry)) (now (rows .exit)) j
+        (λ (x : List ℕ). sameLabel x (label (recAt (now (policy .entry)) at))) ⌝ }
 {
     let h = number_of(policy, words, n, policy, at);
     rows[h] = rows[h] | one_at(j);
@@ -76,7 +78,8 @@ fn note_label(policy: &[u8], words: &[u32], n: usize, at: usize, j: usize, rows:
 // Sets bit j in the rows of the names of these subjects.
 fn note_names(policy: &[u8], own: &[u8], words: &[u32], n: usize, j: usize, rows: &mut [u64])
     requires { ⌜ Ready (now policy) (now own) (now words) n × (j ≤ 63) × (length (now rows) ≡ 2113) ⌝ }
-    ensures { λ _. ⌜ Noted (numberIn (now (policy .entry)) (now (words .entry)) n) (now (rows .entry)) (now (rows .exit)) j (nameAmong (now (policy .entry)) (now (own .entry))) ⌝ }
+    ensures { λ _. ⌜ Noted (numberIn (now (policy .entry)) (now (words .entry)) n) (now (rows .entry)) (now (rows .exit)) j
+        (nameAmong (now (policy .entry)) (now (own .entry))) ⌝ }
 {
     let mut i = 0;
     while i < own.len() {
@@ -103,8 +106,12 @@ fn with_step(
     m: Marks,
     rows: &mut [u64],
 ) -> Marks
-    requires { ⌜ Ready (now policy) (now own) (now words) n × Text (now policy) step × Known (now policy) (now words) n step × (j ≤ 63) × (length (now rows) ≡ 2113) ⌝ }
-    ensures { λ r. ⌜ ((ss : List Step) → length ss ≡ j → Packed (numberIn (now (policy .entry)) (now (words .entry)) n) ss (m .deep) (m .every) (now (rows .entry)) → Packed (numberIn (now (policy .entry)) (now (words .entry)) n) (ss ++ (stepFor (nameAmong (now (policy .entry)) (now (own .entry))) (stepOf (recAt (now (policy .entry)) step)) ∷ [])) (r .deep) (r .every) (now (rows .exit))) × (length (now (rows .exit)) ≡ 2113) ⌝ }
+    requires { ⌜ Ready (now policy) (now own) (now words) n × Text (now policy) step × Known (now policy) (now words) n step × (j ≤ 63)
+        × (length (now rows) ≡ 2113) ⌝ }
+    ensures { λ r. ⌜ ((ss : List Step) → length ss ≡ j → Packed (numberIn (now (policy .entry)) (now (words .entry)) n) ss (m .deep) (m .every)
+        (now (rows .entry)) → Packed (numberIn (now (policy .entry)) (now (words .entry)) n)
+        (ss ++ (stepFor (nameAmong (now (policy .entry)) (now (own .entry))) (stepOf (recAt (now (policy .entry)) step)) ∷ [])) (r .deep) (r .every)
+        (now (rows .exit))) × (length (now (rows .exit)) ≡ 2113) ⌝ }
 {
     let deep = mark_if(is_deep(policy, step), m.deep, j);
     let first = policy[step + LABEL_AT];
@@ -140,8 +147,12 @@ fn with_path(
     before: Marks,
     rows: &mut [u64],
 ) -> Marks
-    requires { ⌜ Ready (now policy) (now own) (now words) n × Steps (now policy) b count × ((j : ℕ) → j < count → Known (now policy) (now words) n (b + j * 32)) × (used + count ≤ 62) × (length (now rows) ≡ 2113) ⌝ }
-    ensures { λ r. ⌜ ((ss : List Step) → length ss ≡ used → Packed (numberIn (now (policy .entry)) (now (words .entry)) n) ss (before .deep) (before .every) (now (rows .entry)) → Packed (numberIn (now (policy .entry)) (now (words .entry)) n) (ss ++ stepsFor (nameAmong (now (policy .entry)) (now (own .entry))) (now (policy .entry)) b count 0) (r .deep) (r .every) (now (rows .exit))) × (length (now (rows .exit)) ≡ 2113) ⌝ }
+    requires { ⌜ Ready (now policy) (now own) (now words) n × Steps (now policy) b count
+        × ((j : ℕ) → j < count → Known (now policy) (now words) n (b + j * 32)) × (used + count ≤ 62) × (length (now rows) ≡ 2113) ⌝ }
+    ensures { λ r. ⌜ ((ss : List Step) → length ss ≡ used → Packed (numberIn (now (policy .entry)) (now (words .entry)) n) ss (before .deep)
+        (before .every) (now (rows .entry)) → Packed (numberIn (now (policy .entry)) (now (words .entry)) n)
+        (ss ++ stepsFor (nameAmong (now (policy .entry)) (now (own .entry))) (now (policy .entry)) b count 0) (r .deep) (r .every) (now (rows .exit)))
+        × (length (now (rows .exit)) ≡ 2113) ⌝ }
 {
     let mut m = before;
     let mut j = 0;
@@ -188,7 +199,8 @@ fn size_of(policy: &[u8], roles: &[u8; 64], right: u8, k: usize) -> usize
 // The end of a group that starts at rule `from`: as many rules as fit into 63 bits.
 fn group_end(policy: &[u8], roles: &[u8; 64], right: u8, from: usize, count: usize) -> usize
     requires { ⌜ Sound (now policy) × (count ≡ ruleCount (now policy)) × (from < count) ⌝ }
-    ensures { λ r. ⌜ (from < r) × (r ≤ count) × ((own : List ℕ) → length (laid (laneAt (now (policy .entry)) own (now (roles .entry)) right) from (r - from)) ≤ 63) ⌝ }
+    ensures { λ r. ⌜ (from < r) × (r ≤ count) × ((own : List ℕ)
+        → length (laid (laneAt (now (policy .entry)) own (now (roles .entry)) right) from (r - from)) ≤ 63) ⌝ }
 {
     let mut used = 0;
     let mut k = from;
@@ -223,8 +235,15 @@ fn with_rule(
     g: Group,
     rows: &mut [u64],
 ) -> Group
-    requires { ⌜ Ready (now policy) (now own) (now words) n × (k < ruleCount (now policy)) × (g .used + stepCount (now policy) k ≤ 62) × (length (now rows) ≡ 2113) ⌝ }
-    ensures { λ r. ⌜ ((ss : List Step) → length ss ≡ g .used → Packed (numberIn (now (policy .entry)) (now (words .entry)) n) ss (g .deep) (g .every) (now (rows .entry)) → Packed (numberIn (now (policy .entry)) (now (words .entry)) n) (ss ++ rulePath (now (policy .entry)) (now (own .entry)) k) (r .deep) (r .every) (now (rows .exit))) × (r .start ≡ bitOr (g .start) (2 ^ g .used)) × (r .yes ≡ cond (accepts (now (policy .entry)) k) (bitOr (g .yes) (2 ^ (g .used + stepCount (now (policy .entry)) k))) (g .yes)) × (r .noes ≡ cond (not (accepts (now (policy .entry)) k)) (bitOr (g .noes) (2 ^ (g .used + stepCount (now (policy .entry)) k))) (g .noes)) × (r .used ≡ g .used + stepCount (now (policy .entry)) k + 1) × (length (now (rows .exit)) ≡ 2113) ⌝ }
+    requires { ⌜ Ready (now policy) (now own) (now words) n × (k < ruleCount (now policy)) × (g .used + stepCount (now policy) k ≤ 62)
+        × (length (now rows) ≡ 2113) ⌝ }
+    ensures { λ r. ⌜ ((ss : List Step) → length ss ≡ g .used → Packed (numberIn (now (policy .entry)) (now (words .entry)) n) ss (g .deep) (g .every)
+        (now (rows .entry)) → Packed (numberIn (now (policy .entry)) (now (words .entry)) n)
+        (ss ++ rulePath (now (policy .entry)) (now (own .entry)) k) (r .deep) (r .every) (now (rows .exit)))
+        × (r .start ≡ bitOr (g .start) (2 ^ g .used)) × (r .yes ≡ cond (accepts (now (policy .entry)) k)
+        (bitOr (g .yes) (2 ^ (g .used + stepCount (now (policy .entry)) k))) (g .yes))
+        × (r .noes ≡ cond (not (accepts (now (policy .entry)) k)) (bitOr (g .noes) (2 ^ (g .used + stepCount (now (policy .entry)) k))) (g .noes))
+        × (r .used ≡ g .used + stepCount (now (policy .entry)) k + 1) × (length (now (rows .exit)) ≡ 2113) ⌝ }
 {
     let a = RULES_AT + k * RULE_BYTES;
     let count = wide(policy[a + 3]);
@@ -270,8 +289,13 @@ fn with_lane(
     g: Group,
     rows: &mut [u64],
 ) -> Group
-    requires { ⌜ Ready (now policy) (now own) (now words) n × (k < ruleCount (now policy)) × (bitOk right ≡ true) × (g .used + cond (counts (now policy) (now roles) right k) (suc (stepCount (now policy) k)) 0 ≤ 63) × (length (now rows) ≡ 2113) ⌝ }
-    ensures { λ r. ⌜ ((i size : ℕ) → i + size ≡ k → Grouped (numberIn (now (policy .entry)) (now (words .entry)) n) (laneAt (now (policy .entry)) (now (own .entry)) (now (roles .entry)) right) right i size (g .deep) (g .every) (g .start) (g .yes) (g .noes) (g .used) (now (rows .entry)) → Grouped (numberIn (now (policy .entry)) (now (words .entry)) n) (laneAt (now (policy .entry)) (now (own .entry)) (now (roles .entry)) right) right i (suc size) (r .deep) (r .every) (r .start) (r .yes) (r .noes) (r .used) (now (rows .exit))) × (length (now (rows .exit)) ≡ 2113) ⌝ }
+    requires { ⌜ Ready (now policy) (now own) (now words) n × (k < ruleCount (now policy)) × (bitOk right ≡ true)
+        × (g .used + cond (counts (now policy) (now roles) right k) (suc (stepCount (now policy) k)) 0 ≤ 63) × (length (now rows) ≡ 2113) ⌝ }
+    ensures { λ r. ⌜ ((i size : ℕ) → i + size ≡ k → Grouped (numberIn (now (policy .entry)) (now (words .entry)) n)
+        (laneAt (now (policy .entry)) (now (own .entry)) (now (roles .entry)) right) right i size (g .deep) (g .every) (g .start) (g .yes) (g .noes)
+        (g .used) (now (rows .entry)) → Grouped (numberIn (now (policy .entry)) (now (words .entry)) n)
+        (laneAt (now (policy .entry)) (now (own .entry)) (now (roles .entry)) right) right i (suc size) (r .deep) (r .every) (r .start) (r .yes)
+        (r .noes) (r .used) (now (rows .exit))) × (length (now (rows .exit)) ≡ 2113) ⌝ }
 {
     if counts(policy, roles, right, k) {
         return with_rule(policy, own, words, n, k, g, rows);
@@ -303,8 +327,11 @@ fn make_group(
     to: usize,
     rows: &mut [u64],
 ) -> Group
-    requires { ⌜ Ready (now policy) (now own) (now words) n × (from ≤ to) × (to ≤ ruleCount (now policy)) × (bitOk right ≡ true) × (length (laid (laneAt (now policy) (now own) (now roles) right) from (to - from)) ≤ 63) × (length (now rows) ≡ 2113) ⌝ }
-    ensures { λ r. ⌜ Grouped (numberIn (now (policy .entry)) (now (words .entry)) n) (laneAt (now (policy .entry)) (now (own .entry)) (now (roles .entry)) right) right from (to - from) (r .deep) (r .every) (r .start) (r .yes) (r .noes) (r .used) (now (rows .exit)) ⌝ }
+    requires { ⌜ Ready (now policy) (now own) (now words) n × (from ≤ to) × (to ≤ ruleCount (now policy)) × (bitOk right ≡ true)
+        × (length (laid (laneAt (now policy) (now own) (now roles) right) from (to - from)) ≤ 63) × (length (now rows) ≡ 2113) ⌝ }
+    ensures { λ r. ⌜ Grouped (numberIn (now (policy .entry)) (now (words .entry)) n)
+        (laneAt (now (policy .entry)) (now (own .entry)) (now (roles .entry)) right) right from (to - from) (r .deep) (r .every) (r .start) (r .yes)
+        (r .noes) (r .used) (now (rows .exit)) ⌝ }
 {
     clear_rows(rows, n + 1);
     let mut g = Group {
@@ -325,7 +352,8 @@ fn make_group(
 
 // The states after a node, where m are those of its parent and `row` the steps that its label passes beside those that all labels pass.
 fn next_states(deep: u64, every: u64, row: u64, m: u64) -> u64
-    ensures { λ r. ⌜ ((number : List ℕ → ℕ) (ss : List Step) (st : List Bool) (rows x : List ℕ) → Packed number ss deep every rows → length ss ≤ 63 → row ≡ getD rows (number x) 0 → m ≡ value st → r ≡ value (moved ss st x)) ⌝ }
+    ensures { λ r. ⌜ ((number : List ℕ → ℕ) (ss : List Step) (st : List Bool) (rows x : List ℕ) → Packed number ss deep every rows → length ss ≤ 63
+        → row ≡ getD rows (number x) 0 → m ≡ value st → r ≡ value (moved ss st x)) ⌝ }
 {
     (m & deep) | ((m & (every | row)) << 1)
 }
@@ -369,8 +397,12 @@ fn try_group(
     rows: &mut [u64],
     out: &mut [u8],
 )
-    requires { ⌜ Ready (now policy) (now own) (now words) count × (from ≤ to) × (to ≤ ruleCount (now policy)) × (bitOk right ≡ true) × (length (laid (laneAt (now policy) (now own) (now roles) right) from (to - from)) ≤ 63) × (length (now rows) ≡ 2113) × Numbered (now policy) (now words) count (now t) n (now numbers) × (n ≤ length (now out)) ⌝ }
-    ensures { λ _. ⌜ (length (now (rows .exit)) ≡ 2113) × Each n (now (out .entry)) (now (out .exit)) (λ (i x : ℕ). ruled (laneAt (now (policy .entry)) (now (own .entry)) (now (roles .entry)) right) right (chainOf (now (t .entry)) i) from (to - from) x) ⌝ }
+    requires { ⌜ Ready (now policy) (now own) (now words) count × (from ≤ to) × (to ≤ ruleCount (now policy)) × (bitOk right ≡ true)
+        × (length (laid (laneAt (now policy) (now own) (now roles) right) from (to - from)) ≤ 63) × (length (now rows) ≡ 2113)
+        × Numbered (now policy) (now words) count (now t) n (now numbers) × (n ≤ length (now out)) ⌝ }
+    ensures { λ _. ⌜ (length (now (rows .exit)) ≡ 2113) × Each n (now (out .entry)) (now (out .exit))
+        (λ (i x : ℕ). ruled (laneAt (now (policy .entry)) (now (own .entry)) (now (roles .entry)) right) right (chainOf (now (t .entry)) i) from
+        (to - from) x) ⌝ }
 {
     let g = make_group(policy, own, words, count, roles, right, from, to, rows);
     if g.used == 0 {
@@ -429,7 +461,8 @@ fn general_end(policy: &[u8], roles: &[u8; 64], right: u8, count: usize) -> usiz
 // Sets or clears a right on the first n nodes.
 fn rule_all(right: u8, accept: bool, n: usize, out: &mut [u8])
     requires { ⌜ n ≤ length (now out) ⌝ }
-    ensures { λ _. ⌜ Each n (now (out .entry)) (now (out .exit)) (λ (i x : ℕ). withRule x right accept) × ((i : ℕ) → i < n → getD (now (out .entry)) i 0 < 256) ⌝ }
+    ensures { λ _. ⌜ Each n (now (out .entry)) (now (out .exit)) (λ (i x : ℕ). withRule x right accept)
+        × ((i : ℕ) → i < n → getD (now (out .entry)) i 0 < 256) ⌝ }
 {
     let mut i = 0;
     while i < n {
@@ -448,8 +481,10 @@ fn try_general(
     n: usize,
     out: &mut [u8],
 )
-    requires { ⌜ Sound (now policy) × (bitOk right ≡ true) × (k ≤ ruleCount (now policy)) × (0 < k → (own : List ℕ) → General (laneAt (now policy) own (now roles) right (k - 1))) × (n ≤ length (now out)) ⌝ }
-    ensures { λ _. ⌜ ((own : List ℕ) → Each n (now (out .entry)) (now (out .exit)) (λ (i x : ℕ). ruled (laneAt (now (policy .entry)) own (now (roles .entry)) right) right (chainOf (now (t .entry)) i) 0 k x)) ⌝ }
+    requires { ⌜ Sound (now policy) × (bitOk right ≡ true) × (k ≤ ruleCount (now policy))
+        × (0 < k → (own : List ℕ) → General (laneAt (now policy) own (now roles) right (k - 1))) × (n ≤ length (now out)) ⌝ }
+    ensures { λ _. ⌜ ((own : List ℕ) → Each n (now (out .entry)) (now (out .exit))
+        (λ (i x : ℕ). ruled (laneAt (now (policy .entry)) own (now (roles .entry)) right) right (chainOf (now (t .entry)) i) 0 k x)) ⌝ }
 {
     if k == 0 {
         return;
@@ -472,8 +507,11 @@ fn try_right(
     rows: &mut [u64],
     out: &mut [u8],
 )
-    requires { ⌜ Ready (now policy) (now own) (now words) count × (bitOk right ≡ true) × (length (now rows) ≡ 2113) × Numbered (now policy) (now words) count (now t) n (now numbers) × (n ≤ length (now out)) ⌝ }
-    ensures { λ _. ⌜ (length (now (rows .exit)) ≡ 2113) × Each n (now (out .entry)) (now (out .exit)) (λ (i x : ℕ). ruled (laneAt (now (policy .entry)) (now (own .entry)) (now (roles .entry)) right) right (chainOf (now (t .entry)) i) 0 (ruleCount (now (policy .entry))) x) ⌝ }
+    requires { ⌜ Ready (now policy) (now own) (now words) count × (bitOk right ≡ true) × (length (now rows) ≡ 2113)
+        × Numbered (now policy) (now words) count (now t) n (now numbers) × (n ≤ length (now out)) ⌝ }
+    ensures { λ _. ⌜ (length (now (rows .exit)) ≡ 2113) × Each n (now (out .entry)) (now (out .exit))
+        (λ (i x : ℕ). ruled (laneAt (now (policy .entry)) (now (own .entry)) (now (roles .entry)) right) right (chainOf (now (t .entry)) i) 0
+        (ruleCount (now (policy .entry))) x) ⌝ }
 {
     let rules = wide(policy[2]);
     let mut k = general_end(policy, roles, right, rules);
@@ -514,8 +552,11 @@ fn try_asked(
     rows: &mut [u64],
     out: &mut [u8],
 )
-    requires { ⌜ Ready (now policy) (now own) (now words) count × (bitOk right ≡ true) × (length (now rows) ≡ 2113) × Numbered (now policy) (now words) count (now t) n (now numbers) × (n ≤ length (now out)) ⌝ }
-    ensures { λ _. ⌜ (length (now (rows .exit)) ≡ 2113) × Each n (now (out .entry)) (now (out .exit)) (λ (i x : ℕ). cond (eqb (asked / right % 2) 1) (byRight (now (policy .entry)) (now (own .entry)) (now (roles .entry)) (chainOf (now (t .entry)) i) right x) x) ⌝ }
+    requires { ⌜ Ready (now policy) (now own) (now words) count × (bitOk right ≡ true) × (length (now rows) ≡ 2113)
+        × Numbered (now policy) (now words) count (now t) n (now numbers) × (n ≤ length (now out)) ⌝ }
+    ensures { λ _. ⌜ (length (now (rows .exit)) ≡ 2113) × Each n (now (out .entry)) (now (out .exit))
+        (λ (i x : ℕ). cond (eqb (asked / right % 2) 1) (byRight (now (policy .entry)) (now (own .entry)) (now (roles .entry))
+        (chainOf (now (t .entry)) i) right x) x) ⌝ }
 {
     if holds_right(asked, right) {
         try_right(
@@ -548,8 +589,10 @@ pub fn try_rights(
     rows: &mut [u64],
     out: &mut [u8],
 )
-    requires { ⌜ Ready (now policy) (now own) (now words) count × (length (now rows) ≡ 2113) × Numbered (now policy) (now words) count (now t) n (now numbers) × (n ≤ length (now out)) ⌝ }
-    ensures { λ _. ⌜ Each n (now (out .entry)) (now (out .exit)) (λ (i x : ℕ). byFive (now (policy .entry)) (now (own .entry)) (now (roles .entry)) (chainOf (now (t .entry)) i) asked x) ⌝ }
+    requires { ⌜ Ready (now policy) (now own) (now words) count × (length (now rows) ≡ 2113)
+        × Numbered (now policy) (now words) count (now t) n (now numbers) × (n ≤ length (now out)) ⌝ }
+    ensures { λ _. ⌜ Each n (now (out .entry)) (now (out .exit))
+        (λ (i x : ℕ). byFive (now (policy .entry)) (now (own .entry)) (now (roles .entry)) (chainOf (now (t .entry)) i) asked x) ⌝ }
 {
     try_asked(
         asked,

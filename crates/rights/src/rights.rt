@@ -44,8 +44,11 @@ fn rights_of(
     asked: u8,
     out: &mut [u8],
 )
-    requires { ⌜ Sound (now policy) × ((k : ℕ) → k < ruleCount (now policy) → bitOk (rightBit (now policy) k) ≡ true) × Roles (now policy) u (now roles) × (4 + n * 32 ≤ length (now t)) × (recordsOk 0 0 (recordsFrom (now t) n 0) ≡ true) × (n ≤ 16384) × (n ≤ length (now out)) ⌝ }
-    ensures { λ _. ⌜ now (out .exit) ≡ askedOn asked (policyOf (now (policy .entry))) u (recordsFrom (now (t .entry)) n 0) ++ drop n (now (out .entry)) ⌝ }
+    requires { ⌜ Sound (now policy) × ((k : ℕ) → k < ruleCount (now policy) → bitOk (rightBit (now policy) k) ≡ true)
+        × Roles (now policy) u (now roles) × (4 + n * 32 ≤ length (now t)) × (recordsOk 0 0 (recordsFrom (now t) n 0) ≡ true) × (n ≤ 16384)
+        × (n ≤ length (now out)) ⌝ }
+    ensures { λ _. ⌜ now (out .exit) ≡ askedOn asked (policyOf (now (policy .entry))) u (recordsFrom (now (t .entry)) n 0) ++ drop n
+        (now (out .entry)) ⌝ }
 {
     let mut subjects = [0u8; SUBJECTS_MAX];
     let m = own_subjects(policy, u, roles, &mut subjects);
@@ -73,8 +76,10 @@ fn rights_of(
 
 // Writes the asked ones of the rights that subject u has on each node of a table: one byte a node, one bit a right.
 pub fn asked_on(policy: &[u8], u: usize, table: &[u8], asked: u8, out: &mut [u8])
-    requires { ⌜ (policyOk (now policy) ≡ true) × (u < subjectCount (now policy)) × (tableOk (now table) ≡ true) × (count (now table) ≤ length (now out)) ⌝ }
-    ensures { λ _. ⌜ now (out .exit) ≡ askedOn asked (policyOf (now (policy .entry))) u (records (now (table .entry))) ++ drop (count (now (table .entry))) (now (out .entry)) ⌝ }
+    requires { ⌜ (policyOk (now policy) ≡ true) × (u < subjectCount (now policy)) × (tableOk (now table) ≡ true)
+        × (count (now table) ≤ length (now out)) ⌝ }
+    ensures { λ _. ⌜ now (out .exit) ≡ askedOn asked (policyOf (now (policy .entry))) u (records (now (table .entry))) ++ drop
+        (count (now (table .entry))) (now (out .entry)) ⌝ }
 {
     let roles = roles_of(policy, u);
     let n = count_of(table);
@@ -83,8 +88,10 @@ pub fn asked_on(policy: &[u8], u: usize, table: &[u8], asked: u8, out: &mut [u8]
 
 // Writes the rights that subject u has on each node of a table.
 pub fn rights_on(policy: &[u8], u: usize, table: &[u8], out: &mut [u8])
-    requires { ⌜ (policyOk (now policy) ≡ true) × (u < subjectCount (now policy)) × (tableOk (now table) ≡ true) × (count (now table) ≤ length (now out)) ⌝ }
-    ensures { λ _. ⌜ now (out .exit) ≡ rightsOn (policyOf (now (policy .entry))) u (records (now (table .entry))) ++ drop (count (now (table .entry))) (now (out .entry)) ⌝ }
+    requires { ⌜ (policyOk (now policy) ≡ true) × (u < subjectCount (now policy)) × (tableOk (now table) ≡ true)
+        × (count (now table) ≤ length (now out)) ⌝ }
+    ensures { λ _. ⌜ now (out .exit) ≡ rightsOn (policyOf (now (policy .entry))) u (records (now (table .entry))) ++ drop (count (now (table .entry)))
+        (now (out .entry)) ⌝ }
 {
     asked_on(policy, u, table, ALL_RIGHTS, out);
 }

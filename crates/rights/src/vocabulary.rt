@@ -116,7 +116,8 @@ fn insert_word(words: &mut [u32], n: usize, i: usize, at: usize)
 // Adds the text of the record at byte `at` of the policy, where it is new; how many words there are now.
 pub fn add_word(policy: &[u8], words: &mut [u32], n: usize, at: usize) -> usize
     requires { ⌜ Words (now policy) (now words) n × (n < 2112) × Text (now policy) at × (at < 4294967296) ⌝ }
-    ensures { λ r. ⌜ Added (now (policy .entry)) (now (words .entry)) n (now (words .exit)) r (λ (x : List ℕ). sameLabel x (label (recAt (now (policy .entry)) at))) × (r ≤ n + 1) ⌝ }
+    ensures { λ r. ⌜ Added (now (policy .entry)) (now (words .entry)) n (now (words .exit)) r
+        (λ (x : List ℕ). sameLabel x (label (recAt (now (policy .entry)) at))) × (r ≤ n + 1) ⌝ }
 {
     let Spot::Missing(i) = search(policy, &words[..], n, policy, at) else {
         return n;
@@ -128,7 +129,8 @@ pub fn add_word(policy: &[u8], words: &mut [u32], n: usize, at: usize) -> usize
 // Adds the label that the step at byte `at` names, if it names one.
 fn add_step(policy: &[u8], words: &mut [u32], n: usize, at: usize) -> usize
     requires { ⌜ Words (now policy) (now words) n × (n < 2112) × Text (now policy) at × (at < 4294967296) ⌝ }
-    ensures { λ r. ⌜ Added (now (policy .entry)) (now (words .entry)) n (now (words .exit)) r (λ (x : List ℕ). uses false x (stepOf (recAt (now (policy .entry)) at))) × (r ≤ n + 1) ⌝ }
+    ensures { λ r. ⌜ Added (now (policy .entry)) (now (words .entry)) n (now (words .exit)) r
+        (λ (x : List ℕ). uses false x (stepOf (recAt (now (policy .entry)) at))) × (r ≤ n + 1) ⌝ }
 {
     let first = policy[at + LABEL_AT];
     if first == b'*' {
@@ -143,7 +145,8 @@ fn add_step(policy: &[u8], words: &mut [u32], n: usize, at: usize) -> usize
 // Adds the labels that the count steps at byte b name.
 fn add_path(policy: &[u8], b: usize, count: usize, words: &mut [u32], n: usize) -> usize
     requires { ⌜ Steps (now policy) b count × Words (now policy) (now words) n × (n + count ≤ 2112) × (b + 512 < 4294967296) ⌝ }
-    ensures { λ r. ⌜ Added (now (policy .entry)) (now (words .entry)) n (now (words .exit)) r (λ (x : List ℕ). some (uses false x) (stepsFrom (now (policy .entry)) b count 0)) × (r ≤ n + count) ⌝ }
+    ensures { λ r. ⌜ Added (now (policy .entry)) (now (words .entry)) n (now (words .exit)) r
+        (λ (x : List ℕ). some (uses false x) (stepsFrom (now (policy .entry)) b count 0)) × (r ≤ n + count) ⌝ }
 {
     let mut next = n;
     let mut j = 0;
@@ -157,7 +160,8 @@ fn add_path(policy: &[u8], b: usize, count: usize, words: &mut [u32], n: usize) 
 // Adds the labels that rule k names.
 fn add_rule(policy: &[u8], k: usize, words: &mut [u32], n: usize) -> usize
     requires { ⌜ Sound (now policy) × (k < ruleCount (now policy)) × Words (now policy) (now words) n × (n + 16 ≤ 2112) ⌝ }
-    ensures { λ r. ⌜ Added (now (policy .entry)) (now (words .entry)) n (now (words .exit)) r (λ (x : List ℕ). some (uses false x) (pathOf (now (policy .entry)) k)) × (r ≤ n + 16) ⌝ }
+    ensures { λ r. ⌜ Added (now (policy .entry)) (now (words .entry)) n (now (words .exit)) r
+        (λ (x : List ℕ). some (uses false x) (pathOf (now (policy .entry)) k)) × (r ≤ n + 16) ⌝ }
 {
     let a = RULES_AT + k * RULE_BYTES;
     let count = wide(policy[a + 3]);
@@ -182,7 +186,8 @@ pub fn add_rules(policy: &[u8], words: &mut [u32], n: usize) -> usize
 // Adds the names of these subjects.
 fn add_own(policy: &[u8], own: &[u8], words: &mut [u32], n: usize) -> usize
     requires { ⌜ Sound (now policy) × Subjects (now policy) (now own) × Words (now policy) (now words) n × (n + 64 ≤ 2112) ⌝ }
-    ensures { λ r. ⌜ Added (now (policy .entry)) (now (words .entry)) n (now (words .exit)) r (nameAmong (now (policy .entry)) (now (own .entry))) × (r ≤ n + 64) ⌝ }
+    ensures { λ r. ⌜ Added (now (policy .entry)) (now (words .entry)) n (now (words .exit)) r (nameAmong (now (policy .entry)) (now (own .entry)))
+        × (r ≤ n + 64) ⌝ }
 {
     let mut next = n;
     let mut i = 0;
@@ -220,8 +225,10 @@ pub fn number_nodes(
     n: usize,
     numbers: &mut [u16],
 )
-    requires { ⌜ Words (now policy) (now words) count × (4 + n * 32 ≤ length (now t)) × (recordsOk 0 0 (recordsFrom (now t) n 0) ≡ true) × (n ≤ length (now numbers)) ⌝ }
-    ensures { λ _. ⌜ Each n (now (numbers .entry)) (now (numbers .exit)) (λ (i x : ℕ). numberIn (now (policy .entry)) (now (words .entry)) count (label (recordAt (now (t .entry)) i))) ⌝ }
+    requires { ⌜ Words (now policy) (now words) count × (4 + n * 32 ≤ length (now t)) × (recordsOk 0 0 (recordsFrom (now t) n 0) ≡ true)
+        × (n ≤ length (now numbers)) ⌝ }
+    ensures { λ _. ⌜ Each n (now (numbers .entry)) (now (numbers .exit))
+        (λ (i x : ℕ). numberIn (now (policy .entry)) (now (words .entry)) count (label (recordAt (now (t .entry)) i))) ⌝ }
 {
     let mut i = 0;
     while i < n {

@@ -164,7 +164,8 @@ fn run(
     area: &mut [u8],
     f: Form,
 ) -> Answer
-    requires { ⌜ (storeOk (now state) (now table) ≡ true) × (lineOk (now line) ≡ true) × (f ≡ readForm (now line)) × (inStage (stageOf f) (stage (now state)) ≡ true)
+    requires { ⌜ (storeOk (now state) (now table) ≡ true) × (lineOk (now line) ≡ true) × (f ≡ readForm (now line))
+        × (inStage (stageOf f) (stage (now state)) ≡ true)
         × (now tree ≡ pasted (replicate 16384 0) 0 (recordsOf (treeIn (now line)))) ⌝ }
     ensures { λ r. ⌜ Performs (workOf chosen f (now (state .entry)) (now (table .entry)) (now (line .entry)) (recordsOf (treeIn (now (line .entry)))))
         (now (state .entry)) (now (table .entry)) (now (area .entry)) r (now (state .exit)) (now (table .exit)) (now (area .exit)) ⌝ }

@@ -145,7 +145,8 @@ pub extern "C" fn trial_select(
     path: &[u8],
     marks: &mut [u8],
 ) -> i64
-    ensures { λ r. ⌜ SelectionTried (now (policy .entry)) u (now (table .entry)) (now (shown .entry)) (now (path .entry)) (now (marks .entry)) (now (marks .exit)) r ⌝ }
+    ensures { λ r. ⌜ SelectionTried (now (policy .entry)) u (now (table .entry)) (now (shown .entry)) (now (path .entry)) (now (marks .entry))
+        (now (marks .exit)) r ⌝ }
 {
     if may_select(policy, u, table, shown, marks.len()) {
         let Read::At(_) = check_path(path) else {

@@ -83,7 +83,8 @@ fn next_of(j: usize, stands: bool, n: usize) -> usize
 // Writes the marks of the k shown nodes to the places of their records, of n; no other record is marked.
 pub fn mark_records(shown: &[u16], k: usize, marks: &[u8], n: usize, selected: &mut [u8])
     requires { ⌜ (k ≤ length (now shown)) × (n ≤ length (now selected)) ⌝ }
-    ensures { λ _. ⌜ now (selected .exit) ≡ map bit (byNumbers (take k (now (shown .entry))) (marksOf (now (marks .entry))) n 0) ++ drop n (now (selected .entry)) ⌝ }
+    ensures { λ _. ⌜ now (selected .exit) ≡ map bit (byNumbers (take k (now (shown .entry))) (marksOf (now (marks .entry))) n 0) ++ drop n
+        (now (selected .entry)) ⌝ }
 {
     let mut j = 0;
     let mut i = 0;
@@ -98,7 +99,8 @@ pub fn mark_records(shown: &[u16], k: usize, marks: &[u8], n: usize, selected: &
 // Writes v at every deeper level than this one: what the children of a node at this level find.
 fn pass_down(slots: &mut [u8; 16], level: usize, v: u8)
     requires { ⌜ length (now slots) ≡ 16 ⌝ }
-    ensures { λ _. ⌜ (length (now (slots .exit)) ≡ 16) × ((l : ℕ) → l < 16 → getD (now (slots .exit)) l 0 ≡ cond (ltb level l) v (getD (now (slots .entry)) l 0)) ⌝ }
+    ensures { λ _. ⌜ (length (now (slots .exit)) ≡ 16) × ((l : ℕ) → l < 16
+        → getD (now (slots .exit)) l 0 ≡ cond (ltb level l) v (getD (now (slots .entry)) l 0)) ⌝ }
 {
     let mut l = level;
     while l < LAST_SLOT {
@@ -146,7 +148,8 @@ fn is_renamable(
     set: u8,
 ) -> bool
     requires { ⌜ PolicyWords (now policy) (now words) k × Text (now table) (4 + i * 32) ⌝ }
-    ensures { λ r. ⌜ r ≡ (concerned && (holds read set && (holds update set && not (policyWord (policyOf (now (policy .entry))) (label (recordAt (now (table .entry)) i)))))) ⌝ }
+    ensures { λ r. ⌜ r ≡ (concerned && (holds read set && (holds update set && not
+        (policyWord (policyOf (now (policy .entry))) (label (recordAt (now (table .entry)) i)))))) ⌝ }
 {
     if concerned {
         if holds_right(set, READ) {
@@ -175,7 +178,16 @@ fn is_done(
     granting: bool,
 ) -> bool
     requires { ⌜ PolicyWords (now policy) (now words) k × Text (now table) (4 + i * 32) ⌝ }
-    ensures { λ r. ⌜ r ≡ does change (record { level = level; rights = set; shown = shown; selected = selected; word = policyWord (policyOf (now (policy .entry))) (label (recordAt (now (table .entry)) i)); parentSelected = chosen; parentInsert = granting }) ⌝ }
+    ensures { λ r. ⌜ r ≡ does change (record {
+      level = level;
+      rights = set;
+      shown = shown;
+      selected = selected;
+      word = policyWord
+          (policyOf (now (policy .entry))) (label (recordAt (now (table .entry)) i));
+      parentSelected = chosen;
+      parentInsert = granting;
+    }) ⌝ }
 {
     match change {
         Change::Rename => is_renamable(selected, policy, words, k, table, i, set),
@@ -199,8 +211,10 @@ fn mark_by_words(
     selected: &[u8],
     done: &mut [u8],
 )
-    requires { ⌜ PolicyWords (now policy) (now words) k × (tableOk (now table) ≡ true) × (count (now table) ≤ length (now rights)) × (count (now table) ≤ length (now selected)) × (count (now table) ≤ length (now done)) ⌝ }
-    ensures { λ _. ⌜ now (done .exit) ≡ map bit (doneMarks change (policyWord (policyOf (now (policy .entry)))) (now (table .entry)) (now (rights .entry)) (marksOf (now (selected .entry)))) ++ drop (count (now (table .entry))) (now (done .entry)) ⌝ }
+    requires { ⌜ PolicyWords (now policy) (now words) k × (tableOk (now table) ≡ true) × (count (now table) ≤ length (now rights))
+        × (count (now table) ≤ length (now selected)) × (count (now table) ≤ length (now done)) ⌝ }
+    ensures { λ _. ⌜ now (done .exit) ≡ map bit (doneMarks change (policyWord (policyOf (now (policy .entry)))) (now (table .entry))
+        (now (rights .entry)) (marksOf (now (selected .entry)))) ++ drop (count (now (table .entry))) (now (done .entry)) ⌝ }
 {
     let n = count_of(table);
     let mut chosen = [0u8; 16];
@@ -246,8 +260,10 @@ pub fn mark_done(
     selected: &[u8],
     done: &mut [u8],
 )
-    requires { ⌜ (policyOk (now policy) ≡ true) × (tableOk (now table) ≡ true) × (count (now table) ≤ length (now rights)) × (count (now table) ≤ length (now selected)) × (count (now table) ≤ length (now done)) ⌝ }
-    ensures { λ _. ⌜ now (done .exit) ≡ map bit (doneMarks change (policyWord (policyOf (now (policy .entry)))) (now (table .entry)) (now (rights .entry)) (marksOf (now (selected .entry)))) ++ drop (count (now (table .entry))) (now (done .entry)) ⌝ }
+    requires { ⌜ (policyOk (now policy) ≡ true) × (tableOk (now table) ≡ true) × (count (now table) ≤ length (now rights))
+        × (count (now table) ≤ length (now selected)) × (count (now table) ≤ length (now done)) ⌝ }
+    ensures { λ _. ⌜ now (done .exit) ≡ map bit (doneMarks change (policyWord (policyOf (now (policy .entry)))) (now (table .entry))
+        (now (rights .entry)) (marksOf (now (selected .entry)))) ++ drop (count (now (table .entry))) (now (done .entry)) ⌝ }
 {
     let mut words = [0u32; WORDS_MAX];
     let k = sort_policy_words(policy, &mut words);

@@ -127,8 +127,10 @@ fn take_record(
 ) -> At
     requires { ⌜ (w ≤ gap + i) × (4 + (gap + i) * 32 + 32 ≤ length (now t)) × (i < length (now marks)) × (d < length (now st)) ⌝ }
     ensures { λ r. ⌜ (r .i ≡ i + 1) × (r .w ≡ w + 1) × (r .d ≤ d + 1)
-        × (stack (r .d) (now (st .exit)) ≡ cond (not (eqb (getD (now (marks .entry)) i 0) 0)) (l ∷ stack d (now (st .entry))) (stack d (now (st .entry)))) ⌝ }
-    ensures { λ _. ⌜ (take (4 + w * 32 + 32) (now (t .exit)) ≡ take (4 + w * 32) (now (t .entry)) ++ take 32 (drop (4 + (gap + i) * 32) (now (t .entry))))
+        × (stack (r .d) (now (st .exit)) ≡ cond (not (eqb (getD (now (marks .entry)) i 0) 0)) (l ∷ stack d (now (st .entry)))
+        (stack d (now (st .entry)))) ⌝ }
+    ensures { λ _. ⌜ (take (4 + w * 32 + 32) (now (t .exit)) ≡ take (4 + w * 32) (now (t .entry)) ++ take 32
+        (drop (4 + (gap + i) * 32) (now (t .entry))))
         × (drop (4 + (gap + i) * 32 + 32) (now (t .exit)) ≡ drop (4 + (gap + i) * 32 + 32) (now (t .entry))) ⌝ }
 {
     move_record(
@@ -183,9 +185,11 @@ fn turn(
 // Puts the tree behind every marked record and all below it. The records stand `gap` records after their place.
 fn spread(t: &mut [u8], marks: &[u8], tree: &[u8], m: usize, up: u8, n: usize, gap: usize)
     requires { ⌜ (Fixed n gap m (now t) (now marks) (now tree)) × (up ≤ 1) ⌝ }
-    requires { ⌜ (Under level 12 (rest n gap 0 (now t))) × (AtDone (λ r. Shallow up m (now tree) (level r)) (marksOf (now marks)) (rest n gap 0 (now t)))
+    requires { ⌜ (Under level 12 (rest n gap 0 (now t))) × (AtDone (λ r. Shallow up m (now tree) (level r)) (marksOf (now marks))
+        (rest n gap 0 (now t)))
         × (length (behind up m (now tree) (now marks) (rest n gap 0 (now t))) ≡ n + gap) ⌝ }
-    ensures { λ _. ⌜ chunks (n + gap) (drop 4 (now (t .exit))) ≡ behind up m (now (tree .entry)) (now (marks .entry)) (rest n gap 0 (now (t .entry))) ⌝ }
+    ensures { λ _. ⌜ chunks (n + gap) (drop 4 (now (t .exit))) ≡ behind up m (now (tree .entry)) (now (marks .entry))
+        (rest n gap 0 (now (t .entry))) ⌝ }
 {
     let mut st: [u8; 12] = [0; 12];
     let mut i = 0;
@@ -212,7 +216,8 @@ fn tree_in_front(
 ) -> usize
     requires { ⌜ (w ≤ gap + i) × (4 + (gap + i) * 32 ≤ length (now t)) × (m * 32 ≤ length (now tree)) × (i < length (now marks)) ⌝ }
     requires { ⌜ ((getD (now marks) i 0 ≡ 0 → ⊥) → w + m ≤ gap + i) × ((getD (now marks) i 0 ≡ 0 → ⊥) → Shallow 0 m (now tree) l) ⌝ }
-    ensures { λ r. ⌜ (r ≤ gap + i) × (chunks r (drop 4 (now (t .exit))) ≡ chunks w (drop 4 (now (t .entry))) ++ cond (not (eqb (getD (now (marks .entry)) i 0) 0)) (raise l (chunks m (now (tree .entry)))) [])
+    ensures { λ r. ⌜ (r ≤ gap + i) × (chunks r (drop 4 (now (t .exit))) ≡ chunks w (drop 4 (now (t .entry))) ++ cond
+        (not (eqb (getD (now (marks .entry)) i 0) 0)) (raise l (chunks m (now (tree .entry)))) [])
         × (drop (4 + (gap + i) * 32) (now (t .exit)) ≡ drop (4 + (gap + i) * 32) (now (t .entry))) ⌝ }
 {
     if marks[i] != 0 {
@@ -236,8 +241,10 @@ fn step_front(
     requires { ⌜ Fixed n gap m (now t) (now marks) (now tree) ⌝ }
     requires { ⌜ (i < n) × (AtDone (λ r. Shallow 0 m (now tree) (level r)) (marksOf (drop i (now marks))) (rest n gap i (now t)))
         × (length (passingFront n gap m (now tree) (now marks) i w (now t)) ≡ n + gap) ⌝ }
-    ensures { λ r. ⌜ (AtDone (λ r. Shallow 0 m (now (tree .entry)) (level r)) (marksOf (drop (i + 1) (now (marks .entry)))) (rest n gap (i + 1) (now (t .exit))))
-        × (passingFront n gap m (now (tree .entry)) (now (marks .entry)) (i + 1) r (now (t .exit)) ≡ passingFront n gap m (now (tree .entry)) (now (marks .entry)) i w (now (t .entry))) ⌝ }
+    ensures { λ r. ⌜ (AtDone (λ r. Shallow 0 m (now (tree .entry)) (level r)) (marksOf (drop (i + 1) (now (marks .entry))))
+        (rest n gap (i + 1) (now (t .exit))))
+        × (passingFront n gap m (now (tree .entry)) (now (marks .entry)) (i + 1) r (now (t .exit)) ≡ passingFront n gap m (now (tree .entry))
+        (now (marks .entry)) i w (now (t .entry))) ⌝ }
 {
     let at = COUNT_BYTES + (gap + i) * RECORD_BYTES;
     let l = t[at];
@@ -251,7 +258,8 @@ fn spread_front(t: &mut [u8], marks: &[u8], tree: &[u8], m: usize, n: usize, gap
     requires { ⌜ Fixed n gap m (now t) (now marks) (now tree) ⌝ }
     requires { ⌜ (AtDone (λ r. Shallow 0 m (now tree) (level r)) (marksOf (now marks)) (rest n gap 0 (now t)))
         × (length (inFront m (now tree) (now marks) (rest n gap 0 (now t))) ≡ n + gap) ⌝ }
-    ensures { λ _. ⌜ chunks (n + gap) (drop 4 (now (t .exit))) ≡ inFront m (now (tree .entry)) (now (marks .entry)) (rest n gap 0 (now (t .entry))) ⌝ }
+    ensures { λ _. ⌜ chunks (n + gap) (drop 4 (now (t .exit))) ≡ inFront m (now (tree .entry)) (now (marks .entry))
+        (rest n gap 0 (now (t .entry))) ⌝ }
 {
     let mut i = 0;
     let mut w = 0;
@@ -264,9 +272,11 @@ fn spread_front(t: &mut [u8], marks: &[u8], tree: &[u8], m: usize, n: usize, gap
 // One of the two passes, by the place.
 fn spread_by(t: &mut [u8], marks: &[u8], tree: &[u8], m: usize, place: Place, n: usize, gap: usize)
     requires { ⌜ Fixed n gap m (now t) (now marks) (now tree) ⌝ }
-    requires { ⌜ (Under level 12 (rest n gap 0 (now t))) × (AtDone (λ r. Shallow (lower place) m (now tree) (level r)) (marksOf (now marks)) (rest n gap 0 (now t)))
+    requires { ⌜ (Under level 12 (rest n gap 0 (now t))) × (AtDone (λ r. Shallow (lower place) m (now tree) (level r)) (marksOf (now marks))
+        (rest n gap 0 (now t)))
         × (length (placed place m (now tree) (now marks) (rest n gap 0 (now t))) ≡ n + gap) ⌝ }
-    ensures { λ _. ⌜ chunks (n + gap) (drop 4 (now (t .exit))) ≡ placed place m (now (tree .entry)) (now (marks .entry)) (rest n gap 0 (now (t .entry))) ⌝ }
+    ensures { λ _. ⌜ chunks (n + gap) (drop 4 (now (t .exit))) ≡ placed place m (now (tree .entry)) (now (marks .entry))
+        (rest n gap 0 (now (t .entry))) ⌝ }
 {
     match place {
         Place::Append => spread(t, marks, tree, m, 1, n, gap),
@@ -278,9 +288,11 @@ fn spread_by(t: &mut [u8], marks: &[u8], tree: &[u8], m: usize, place: Place, n:
 // The insertion into a table with n records and room for `gap` more; the count and the bytes after the records too.
 fn fill(t: &mut [u8], marks: &[u8], tree: &[u8], m: usize, place: Place, n: usize, gap: usize)
     requires { ⌜ Fixed n gap m (now t) (now marks) (now tree) ⌝ }
-    requires { ⌜ (n + gap < 2 ^ 32) × (Under level 12 (chunks n (drop 4 (now t)))) × (AtDone (λ r. Shallow (lower place) m (now tree) (level r)) (marksOf (now marks)) (chunks n (drop 4 (now t))))
+    requires { ⌜ (n + gap < 2 ^ 32) × (Under level 12 (chunks n (drop 4 (now t))))
+        × (AtDone (λ r. Shallow (lower place) m (now tree) (level r)) (marksOf (now marks)) (chunks n (drop 4 (now t))))
         × (length (placed place m (now tree) (now marks) (chunks n (drop 4 (now t)))) ≡ n + gap) ⌝ }
-    ensures { λ _. ⌜ now (t .exit) ≡ changed (now (t .entry)) (placed place m (now (tree .entry)) (now (marks .entry)) (chunks n (drop 4 (now (t .entry))))) ⌝ }
+    ensures { λ _. ⌜ now (t .exit) ≡ changed (now (t .entry))
+        (placed place m (now (tree .entry)) (now (marks .entry)) (chunks n (drop 4 (now (t .entry))))) ⌝ }
 {
     shift_up(
         t,
@@ -296,7 +308,8 @@ fn fill(t: &mut [u8], marks: &[u8], tree: &[u8], m: usize, place: Place, n: usiz
 // Inserts the tree of m records at every marked record, where no level comes above 11 (refusal 10) and there is room (refusal 11).
 pub fn insert_marked(t: &mut [u8], marks: &[u8], tree: &[u8], m: usize, place: Place)
     requires { ⌜ (tableOk (now t) ≡ true) × (count (now t) ≤ length (now marks)) × (m * 32 ≤ length (now tree)) ⌝ }
-    requires { ⌜ (tooDeep (lower place + deepest (chunks m (now tree))) (marksOf (now marks)) (records (now t)) ≡ false) × (hasRoom (now t) (now marks) m ≡ true) ⌝ }
+    requires { ⌜ (tooDeep (lower place + deepest (chunks m (now tree))) (marksOf (now marks)) (records (now t)) ≡ false)
+        × (hasRoom (now t) (now marks) m ≡ true) ⌝ }
     ensures { λ _. ⌜ now (t .exit) ≡ changed (now (t .entry)) (placed place m (now (tree .entry)) (now (marks .entry)) (records (now (t .entry)))) ⌝ }
 {
     let n = count_of(t);

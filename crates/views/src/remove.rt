@@ -24,7 +24,8 @@ struct Kept {
 
 // Takes record i.
 fn step(t: &mut [u8], marks: &[u8], n: usize, i: usize, w: usize, cut: u8) -> Kept
-    requires { ⌜ (4 + n * 32 ≤ length (now t)) × (n ≤ length (now marks)) × (i < n) × (w ≤ i) × (Under level 12 (chunks (n - i) (drop (4 + i * 32) (now t)))) ⌝ }
+    requires { ⌜ (4 + n * 32 ≤ length (now t)) × (n ≤ length (now marks)) × (i < n) × (w ≤ i)
+        × (Under level 12 (chunks (n - i) (drop (4 + i * 32) (now t)))) ⌝ }
     ensures { λ r. ⌜ (r .w ≤ i + 1) × (Under level 12 (chunks (n - (i + 1)) (drop (4 + (i + 1) * 32) (now (t .exit)))))
         × (going n (i + 1) (r .w) (r .cut) (now (t .exit)) (now (marks .entry)) ≡ going n i w cut (now (t .entry)) (now (marks .entry))) ⌝ }
 {

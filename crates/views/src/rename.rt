@@ -28,7 +28,8 @@ fn rename_one(t: &mut [u8], marks: &[u8], s: &[u8], from: usize, to: usize, i: u
 // The same for the first n records.
 fn rename_all(t: &mut [u8], marks: &[u8], s: &[u8], from: usize, to: usize, n: usize)
     requires { ⌜ (4 + n * 32 ≤ length (now t)) × (n ≤ length (now marks)) × (from ≤ to) × (to ≤ from + 24) × (to ≤ length (now s)) ⌝ }
-    ensures { λ _. ⌜ (chunks n (drop 4 (now (t .exit))) ≡ renamed (take (to - from) (drop from (now (s .entry)))) (now (marks .entry)) (chunks n (drop 4 (now (t .entry)))))
+    ensures { λ _. ⌜ (chunks n (drop 4 (now (t .exit))) ≡ renamed (take (to - from) (drop from (now (s .entry)))) (now (marks .entry))
+        (chunks n (drop 4 (now (t .entry)))))
         × (take 4 (now (t .exit)) ≡ take 4 (now (t .entry))) × (drop (4 + n * 32) (now (t .exit)) ≡ drop (4 + n * 32) (now (t .entry))) ⌝ }
 {
     let mut i = 0;
@@ -42,7 +43,8 @@ fn rename_all(t: &mut [u8], marks: &[u8], s: &[u8], from: usize, to: usize, n: u
 pub fn rename_marked(t: &mut [u8], marks: &[u8], s: &[u8], from: usize, to: usize)
     requires { ⌜ (tableOk (now t) ≡ true) × (count (now t) ≤ length (now marks)) ⌝ }
     requires { ⌜ (from ≤ to) × (to ≤ from + 24) × (to ≤ length (now s)) ⌝ }
-    ensures { λ _. ⌜ now (t .exit) ≡ changed (now (t .entry)) (renamed (take (to - from) (drop from (now (s .entry)))) (now (marks .entry)) (records (now (t .entry)))) ⌝ }
+    ensures { λ _. ⌜ now (t .exit) ≡ changed (now (t .entry))
+        (renamed (take (to - from) (drop from (now (s .entry)))) (now (marks .entry)) (records (now (t .entry)))) ⌝ }
 {
     let n = count_of(t);
     rename_all(t, marks, s, from, to, n);

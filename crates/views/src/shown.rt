@@ -76,7 +76,9 @@ fn put(shown: &mut [u16], k: usize, keep: bool, x: u16) -> usize
 // The shown ones of the first n nodes, by the depth of the shown chain.
 fn show_first(table: &[u8], n: usize, rights: &[u8], shown: &mut [u16]) -> usize
     requires { ⌜ (4 + n * 32 ≤ length (now table)) × (n ≤ 16384) × (n ≤ length (now rights)) × (n ≤ length (now shown)) ⌝ }
-    ensures { λ r. ⌜ (r ≡ length (numbersFrom 0 (storedFrom 0 (recordsFrom (now (table .entry)) n 0) (now (rights .entry))))) × (now (shown .exit) ≡ numbersFrom 0 (storedFrom 0 (recordsFrom (now (table .entry)) n 0) (now (rights .entry))) ++ drop r (now (shown .entry))) ⌝ }
+    ensures { λ r. ⌜ (r ≡ length (numbersFrom 0 (storedFrom 0 (recordsFrom (now (table .entry)) n 0) (now (rights .entry)))))
+        × (now (shown .exit) ≡ numbersFrom 0 (storedFrom 0 (recordsFrom (now (table .entry)) n 0) (now (rights .entry))) ++ drop r
+        (now (shown .entry))) ⌝ }
 {
     let mut depth = 0;
     let mut k = 0;
@@ -96,7 +98,8 @@ fn show_first(table: &[u8], n: usize, rights: &[u8], shown: &mut [u16]) -> usize
 // Writes the numbers of the shown nodes to the front of `shown` and returns how many there are.
 pub fn show(table: &[u8], rights: &[u8], shown: &mut [u16]) -> usize
     requires { ⌜ (tableOk (now table) ≡ true) × (count (now table) ≤ length (now rights)) × (count (now table) ≤ length (now shown)) ⌝ }
-    ensures { λ r. ⌜ (r ≡ length (shownNumbers (stored (now (table .entry)) (now (rights .entry))))) × (now (shown .exit) ≡ shownNumbers (stored (now (table .entry)) (now (rights .entry))) ++ drop r (now (shown .entry))) ⌝ }
+    ensures { λ r. ⌜ (r ≡ length (shownNumbers (stored (now (table .entry)) (now (rights .entry)))))
+        × (now (shown .exit) ≡ shownNumbers (stored (now (table .entry)) (now (rights .entry))) ++ drop r (now (shown .entry))) ⌝ }
 {
     let n = count_of(table);
     show_first(table, n, rights, shown)

@@ -6,13 +6,21 @@ use Rattle.louvretansy.proofs.timetable_line.Statement.{statement}
 use Rattle.louvretansy.proofs.timetable_line.Tie as tie
 
 cast-result : tie.Need-cast-result
-cast-result c = length-fits (omega (arith, accepted-within (c .before .before .before .before .before .before .before .before .before .line .ensures) (c .before .answer .given .1), c .before .before .before .before .before .before .before .before .before .before .before .before .before .before .before .before .before .good .1 .1 .1 .0 .1))
+cast-result c =
+    let at-answer = c .before in let at-line = at-answer .before .before .before .before .before .before .before .before in
+    let start = at-line .before .before .before .before .before .before .before .before in
+    length-fits (omega (arith, accepted-within (at-line .line .ensures) (at-answer .answer .given .1), start .good .1 .1 .1 .0 .1))
 
 returns : tie.Need-returns
-returns c = accepted (c .before .before .before .before .before .before .before .before .before .line .ensures) (c .before .answer .given .1) (omega (arith, accepted-within (c .before .before .before .before .before .before .before .before .before .line .ensures) (c .before .answer .given .1), c .before .before .before .before .before .before .before .before .before .before .before .before .before .before .before .before .before .good .1 .1 .1 .0 .1))
+returns c =
+    let at-answer = c .before in let at-line = at-answer .before .before .before .before .before .before .before .before in
+    let start = at-line .before .before .before .before .before .before .before .before in
+    accepted (at-line .line .ensures) (at-answer .answer .given .1) (omega (arith, accepted-within (at-line .line .ensures) (at-answer .answer .given .1), start .good .1 .1 .1 .0 .1))
 
 returns-2 : tie.Need-returns-2
-returns-2 c = turned-down (c .before .before .before .before .before .before .before .before .before .before .line .ensures) (c .before .before .answer2 .given .1) (record { sfits = c .refused .ok }) (c .refused .ensures)
+returns-2 c =
+    let at-answer2 = c .before .before in let at-line = at-answer2 .before .before .before .before .before .before .before .before in
+    turned-down (at-line .line .ensures) (at-answer2 .answer2 .given .1) (record { sfits = c .refused .ok }) (c .refused .ensures)
 
 pub timetable-line-spec : {M : Type 1} → statement M
 timetable-line-spec =

@@ -5,7 +5,9 @@ use Rattle.timetable.proofs.answer_line.Statement.{statement}
 use Rattle.timetable.proofs.answer_line.Tie as tie
 
 returns : tie.Need-returns
-returns c = omega (arith, accepted-within (c .before .before .before .before .before .before .before .before .before .line .ensures) (c .before .answer .given .1))
+returns c =
+    let at-answer = c .before in let at-line = at-answer .before .before .before .before .before .before .before .before in
+    omega (arith, accepted-within (at-line .line .ensures) (at-answer .answer .given .1))
 
 pub answer-line-spec : {M : Type 1} → statement M
 answer-line-spec =

@@ -19,13 +19,15 @@ abbrev μ-loop : tie.MeasureT-loop
 
 returns : tie.Need-returns Inv-loop μ-loop
 returns c =
-    sym (c .before .before .before .before .loop .inv .1 ∙ all-stop _ _ _ (c .before .before .before .loop-test .taken) (sym (c .before .is-below .ensures) ∙ not-true _ (c .if1 .taken)))
+    let at-is-below = c .before in let at-test = at-is-below .before .before in let at-loop = at-test .before in
+    sym (at-loop .loop .inv .1 ∙ all-stop _ _ _ (at-test .loop-test .taken) (sym (at-is-below .is-below .ensures) ∙ not-true _ (c .if1 .taken)))
 
 loop-again : tie.Need-loop-again Inv-loop μ-loop
-loop-again c = (
-  omega arith,
-  c .before .before .before .before .loop .inv .1 ∙ all-step _ _ _ (c .before .before .before .loop-test .taken) (sym (c .before .is-below .ensures) ∙ not-false _ (c .if1 .left)),
-)
+loop-again c =
+    let at-is-below = c .before in let at-test = at-is-below .before .before in let at-loop = at-test .before in (
+      omega arith,
+      at-loop .loop .inv .1 ∙ all-step _ _ _ (at-test .loop-test .taken) (sym (at-is-below .is-below .ensures) ∙ not-false _ (c .if1 .left)),
+    )
 
 returns-2 : tie.Need-returns-2 Inv-loop μ-loop
 returns-2 c = sym (c .before .loop .inv .1 ∙ all-end _ _ _ (c .loop-test .left))

@@ -19,15 +19,17 @@ table-ok-requires c κs = search needs
 
 returns : tie.Need-returns
 returns c =
-    let h = c .before .if2 .taken in
-    let e = c .before .before .wide .ensures in
-    c .table-ok .ensures ∙ sym (asks-table _ _ _ (sym (c .before .before .before .before .before .policy-ok .ensures) ∙ c .before .before .before .before .if1 .taken) (rw e at h))
+    let at-if2 = c .before in let at-wide = at-if2 .before in let at-if1 = at-wide .before .before in let at-policy-ok = at-if1 .before in
+    let h = at-if2 .if2 .taken in
+    let e = at-wide .wide .ensures in
+    c .table-ok .ensures ∙ sym (asks-table _ _ _ (sym (at-policy-ok .policy-ok .ensures) ∙ at-if1 .if1 .taken) (rw e at h))
 
 returns-2 : tie.Need-returns-2
 returns-2 c =
+    let at-wide = c .before in let at-if1 = at-wide .before .before in let at-policy-ok = at-if1 .before in
     let h = c .if2 .left in
-    let e = c .before .wide .ensures in
-    sym (asks-no-subject _ _ _ (sym (c .before .before .before .before .policy-ok .ensures) ∙ c .before .before .before .if1 .taken) (rw e at h))
+    let e = at-wide .wide .ensures in
+    sym (asks-no-subject _ _ _ (sym (at-policy-ok .policy-ok .ensures) ∙ at-if1 .if1 .taken) (rw e at h))
 
 returns-3 : tie.Need-returns-3
 returns-3 c = sym (asks-no-policy _ _ _ (sym (c .before .policy-ok .ensures) ∙ c .if1 .left))

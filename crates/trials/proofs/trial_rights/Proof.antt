@@ -15,18 +15,21 @@ rights-on-requires c κs =
 
 count-of-requires : tie.Need-count-of-requires
 count-of-requires c κs =
-    let g = rights-gives _ _ _ _ (sym (c .before .before .before .before .before .may-ask-rights .ensures) ∙ c .before .before .before .before .if1 .taken) in
+    let at-if1 = c .before .before .before .before in let at-may-ask-rights = at-if1 .before in
+    let g = rights-gives _ _ _ _ (sym (at-may-ask-rights .may-ask-rights .ensures) ∙ at-if1 .if1 .taken) in
     table-long _ (asks-gives _ _ _ (g .0) .2)
 
 cast-result : tie.Need-cast-result
 cast-result c =
-    let g = rights-gives _ _ _ _ (sym (c .before .before .before .before .before .before .may-ask-rights .ensures) ∙ c .before .before .before .before .before .if1 .taken) in
+    let at-if1 = c .before .before .before .before .before in let at-may-ask-rights = at-if1 .before in
+    let g = rights-gives _ _ _ _ (sym (at-may-ask-rights .may-ask-rights .ensures) ∙ at-if1 .if1 .taken) in
     let h : c .count-of .result ≤ 16384 = rw (c .count-of .ensures) (table-few _ (asks-gives _ _ _ (g .0) .2)) in
     search needs
 
 returns : tie.Need-returns
 returns c =
-    rights-done _ _ _ _ (sym (c .before .before .before .before .before .before .may-ask-rights .ensures) ∙ c .before .before .before .before .before .if1 .taken) _ (c .count-of .ensures) _ (c .before .before .before .rights-on .ensures)
+    let at-rights-on = c .before .before .before in let at-if1 = at-rights-on .before .before in let at-may-ask-rights = at-if1 .before in
+    rights-done _ _ _ _ (sym (at-may-ask-rights .may-ask-rights .ensures) ∙ at-if1 .if1 .taken) _ (c .count-of .ensures) _ (at-rights-on .rights-on .ensures)
 
 returns-2 : tie.Need-returns-2
 returns-2 c = rights-refused _ _ _ _ (sym (c .before .may-ask-rights .ensures) ∙ c .if1 .left)

@@ -8,19 +8,23 @@ use Rattle.trials.proofs.trial_select.Tie as tie
 
 returns : tie.Need-returns
 returns c =
-    let asked = c .before .before .before .before in
-    nodes-bad _ _ _ _ _ _ (sym (asked .may-select .ensures) ∙ c .before .before .before .if1 .taken) (sym (c .before .before .check-path .ensures) ∙ c .enum-told2 .given .1)
+    let at-check-path = c .before .before in let at-before = at-check-path .before in
+    let asked = at-before .before in
+    nodes-bad _ _ _ _ _ _ (sym (asked .may-select .ensures) ∙ at-before .if1 .taken) (sym (at-check-path .check-path .ensures) ∙ c .enum-told2 .given .1)
 
 select-requires : tie.Need-select-requires
 select-requires c κs =
-    let e = sym (c .before .before .before .before .before .may-select .ensures) ∙ c .before .before .before .before .if1 .taken in
+    let at-enum-told = c .before in let at-check-path = at-enum-told .before .before in let at-if1 = at-check-path .before in
+    let at-may-select = at-if1 .before in let start = at-may-select .before .before .before .before .before .before in
+    let e = sym (at-may-select .may-select .ensures) ∙ at-if1 .if1 .taken in
     let g = nodes-gives _ _ _ _ _ e in
-    (asks-subject _ _ _ (g .0), nodes-fit _ _ _ _ _ e, is-path (pathOf (c .before .before .before .before .before .before .before .before .before .before .before .args .path .now)) _ (sym (c .before .before .before .check-path .ensures) ∙ c .before .enum-told .given .1), g .2)
+    (asks-subject _ _ _ (g .0), nodes-fit _ _ _ _ _ e, is-path (pathOf (start .args .path .now)) _ (sym (at-check-path .check-path .ensures) ∙ at-enum-told .enum-told .given .1), g .2)
 
 returns-2 : tie.Need-returns-2
 returns-2 c =
-    let read = c .before .before .before .before .before .before in
-    nodes-done _ _ _ _ _ _ (sym (read .before .before .may-select .ensures) ∙ read .before .if1 .taken) _ (sym (read .check-path .ensures) ∙ c .before .before .before .before .enum-told .given .1) _ (c .before .before .select .ensures)
+    let at-select = c .before .before in let at-enum-told = at-select .before .before in let at-before = at-enum-told .before in
+    let read = at-before .before in
+    nodes-done _ _ _ _ _ _ (sym (read .before .before .may-select .ensures) ∙ read .before .if1 .taken) _ (sym (read .check-path .ensures) ∙ at-enum-told .enum-told .given .1) _ (at-select .select .ensures)
 
 returns-3 : tie.Need-returns-3
 returns-3 c = nodes-refused _ _ _ _ _ _ (sym (c .before .may-select .ensures) ∙ c .if1 .left)

@@ -13,11 +13,13 @@ is-policy-word-requires c κs = (sym (c .before .policy-ok .ensures) ∙ c .if1 
 
 returns : tie.Need-returns
 returns c =
-    word-yes _ _ (sym (c .before .before .before .policy-ok .ensures) ∙ c .before .before .if1 .taken) (sym (c .before .is-policy-word .ensures) ∙ c .if2 .taken)
+    let at-is-policy-word = c .before in let at-if1 = at-is-policy-word .before in let at-policy-ok = at-if1 .before in
+    word-yes _ _ (sym (at-policy-ok .policy-ok .ensures) ∙ at-if1 .if1 .taken) (sym (at-is-policy-word .is-policy-word .ensures) ∙ c .if2 .taken)
 
 returns-2 : tie.Need-returns-2
 returns-2 c =
-    word-no _ _ (sym (c .before .before .before .policy-ok .ensures) ∙ c .before .before .if1 .taken) (sym (c .before .is-policy-word .ensures) ∙ c .if2 .left)
+    let at-is-policy-word = c .before in let at-if1 = at-is-policy-word .before in let at-policy-ok = at-if1 .before in
+    word-no _ _ (sym (at-policy-ok .policy-ok .ensures) ∙ at-if1 .if1 .taken) (sym (at-is-policy-word .is-policy-word .ensures) ∙ c .if2 .left)
 
 returns-3 : tie.Need-returns-3
 returns-3 c = word-refused _ _ (sym (c .before .policy-ok .ensures) ∙ c .if1 .left)

@@ -9,15 +9,18 @@ use Rattle.answers.proofs.answer.answer_find.Tie as tie
 
 returns : tie.Need-returns
 returns c =
-    let a = c .before .before .before .before .before .before .before .before .args in
-    answered-not (findText (chosen (a .marks .now) (viewOf (a .table .now) (a .shown .now)))) (a .area .now) _ (omega (arith, c .before .before .put-found .ensures .next)) (c .if1 .taken)
+    let at-put-found = c .before .before in let start = at-put-found .before .before .before .before .before .before in
+    let a = start .args in
+    answered-not (findText (chosen (a .marks .now) (viewOf (a .table .now) (a .shown .now)))) (a .area .now) _ (omega (arith, at-put-found .put-found .ensures .next)) (c .if1 .taken)
 
 returns-2 : tie.Need-returns-2
 returns-2 c =
-    let a = c .before .before .before .before .before .before .before .before .before .before .before .before .args in
-    let p = c .before .before .before .before .before .before .put-found .ensures in
-    let q = c .before .before .put-found2 .ensures in
-    answered-fits (findText (chosen (a .marks .now) (viewOf (a .table .now) (a .shown .now)))) (a .area .now) (c .before .before .put-found2 .last .0) _ _ q refl (omega (arith, p .next, q .next))
+    let at-put-found2 = c .before .before in let at-put-found = at-put-found2 .before .before .before .before in
+    let start = at-put-found .before .before .before .before .before .before in
+    let a = start .args in
+    let p = at-put-found .put-found .ensures in
+    let q = at-put-found2 .put-found2 .ensures in
+    answered-fits (findText (chosen (a .marks .now) (viewOf (a .table .now) (a .shown .now)))) (a .area .now) (at-put-found2 .put-found2 .last .0) _ _ q refl (omega (arith, p .next, q .next))
 
 pub answer-find-spec : {M : Type 1} → statement M
 answer-find-spec =

@@ -7,13 +7,17 @@ use Rattle.answers.proofs.answer.answer_ok.Statement.{statement}
 use Rattle.answers.proofs.answer.answer_ok.Tie as tie
 
 returns : tie.Need-returns
-returns c = answered-not okText (c .before .before .before .before .before .before .args .area .now) _ (omega (arith, c .before .before .put-bytes .ensures .next)) (c .if1 .taken)
+returns c =
+    let at-put-bytes = c .before .before in let start = at-put-bytes .before .before .before .before in
+    answered-not okText (start .args .area .now) _ (omega (arith, at-put-bytes .put-bytes .ensures .next)) (c .if1 .taken)
 
 returns-2 : tie.Need-returns-2
 returns-2 c =
-    let p = c .before .before .before .before .before .before .before .put-bytes .ensures in
-    let q = c .before .before .put-bytes2 .ensures in
-    answered-fits okText (c .before .before .before .before .before .before .before .before .before .before .before .args .area .now) (c .before .before .put-bytes2 .last .0) _ _ q refl (omega (arith, p .next, q .next))
+    let at-put-bytes2 = c .before .before in let at-put-bytes = at-put-bytes2 .before .before .before .before .before in
+    let start = at-put-bytes .before .before .before .before in
+    let p = at-put-bytes .put-bytes .ensures in
+    let q = at-put-bytes2 .put-bytes2 .ensures in
+    answered-fits okText (start .args .area .now) (at-put-bytes2 .put-bytes2 .last .0) _ _ q refl (omega (arith, p .next, q .next))
 
 pub answer-ok-spec : {M : Type 1} → statement M
 answer-ok-spec =

@@ -8,14 +8,17 @@ use Rattle.answers.proofs.answer.answer_refused.Tie as tie
 
 returns : tie.Need-returns
 returns c =
-    let p = c .before .before .put-refused .ensures in
-    (answered-not (refusedText (c .before .before .before .before .before .args .number)) (c .before .before .before .before .before .args .area .now) _ (omega (arith, p .0 .next)) (c .if1 .taken), p .1)
+    let at-put-refused = c .before .before in let start = at-put-refused .before .before .before in
+    let p = at-put-refused .put-refused .ensures in
+    (answered-not (refusedText (start .args .number)) (start .args .area .now) _ (omega (arith, p .0 .next)) (c .if1 .taken), p .1)
 
 returns-2 : tie.Need-returns-2
 returns-2 c =
-    let p = c .before .before .before .before .before .before .put-refused .ensures in
-    let q = c .before .before .put-refused2 .ensures in
-    (answered-fits (refusedText (c .before .before .before .before .before .before .before .before .before .args .number)) (c .before .before .before .before .before .before .before .before .before .args .area .now) (c .before .before .put-refused2 .last .0) _ _ (q .0) refl (omega (arith, p .0 .next, q .0 .next)), q .1)
+    let at-put-refused2 = c .before .before in let at-put-refused = at-put-refused2 .before .before .before .before in
+    let start = at-put-refused .before .before .before in
+    let p = at-put-refused .put-refused .ensures in
+    let q = at-put-refused2 .put-refused2 .ensures in
+    (answered-fits (refusedText (start .args .number)) (start .args .area .now) (at-put-refused2 .put-refused2 .last .0) _ _ (q .0) refl (omega (arith, p .0 .next, q .0 .next)), q .1)
 
 pub answer-refused-spec : {M : Type 1} → statement M
 answer-refused-spec =

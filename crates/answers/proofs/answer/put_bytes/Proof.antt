@@ -21,8 +21,9 @@ same-length c = search needs
 
 returns-2 : tie.Need-returns-2
 returns-2 c =
-    let a = c .before .before .before .before .before .before .before .args in
-    let k = c .before .before .copy in
+    let at-copy = c .before .before in let start = at-copy .before .before .before .before .before in
+    let a = start .args in
+    let k = at-copy .copy in
     puts-copy (a .s .now) (a .at) (a .area .now) (k .last .0) _ refl (omega arith) (k .ensures)
 
 pub put-bytes-spec : {M : Type 1} → statement M

@@ -24,17 +24,19 @@ loop-holds c =
 
 loop-again : tie.Need-loop-again Inv-loop μ-loop
 loop-again c =
-    let a = c .before .before .before .before .before .before .before .before .before .args in
-    let l = c .before .before .before .before .before .loop in
+    let at-put-node = c .before .before in let at-loop = at-put-node .before .before .before in let start = at-loop .before .before .before .before in
+    let a = start .args in
+    let l = at-loop .loop in
     let n = view-length (a .table .now) (a .shown .now) in
-    (search needs, search needs, search needs, search needs, toward-more (l .inv .4) (c .before .before .put-node .ensures .0) (children-step (viewOf (a .table .now) (a .shown .now)) (l .i) (omega arith)))
+    (search needs, search needs, search needs, search needs, toward-more (l .inv .4) (at-put-node .put-node .ensures .0) (children-step (viewOf (a .table .now) (a .shown .now)) (l .i) (omega arith)))
 
 returns : tie.Need-returns Inv-loop μ-loop
 returns c =
-    let a = c .before .before .before .before .before .args in
-    let l = c .before .loop in
+    let at-loop = c .before in let start = at-loop .before .before .before .before in
+    let a = start .args in
+    let l = at-loop .loop in
     let n = view-length (a .table .now) (a .shown .now) in
-    (toward-end (l .inv .4) (children-end (viewOf (a .table .now) (a .shown .now)) (l .i) (omega arith)), omega (arith, c .before .before .before .before .before .pre .0 .few))
+    (toward-end (l .inv .4) (children-end (viewOf (a .table .now) (a .shown .now)) (l .i) (omega arith)), omega (arith, start .pre .0 .few))
 
 pub put-children-spec : {M : Type 1} → statement M
 put-children-spec =

@@ -20,13 +20,15 @@ loop-holds c = (search needs, search needs, refl, puts-none (c .before .args .at
 
 loop-again : tie.Need-loop-again Inv-loop μ-loop
 loop-again c =
-    let l = c .before .before .before .before .before .loop in
-    (search needs, omega (arith, c .before .before .put-byte .ensures .next), search needs, rw (closed-more (l .i)) (puts-more (l .inv .3) (c .before .before .put-byte .ensures)))
+    let at-put-byte = c .before .before in let at-loop = at-put-byte .before .before .before in
+    let l = at-loop .loop in
+    (search needs, omega (arith, at-put-byte .put-byte .ensures .next), search needs, rw (closed-more (l .i)) (puts-more (l .inv .3) (at-put-byte .put-byte .ensures)))
 
 returns : tie.Need-returns Inv-loop μ-loop
 returns c =
-    let e : c .before .loop .i ≡ c .before .before .before .args .k = omega arith in
-    (rw e at (c .before .loop .inv .3), omega arith)
+    let at-loop = c .before in let start = at-loop .before .before in
+    let e : at-loop .loop .i ≡ start .args .k = omega arith in
+    (rw e at (at-loop .loop .inv .3), omega arith)
 
 pub put-closed-spec : {M : Type 1} → statement M
 put-closed-spec =

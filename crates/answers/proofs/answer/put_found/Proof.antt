@@ -21,24 +21,29 @@ loop-holds c = (search needs, refl, refl)
 
 returns : tie.Need-returns Inv-loop μ-loop
 returns c =
-    let a = c .before .before .before .before .before .before .before .before .before .before .before .before .args in
-    let l = c .before .before .before .before .before .before .before .loop in
+    let at-put-hit = c .before .before in let at-if1 = at-put-hit .before .before in let at-loop = at-if1 .before .before .before in
+    let start = at-loop .before .before .before .before .before in
+    let a = start .args in
+    let l = at-loop .loop in
     let n = view-length (a .table .now) (a .shown .now) in
-    rw (found-hit (a .marks .now) (viewOf (a .table .now) (a .shown .now)) (l .i) (l .inv .2) (omega arith) (omega arith) (c .before .before .before .before .if1 .taken), ← (l .inv .1)) (c .before .before .put-hit .ensures .0)
+    rw (found-hit (a .marks .now) (viewOf (a .table .now) (a .shown .now)) (l .i) (l .inv .2) (omega arith) (omega arith) (at-if1 .if1 .taken), ← (l .inv .1)) (at-put-hit .put-hit .ensures .0)
 
 loop-again : tie.Need-loop-again Inv-loop μ-loop
 loop-again c =
-    let a = c .before .before .before .before .before .before .before .before .args in
-    let l = c .before .before .before .loop in
+    let at-loop = c .before .before .before in let start = at-loop .before .before .before .before .before in
+    let a = start .args in
+    let l = at-loop .loop in
     let n = view-length (a .table .now) (a .shown .now) in
     (search needs, l .inv .1, sym (hits-pass (a .marks .now) (viewOf (a .table .now) (a .shown .now)) (l .i) (omega arith) (omega arith) (c .if1 .left)) ∙ l .inv .2)
 
 returns-2 : tie.Need-returns-2 Inv-loop μ-loop
 returns-2 c =
-    let a = c .before .before .before .before .before .before .before .before .before .before .before .args in
-    let l = c .before .before .before .before .before .before .loop in
+    let at-put-bytes = c .before .before in let at-loop = at-put-bytes .before .before .before .before in
+    let start = at-loop .before .before .before .before .before in
+    let a = start .args in
+    let l = at-loop .loop in
     let n = view-length (a .table .now) (a .shown .now) in
-    rw (found-none (a .marks .now) (viewOf (a .table .now) (a .shown .now)) (l .i) (l .inv .2) (omega arith), ← (l .inv .1)) (c .before .before .put-bytes .ensures)
+    rw (found-none (a .marks .now) (viewOf (a .table .now) (a .shown .now)) (l .i) (l .inv .2) (omega arith), ← (l .inv .1)) (at-put-bytes .put-bytes .ensures)
 
 pub put-found-spec : {M : Type 1} → statement M
 put-found-spec =

@@ -24,17 +24,20 @@ loop-holds c =
 
 loop-again : tie.Need-loop-again Inv-loop μ-loop
 loop-again c =
-    let a = c .before .before .before .before .before .before .before .before .before .before .args in
-    let l = c .before .before .before .before .before .loop in
+    let at-put-marked = c .before .before in let at-loop = at-put-marked .before .before .before in
+    let start = at-loop .before .before .before .before .before in
+    let a = start .args in
+    let l = at-loop .loop in
     let n = view-length (a .table .now) (a .shown .now) in
-    (search needs, search needs, search needs, toward-more (l .inv .3) (c .before .before .put-marked .ensures .0) (hits-step (a .marks .now) (viewOf (a .table .now) (a .shown .now)) (l .i) (omega arith) (omega arith)))
+    (search needs, search needs, search needs, toward-more (l .inv .3) (at-put-marked .put-marked .ensures .0) (hits-step (a .marks .now) (viewOf (a .table .now) (a .shown .now)) (l .i) (omega arith) (omega arith)))
 
 returns : tie.Need-returns Inv-loop μ-loop
 returns c =
-    let a = c .before .before .before .before .before .before .args in
-    let l = c .before .loop in
+    let at-loop = c .before in let start = at-loop .before .before .before .before .before in
+    let a = start .args in
+    let l = at-loop .loop in
     let n = view-length (a .table .now) (a .shown .now) in
-    (toward-end (l .inv .3) (hit-lines-end (a .marks .now) (viewOf (a .table .now) (a .shown .now)) (l .i) (omega arith)), omega (arith, c .before .before .before .before .before .before .pre .0 .few))
+    (toward-end (l .inv .3) (hit-lines-end (a .marks .now) (viewOf (a .table .now) (a .shown .now)) (l .i) (omega arith)), omega (arith, start .pre .0 .few))
 
 pub put-hits-spec : {M : Type 1} → statement M
 put-hits-spec =

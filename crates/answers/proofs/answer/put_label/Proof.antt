@@ -12,53 +12,64 @@ use Rattle.answers.proofs.answer.put_label.Tie as tie
 
 returns : tie.Need-returns
 returns c =
-    let a = c .before .before .before .before .before .before .before .before .before .before .before .args in
-    (rw (label-hidden (a .table .now) (a .shown .now) (a .i) (omega arith) (omega arith)) (c .before .before .put-bytes .ensures), omega (arith, c .before .before .put-bytes .ensures .next))
+    let at-put-bytes = c .before .before in let start = at-put-bytes .before .before .before .before .before .before .before .before .before in
+    let a = start .args in
+    (rw (label-hidden (a .table .now) (a .shown .now) (a .i) (omega arith) (omega arith)) (at-put-bytes .put-bytes .ensures), omega (arith, at-put-bytes .put-bytes .ensures .next))
 
 add-from : tie.Need-add-from
 add-from c =
-    let w = c .before .before .before .before .before .before .before .pre .0 .stands (c .before .before .before .before .before .before .before .args .i) (omega arith) in
+    let start = c .before .before .before .before .before .before .before in
+    let w = start .pre .0 .stands (start .args .i) (omega arith) in
     omega (arith, w .room, c .record-place .ensures)
 
 add-wide : tie.Need-add-wide
 add-wide c =
-    let w = c .before .before .before .before .before .before .before .pre .0 .stands (c .before .before .before .before .before .before .before .args .i) (omega arith) in
+    let start = c .before .before .before .before .before .before .before in
+    let w = start .pre .0 .stands (start .args .i) (omega arith) in
     omega (arith, w .room, c .record-place .ensures)
 
 shared-slice-read-wide : tie.Need-shared-slice-read-wide
 shared-slice-read-wide c =
-    let w = c .before .before .before .before .before .before .before .before .pre .0 .stands (c .before .before .before .before .before .before .before .before .args .i) (omega arith) in
-    omega (arith, w .room, c .before .record-place .ensures)
+    let at-record-place = c .before in let start = at-record-place .before .before .before .before .before .before .before in
+    let w = start .pre .0 .stands (start .args .i) (omega arith) in
+    omega (arith, w .room, at-record-place .record-place .ensures)
 
 add-end : tie.Need-add-end
 add-end c =
-    let w = c .before .before .before .before .before .before .before .before .before .pre .0 .stands (c .before .before .before .before .before .before .before .before .before .args .i) (omega arith) in
-    let s = label-short (c .before .before .before .before .before .before .before .before .before .args .table .now) (recordPlace (getD (c .before .before .before .before .before .before .before .before .before .args .shown .now) (c .before .before .before .before .before .before .before .before .before .args .i) 0)) (w .short) (c .before .before .record-place .ensures) (c .wide .ensures) in
-    omega (arith, w .room, c .before .before .record-place .ensures)
+    let at-record-place = c .before .before in let start = at-record-place .before .before .before .before .before .before .before in
+    let w = start .pre .0 .stands (start .args .i) (omega arith) in
+    let s = label-short (start .args .table .now) (recordPlace (getD (start .args .shown .now) (start .args .i) 0)) (w .short) (at-record-place .record-place .ensures) (c .wide .ensures) in
+    omega (arith, w .room, at-record-place .record-place .ensures)
 
 part-put-bytes-end : tie.Need-part-put-bytes-end
 part-put-bytes-end c =
-    let w = c .before .before .before .before .before .before .before .before .before .before .pre .0 .stands (c .before .before .before .before .before .before .before .before .before .before .args .i) (omega arith) in
-    let s = label-short (c .before .before .before .before .before .before .before .before .before .before .args .table .now) (recordPlace (getD (c .before .before .before .before .before .before .before .before .before .before .args .shown .now) (c .before .before .before .before .before .before .before .before .before .before .args .i) 0)) (w .short) (c .before .before .before .record-place .ensures) (c .before .wide .ensures) in
-    omega (arith, w .room, c .before .before .before .record-place .ensures)
+    let at-wide = c .before in let at-record-place = at-wide .before .before in
+    let start = at-record-place .before .before .before .before .before .before .before in
+    let w = start .pre .0 .stands (start .args .i) (omega arith) in
+    let s = label-short (start .args .table .now) (recordPlace (getD (start .args .shown .now) (start .args .i) 0)) (w .short) (at-record-place .record-place .ensures) (at-wide .wide .ensures) in
+    omega (arith, w .room, at-record-place .record-place .ensures)
 
 put-bytes-requires-2 : tie.Need-put-bytes-requires-2
 put-bytes-requires-2 c κs =
-    let w = c .before .before .before .before .before .before .before .before .before .before .before .pre .0 .stands (c .before .before .before .before .before .before .before .before .before .before .before .args .i) (omega arith) in
-    let s = label-short (c .before .before .before .before .before .before .before .before .before .before .before .args .table .now) (recordPlace (getD (c .before .before .before .before .before .before .before .before .before .before .before .args .shown .now) (c .before .before .before .before .before .before .before .before .before .before .before .args .i) 0)) (w .short) (c .before .before .before .before .record-place .ensures) (c .before .before .wide .ensures) in
-    let f = c .before .before .before .before .record-place .result + 2 in
-    let n = c .before .before .wide .result in
-    omega (arith, take-short (f + n - f) (drop f (c .before .before .before .before .before .before .before .before .before .before .before .args .table .now)))
+    let at-wide = c .before .before in let at-record-place = at-wide .before .before in
+    let start = at-record-place .before .before .before .before .before .before .before in
+    let w = start .pre .0 .stands (start .args .i) (omega arith) in
+    let s = label-short (start .args .table .now) (recordPlace (getD (start .args .shown .now) (start .args .i) 0)) (w .short) (at-record-place .record-place .ensures) (at-wide .wide .ensures) in
+    let f = at-record-place .record-place .result + 2 in
+    let n = at-wide .wide .result in
+    omega (arith, take-short (f + n - f) (drop f (start .args .table .now)))
 
 returns-2 : tie.Need-returns-2
 returns-2 c =
-    let a = c .before .before .before .before .before .before .before .before .before .before .before .before .before .before .args in
-    let w = c .before .before .before .before .before .before .before .before .before .before .before .before .before .before .pre .0 .stands (a .i) (omega arith) in
-    let s = label-short (c .before .before .before .before .before .before .before .before .before .before .before .before .before .before .args .table .now) (recordPlace (getD (c .before .before .before .before .before .before .before .before .before .before .before .before .before .before .args .shown .now) (c .before .before .before .before .before .before .before .before .before .before .before .before .before .before .args .i) 0)) (w .short) (c .before .before .before .before .before .before .before .record-place .ensures) (c .before .before .before .before .before .wide .ensures) in
-    let f = c .before .before .before .before .before .before .before .record-place .result + 2 in
-    let n = c .before .before .before .before .before .wide .result in
-    let q = part-of (a .table .now) f n ∙ label-read (a .table .now) (a .shown .now) (a .i) (omega arith) (c .before .before .before .before .before .before .before .before .before .before .before .before .before .before .pre .0) (omega arith) (c .before .before .before .before .before .before .before .record-place .result) n (c .before .before .before .before .before .before .before .record-place .ensures) (c .before .before .before .before .before .wide .ensures) in
-    (rw (← q) (c .before .before .put-bytes2 .ensures), omega (arith, take-short (f + n - f) (drop f (a .table .now)), c .before .before .put-bytes2 .ensures .next))
+    let at-put-bytes2 = c .before .before in let at-wide = at-put-bytes2 .before .before .before in let at-record-place = at-wide .before .before in
+    let start = at-record-place .before .before .before .before .before .before .before in
+    let a = start .args in
+    let w = start .pre .0 .stands (a .i) (omega arith) in
+    let s = label-short (start .args .table .now) (recordPlace (getD (start .args .shown .now) (start .args .i) 0)) (w .short) (at-record-place .record-place .ensures) (at-wide .wide .ensures) in
+    let f = at-record-place .record-place .result + 2 in
+    let n = at-wide .wide .result in
+    let q = part-of (a .table .now) f n ∙ label-read (a .table .now) (a .shown .now) (a .i) (omega arith) (start .pre .0) (omega arith) (at-record-place .record-place .result) n (at-record-place .record-place .ensures) (at-wide .wide .ensures) in
+    (rw (← q) (at-put-bytes2 .put-bytes2 .ensures), omega (arith, take-short (f + n - f) (drop f (a .table .now)), at-put-bytes2 .put-bytes2 .ensures .next))
 
 pub put-label-spec : {M : Type 1} → statement M
 put-label-spec =

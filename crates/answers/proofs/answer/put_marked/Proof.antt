@@ -11,7 +11,8 @@ shared-slice-read-if1 c = search needs
 
 returns : tie.Need-returns
 returns c =
-    let a = c .before .before .before .before .before .before .args in
+    let start = c .before .before .before .before .before .before in
+    let a = start .args in
     (rw (hit-none (a .marks .now) (viewOf (a .table .now) (a .shown .now)) (a .i) (c .if1 .taken)) (puts-none (a .at) (a .area .now)), omega arith)
 
 put-hit-requires : tie.Need-put-hit-requires
@@ -22,8 +23,10 @@ same-length c = search needs
 
 returns-2 : tie.Need-returns-2
 returns-2 c =
-    let a = c .before .before .before .before .before .before .before .before .before .before .args in
-    (rw (hit-some (a .marks .now) (viewOf (a .table .now) (a .shown .now)) (a .i) (c .before .before .before .before .if1 .left)) (c .before .before .put-hit .ensures .0), c .before .before .put-hit .ensures .1)
+    let at-put-hit = c .before .before in let at-if1 = at-put-hit .before .before in
+    let start = at-if1 .before .before .before .before .before .before in
+    let a = start .args in
+    (rw (hit-some (a .marks .now) (viewOf (a .table .now) (a .shown .now)) (a .i) (at-if1 .if1 .left)) (at-put-hit .put-hit .ensures .0), at-put-hit .put-hit .ensures .1)
 
 pub put-marked-spec : {M : Type 1} → statement M
 put-marked-spec =

@@ -11,11 +11,13 @@ use Rattle.answers.proofs.answer.put_query.Tie as tie
 
 returns : tie.Need-returns
 returns c =
-    let a = c .before .before .before .before .before .before .before .before .before .before .before .before .before .args in
+    let at-put-end = c .before .before in let at-put-hits = at-put-end .before .before .before .before in
+    let at-count-marks = at-put-hits .before .before in let start = at-count-marks .before .before .before .before .before in
+    let a = start .args in
     let n = view-length (a .table .now) (a .shown .now) in
-    let q = c .before .before .before .before .before .before .before .before .count-marks .ensures .0 ∙ count-hits (a .marks .now) (viewOf (a .table .now) (a .shown .now)) (length (a .shown .now)) (omega arith) in
-    let hits = c .before .before .before .before .before .before .put-hits .ensures in
-    let end = c .before .before .put-end .ensures in
+    let q = at-count-marks .count-marks .ensures .0 ∙ count-hits (a .marks .now) (viewOf (a .table .now) (a .shown .now)) (length (a .shown .now)) (omega arith) in
+    let hits = at-put-hits .put-hits .ensures in
+    let end = at-put-end .put-end .ensures in
     (rw (← q) (puts-more (hits .0) (end .0)), omega (arith, hits .1, end .1))
 
 pub put-query-spec : {M : Type 1} → statement M

@@ -6,10 +6,12 @@ use Rattle.answers.proofs.answer.put_refused.Tie as tie
 
 returns : tie.Need-returns
 returns c =
-    let one = c .before .before .before .before .before .before .before .before .before .before .before .before .put-bytes .ensures in
-    let two = c .before .before .before .before .before .before .before .put-decimal .ensures in
-    let three = c .before .before .put-bytes2 .ensures in
-    (rw (← (c .before .before .before .before .before .before .before .before .wide .ensures)) (puts-more one (puts-more (two .0) three)), omega (arith, one .next, two .1, three .next))
+    let at-put-bytes2 = c .before .before in let at-put-decimal = at-put-bytes2 .before .before .before .before .before in
+    let at-wide = at-put-decimal .before in let at-put-bytes = at-wide .before .before .before .before in
+    let one = at-put-bytes .put-bytes .ensures in
+    let two = at-put-decimal .put-decimal .ensures in
+    let three = at-put-bytes2 .put-bytes2 .ensures in
+    (rw (← (at-wide .wide .ensures)) (puts-more one (puts-more (two .0) three)), omega (arith, one .next, two .1, three .next))
 
 pub put-refused-spec : {M : Type 1} → statement M
 put-refused-spec =

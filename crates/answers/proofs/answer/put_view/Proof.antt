@@ -11,17 +11,20 @@ use Rattle.answers.proofs.answer.put_view.Tie as tie
 
 returns : tie.Need-returns
 returns c =
-    let a = c .before .before .before .before .before .before .before .before .args in
+    let at-put-end = c .before .before in let start = at-put-end .before .before .before .before .before .before in
+    let a = start .args in
     let n = view-length (a .table .now) (a .shown .now) in
-    (rw (view-none (viewOf (a .table .now) (a .shown .now)) (omega arith)) (c .before .before .put-end .ensures .0), omega (arith, c .before .before .put-end .ensures .1))
+    (rw (view-none (viewOf (a .table .now) (a .shown .now)) (omega arith)) (at-put-end .put-end .ensures .0), omega (arith, at-put-end .put-end .ensures .1))
 
 returns-2 : tie.Need-returns-2
 returns-2 c =
-    let a = c .before .before .before .before .before .before .before .before .before .before .before .before .before .before .before .before .args in
+    let at-put-end2 = c .before .before in let at-put-children = at-put-end2 .before .before .before .before in
+    let at-put-root = at-put-children .before .before .before .before in let start = at-put-root .before .before .before .before .before .before in
+    let a = start .args in
     let n = view-length (a .table .now) (a .shown .now) in
-    let root = c .before .before .before .before .before .before .before .before .before .before .put-root .ensures in
-    let children = c .before .before .before .before .before .before .put-children .ensures in
-    let end = c .before .before .put-end2 .ensures in
+    let root = at-put-root .put-root .ensures in
+    let children = at-put-children .put-children .ensures in
+    let end = at-put-end2 .put-end2 .ensures in
     (rw (view-some (viewOf (a .table .now) (a .shown .now)) (length (a .shown .now)) (omega arith) (sym n)) (puts-more (root .0) (puts-more (children .0) (end .0))), omega (arith, root .1, children .1, end .1))
 
 pub put-view-spec : {M : Type 1} → statement M

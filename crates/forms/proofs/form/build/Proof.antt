@@ -15,7 +15,9 @@ returns : tie.Need-returns
 returns c = rw (c .enum-told .given .1, c .before .before .before .part-at .ensures)
 
 returns-2 : tie.Need-returns-2
-returns-2 c = rw (c .enum-told2 .given .1, c .before .before .before .part-at .ensures, c .before .before .part-at2 .ensures)
+returns-2 c =
+    let at-part-at2 = c .before .before in let at-part-at = at-part-at2 .before in
+    rw (c .enum-told2 .given .1, at-part-at .part-at .ensures, at-part-at2 .part-at2 .ensures)
 
 returns-3 : tie.Need-returns-3
 returns-3 c = rw (c .before .enum-told3 .given .1) (c .rule-form .ensures)
@@ -39,10 +41,14 @@ returns-9 : tie.Need-returns-9
 returns-9 c = rw (c .enum-told9 .given .1, c .before .before .before .part-at .ensures)
 
 returns-10 : tie.Need-returns-10
-returns-10 c = rw (c .enum-told10 .given .1, c .before .before .before .part-at .ensures, c .before .before .part-at2 .ensures)
+returns-10 c =
+    let at-part-at2 = c .before .before in let at-part-at = at-part-at2 .before in
+    rw (c .enum-told10 .given .1, at-part-at .part-at .ensures, at-part-at2 .part-at2 .ensures)
 
 returns-11 : tie.Need-returns-11
-returns-11 c = rw (c .enum-told11 .given .1, c .before .before .before .part-at .ensures, c .before .before .part-at2 .ensures)
+returns-11 c =
+    let at-part-at2 = c .before .before in let at-part-at = at-part-at2 .before in
+    rw (c .enum-told11 .given .1, at-part-at .part-at .ensures, at-part-at2 .part-at2 .ensures)
 
 returns-12 : tie.Need-returns-12
 returns-12 c = rw (c .enum-told12 .given .1, c .before .before .before .part-at .ensures)

@@ -25,48 +25,53 @@ loop-holds c =
 
 returns : tie.Need-returns Inv-loop μ-loop
 returns c =
-    let i : ℕ = c .before .before .before .before .loop .i in
-    let e : ℕ = c .before .before .before .before .loop .e in
-    let s : List ℕ = c .before .before .before .before .before .before .before .args .s .now in
-    let ks : List Kind = shapeOf (c .before .before .before .before .before .before .before .args .w) in
-    let q : c .before .before .before .before .before .shape-of .result ≡ codesOf ks = c .before .before .before .before .before .shape-of .ensures .0 in
-    let here : getD (c .before .before .before .before .before .shape-of .result) i 0 ≡ getD (codesOf ks) i 0 = ap (λ (xs : List ℕ). getD xs i 0) q in
-    let inv = c .before .before .before .before .loop .inv in
-    let bad = sym (c .before .before .one-part .ensures .is) ∙ c .enum-told .given .1 in (
-      parts-none (part-missing ks s _ e i _ (inv .3 ks q) (λ z. c .before .before .before .loop-test .taken (here ∙ z)) (ap (λ (n : ℕ). oneBy n s e) (sym here) ∙ bad)),
-      length-set (c .before .before .before .before .loop .ends) i e ∙ inv .1,
+    let at-one-part = c .before .before in let at-test = at-one-part .before in let at-loop = at-test .before in let at-shape-of = at-loop .before in
+    let start = at-shape-of .before .before in
+    let i : ℕ = at-loop .loop .i in
+    let e : ℕ = at-loop .loop .e in
+    let s : List ℕ = start .args .s .now in
+    let ks : List Kind = shapeOf (start .args .w) in
+    let q : at-shape-of .shape-of .result ≡ codesOf ks = at-shape-of .shape-of .ensures .0 in
+    let here : getD (at-shape-of .shape-of .result) i 0 ≡ getD (codesOf ks) i 0 = ap (λ (xs : List ℕ). getD xs i 0) q in
+    let inv = at-loop .loop .inv in
+    let bad = sym (at-one-part .one-part .ensures .is) ∙ c .enum-told .given .1 in (
+      parts-none (part-missing ks s _ e i _ (inv .3 ks q) (λ z. at-test .loop-test .taken (here ∙ z)) (ap (λ (n : ℕ). oneBy n s e) (sym here) ∙ bad)),
+      length-set (at-loop .loop .ends) i e ∙ inv .1,
     )
 
 loop-again : tie.Need-loop-again Inv-loop μ-loop
 loop-again c =
-    let i : ℕ = c .before .before .before .before .before .loop .i in
-    let e : ℕ = c .before .before .before .before .before .loop .e in
-    let s : List ℕ = c .before .before .before .before .before .before .before .before .args .s .now in
-    let kinds : List ℕ = c .before .before .before .before .before .before .shape-of .result in
+    let at-next = c .before in let at-one-part = at-next .before .before in let at-test = at-one-part .before in let at-loop = at-test .before in
+    let at-shape-of = at-loop .before in let start = at-shape-of .before .before in
+    let i : ℕ = at-loop .loop .i in
+    let e : ℕ = at-loop .loop .e in
+    let s : List ℕ = start .args .s .now in
+    let kinds : List ℕ = at-shape-of .shape-of .result in
     let here : (ks : List Kind) → kinds ≡ codesOf ks → getD kinds i 0 ≡ getD (codesOf ks) i 0 = λ ks q. ap (λ (xs : List ℕ). getD xs i 0) q in
-    let some : (ks : List Kind) → kinds ≡ codesOf ks → getD (codesOf ks) i 0 ≡ 0 → ⊥ = λ ks q z. c .before .before .before .before .loop-test .taken (here ks q ∙ z) in
-    let w : List Kind = shapeOf (c .before .before .before .before .before .before .before .before .args .w) in
-    let q = c .before .before .before .before .before .before .shape-of .ensures in
-    let inv = c .before .before .before .before .before .loop .inv in
-    let one = c .before .before .before .one-part .ensures in
-    let n : ℕ = c .before .next .given .0 .0 in
-    let on = one .on n (c .before .next .given .1) in
-    let taken = sym (one .is) ∙ c .before .next .given .1 in (
+    let some : (ks : List Kind) → kinds ≡ codesOf ks → getD (codesOf ks) i 0 ≡ 0 → ⊥ = λ ks q z. at-test .loop-test .taken (here ks q ∙ z) in
+    let w : List Kind = shapeOf (start .args .w) in
+    let q = at-shape-of .shape-of .ensures in
+    let inv = at-loop .loop .inv in
+    let one = at-one-part .one-part .ensures in
+    let n : ℕ = at-next .next .given .0 .0 in
+    let on = one .on n (at-next .next .given .1) in
+    let taken = sym (one .is) ∙ at-next .next .given .1 in (
       omega (arith, kind-at w i (some w (q .0)) .3, few-kinds w (sym (ap length (q .0)) ∙ q .1)),
-      length-set (c .before .before .before .before .before .loop .ends) i e ∙ inv .1,
+      length-set (at-loop .loop .ends) i e ∙ inv .1,
       on .1,
       λ ks x. part-taken ks s _ e i _ (inv .3 ks x) (some ks x) n (ap (λ (m : ℕ). oneBy m s e) (sym (here ks x)) ∙ taken) (omega (arith, on)) (on .1) (inv .0),
     )
 
 returns-2 : tie.Need-returns-2 Inv-loop μ-loop
 returns-2 c =
-    let i : ℕ = c .before .before .loop .i in
-    let e : ℕ = c .before .before .loop .e in
-    let ks : List Kind = shapeOf (c .before .before .before .before .before .args .w) in
-    let q : c .before .before .before .shape-of .result ≡ codesOf ks = c .before .before .before .shape-of .ensures .0 in
-    let inv = c .before .before .loop .inv in (
-      parts-over ks _ _ e i _ (inv .3 ks q) (ap (λ (xs : List ℕ). getD xs i 0) (sym q) ∙ c .before .loop-test .left) (inv .0) _ (c .closed .ensures),
-      length-set (c .before .before .loop .ends) i e ∙ inv .1,
+    let at-test = c .before in let at-loop = at-test .before in let at-shape-of = at-loop .before in let start = at-shape-of .before .before in
+    let i : ℕ = at-loop .loop .i in
+    let e : ℕ = at-loop .loop .e in
+    let ks : List Kind = shapeOf (start .args .w) in
+    let q : at-shape-of .shape-of .result ≡ codesOf ks = at-shape-of .shape-of .ensures .0 in
+    let inv = at-loop .loop .inv in (
+      parts-over ks _ _ e i _ (inv .3 ks q) (ap (λ (xs : List ℕ). getD xs i 0) (sym q) ∙ at-test .loop-test .left) (inv .0) _ (c .closed .ensures),
+      length-set (at-loop .loop .ends) i e ∙ inv .1,
     )
 
 pub parts-spec : {M : Type 1} → statement M

@@ -23,7 +23,9 @@ same-length : tie.Need-same-length
 same-length c = search needs
 
 returns-2 : tie.Need-returns-2
-returns-2 c = rw (c .before .before .before .before .before .place .given .1) (c .before .before .put-tree .ensures)
+returns-2 c =
+    let at-put-tree = c .before .before in let at-place = at-put-tree .before .before .before in
+    rw (at-place .place .given .1) (at-put-tree .put-tree .ensures)
 
 pub put-tree-at-spec : {M : Type 1} → statement M
 put-tree-at-spec =

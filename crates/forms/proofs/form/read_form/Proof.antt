@@ -18,11 +18,14 @@ returns-2 c = unbegun _ _ (c .if2 .taken)
 
 returns-3 : tie.Need-returns-3
 unfolding endBy
-returns-3 c = wordless _ _ (c .before .before .before .if2 .left) (sym (c .before .before .next-part .ensures .is) ∙ c .enum-told .given .1)
+returns-3 c =
+    let at-next-part = c .before .before in let at-if2 = at-next-part .before in
+    wordless _ _ (at-if2 .if2 .left) (sym (at-next-part .next-part .ensures .is) ∙ c .enum-told .given .1)
 
 parts-requires : tie.Need-parts-requires
 parts-requires c κs =
-    let on = c .before .before .before .before .before .next-part .ensures .on _ (c .before .before .before .e .given .1) in
+    let at-e = c .before .before .before in let at-next-part = at-e .before .before in
+    let on = at-next-part .next-part .ensures .on _ (at-e .e .given .1) in
     (on .1, refl, zeros 5)
 
 tree-place-requires : tie.Need-tree-place-requires
@@ -31,21 +34,28 @@ tree-place-requires c κs =
     (x .1, λ i. let h = x .0 .inside (c .before .if3 .taken) i in omega arith)
 
 build-requires : tie.Need-build-requires
-build-requires c κs = let x = c .before .before .before .before .before .before .before .before .parts .ensures in (x .1, x .0 .inside (c .before .before .before .before .before .before .before .if3 .taken))
+build-requires c κs =
+    let at-if3 = c .before .before .before .before .before .before .before in let at-parts = at-if3 .before in
+    let x = at-parts .parts .ensures in (x .1, x .0 .inside (at-if3 .if3 .taken))
 
 returns-4 : tie.Need-returns-4
 unfolding endBy
 returns-4 c =
-    let x = c .before .before .before .before .before .before .before .before .before .parts .ensures .0 .there (c .before .before .before .before .before .before .before .before .if3 .taken) in
-    let word = sym (c .before .before .before .before .before .before .before .before .before .before .before .before .before .before .before .next-part .ensures .is) ∙ c .before .before .before .before .before .before .before .before .before .before .before .before .before .e .given .1 in
-    read-parts _ _ (c .before .before .before .before .before .before .before .before .before .before .before .before .before .before .before .before .if2 .left) _ _ word (c .before .before .before .before .before .before .before .before .before .before .before .word-at .ensures) (c .before .before .before .before .before .before .before .before .before .parts .last .1 .1 .1 .0) (x .0) (x .1) (x .2) _ _ _ _
-    (c .before .before .before .before .before .before .tree-place .ensures) (c .before .before .before .before .put-tree-at .ensures) (c .build .ensures)
+    let at-put-tree-at = c .before .before .before .before in let at-tree-place = at-put-tree-at .before .before in
+    let at-if3 = at-tree-place .before .before in let at-parts = at-if3 .before in let at-word-at = at-parts .before .before in
+    let at-e = at-word-at .before .before in let at-next-part = at-e .before .before in let at-if2 = at-next-part .before in
+    let x = at-parts .parts .ensures .0 .there (at-if3 .if3 .taken) in
+    let word = sym (at-next-part .next-part .ensures .is) ∙ at-e .e .given .1 in
+    read-parts _ _ (at-if2 .if2 .left) _ _ word (at-word-at .word-at .ensures) (at-parts .parts .last .1 .1 .1 .0) (x .0) (x .1) (x .2) _ _ _ _
+    (at-tree-place .tree-place .ensures) (at-put-tree-at .put-tree-at .ensures) (c .build .ensures)
 
 returns-5 : tie.Need-returns-5
 unfolding endBy
 returns-5 c =
-    let word = sym (c .before .before .before .before .before .before .before .next-part .ensures .is) ∙ c .before .before .before .before .before .e .given .1 in
-    partless _ _ (c .before .before .before .before .before .before .before .before .if2 .left) _ _ word (c .before .before .before .word-at .ensures) (c .before .parts .ensures .0 .missing (c .if3 .left))
+    let at-parts = c .before in let at-word-at = at-parts .before .before in let at-e = at-word-at .before .before in
+    let at-next-part = at-e .before .before in let at-if2 = at-next-part .before in
+    let word = sym (at-next-part .next-part .ensures .is) ∙ at-e .e .given .1 in
+    partless _ _ (at-if2 .if2 .left) _ _ word (at-word-at .word-at .ensures) (at-parts .parts .ensures .0 .missing (c .if3 .left))
 
 pub read-form-spec : {M : Type 1} → statement M
 read-form-spec =

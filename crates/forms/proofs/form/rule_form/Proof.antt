@@ -17,13 +17,19 @@ right-at-requires : tie.Need-right-at-requires
 right-at-requires c κs = let h = c .before .before .before .before .pre .1 1 in omega arith
 
 part-at-requires : tie.Need-part-at-requires
-part-at-requires c κs = let h = c .before .before .before .before .before .pre .1 2 in (omega arith, c .before .before .before .before .before .pre .0, omega arith)
+part-at-requires c κs =
+    let start = c .before .before .before .before .before in
+    let h = start .pre .1 2 in (omega arith, start .pre .0, omega arith)
 
 part-at-requires-2 : tie.Need-part-at-requires-2
-part-at-requires-2 c κs = let h = c .before .before .before .before .before .before .pre .1 3 in (omega arith, c .before .before .before .before .before .before .pre .0, omega arith)
+part-at-requires-2 c κs =
+    let start = c .before .before .before .before .before .before in
+    let h = start .pre .1 3 in (omega arith, start .pre .0, omega arith)
 
 returns : tie.Need-returns
-returns c = rw (c .before .before .before .before .sign-at .ensures, c .before .before .right-at .ensures, c .before .part-at .ensures, c .part-at2 .ensures)
+returns c =
+    let at-part-at = c .before in let at-right-at = at-part-at .before in let at-sign-at = at-right-at .before .before in
+    rw (at-sign-at .sign-at .ensures, at-right-at .right-at .ensures, at-part-at .part-at .ensures, c .part-at2 .ensures)
 
 pub rule-form-spec : {M : Type 1} → statement M
 rule-form-spec =

@@ -23,32 +23,37 @@ loop-holds : tie.Need-loop-holds Inv-loop μ-loop
 loop-holds c = (omega arith, λ ks q. refl)
 
 add-t16 : tie.Need-add-t16 Inv-loop μ-loop
-add-t16 c = record { fits = c .before .before .before .before .before .pre .1 (c .before .before .before .loop .i) }
+add-t16 c =
+    let at-loop = c .before .before .before in let start = at-loop .before .before in
+    record { fits = start .pre .1 (at-loop .loop .i) }
 
 returns : tie.Need-returns Inv-loop μ-loop
 returns c =
-    let i : ℕ = c .before .before .before .loop .i in
-    let ks : List Kind = shapeOf (c .before .before .before .before .before .args .w) in
-    let q : c .before .before .before .before .shape-of .result ≡ codesOf ks = c .before .before .before .before .shape-of .ensures .0 in
-    sym (c .before .before .before .loop .inv .1 ks q ∙ tree-here ks i _ (ap (λ (xs : List ℕ). getD xs i 0) (sym q) ∙ c .before .if1 .taken))
+    let at-if1 = c .before in let at-loop = at-if1 .before .before in let at-shape-of = at-loop .before in let start = at-shape-of .before in
+    let i : ℕ = at-loop .loop .i in
+    let ks : List Kind = shapeOf (start .args .w) in
+    let q : at-shape-of .shape-of .result ≡ codesOf ks = at-shape-of .shape-of .ensures .0 in
+    sym (at-loop .loop .inv .1 ks q ∙ tree-here ks i _ (ap (λ (xs : List ℕ). getD xs i 0) (sym q) ∙ at-if1 .if1 .taken))
 
 loop-again : tie.Need-loop-again Inv-loop μ-loop
 loop-again c =
-    let i : ℕ = c .before .before .loop .i in
-    let here : (ks : List Kind) → c .before .before .before .shape-of .result ≡ codesOf ks → getD (c .before .before .before .shape-of .result) i 0 ≡ getD (codesOf ks) i 0 = λ ks q. ap (λ (xs : List ℕ). getD xs i 0) q in
-    let some : (ks : List Kind) → c .before .before .before .shape-of .result ≡ codesOf ks → getD (codesOf ks) i 0 ≡ 0 → ⊥ = λ ks q z. c .before .loop-test .taken (here ks q ∙ z) in
-    let w : List Kind = shapeOf (c .before .before .before .before .args .w) in
-    let q = c .before .before .before .shape-of .ensures in (
+    let at-test = c .before in let at-loop = at-test .before in let at-shape-of = at-loop .before in let start = at-shape-of .before in
+    let i : ℕ = at-loop .loop .i in
+    let here : (ks : List Kind) → at-shape-of .shape-of .result ≡ codesOf ks → getD (at-shape-of .shape-of .result) i 0 ≡ getD (codesOf ks) i 0 = λ ks q. ap (λ (xs : List ℕ). getD xs i 0) q in
+    let some : (ks : List Kind) → at-shape-of .shape-of .result ≡ codesOf ks → getD (codesOf ks) i 0 ≡ 0 → ⊥ = λ ks q z. at-test .loop-test .taken (here ks q ∙ z) in
+    let w : List Kind = shapeOf (start .args .w) in
+    let q = at-shape-of .shape-of .ensures in (
       omega (arith, kind-at w i (some w (q .0)) .3, few-kinds w (sym (ap length (q .0)) ∙ q .1)),
-      λ ks e. rw (add-one i) (c .before .before .loop .inv .1 ks e ∙ tree-later ks i _ (some ks e) (λ z. c .if1 .left (here ks e ∙ z))),
+      λ ks e. rw (add-one i) (at-loop .loop .inv .1 ks e ∙ tree-later ks i _ (some ks e) (λ z. c .if1 .left (here ks e ∙ z))),
     )
 
 returns-2 : tie.Need-returns-2 Inv-loop μ-loop
 returns-2 c =
-    let i : ℕ = c .before .loop .i in
-    let ks : List Kind = shapeOf (c .before .before .before .args .w) in
-    let q : c .before .before .shape-of .result ≡ codesOf ks = c .before .before .shape-of .ensures .0 in
-    sym (c .before .loop .inv .1 ks q ∙ tree-none ks i _ (ap (λ (xs : List ℕ). getD xs i 0) (sym q) ∙ c .loop-test .left))
+    let at-loop = c .before in let at-shape-of = at-loop .before in let start = at-shape-of .before in
+    let i : ℕ = at-loop .loop .i in
+    let ks : List Kind = shapeOf (start .args .w) in
+    let q : at-shape-of .shape-of .result ≡ codesOf ks = at-shape-of .shape-of .ensures .0 in
+    sym (at-loop .loop .inv .1 ks q ∙ tree-none ks i _ (ap (λ (xs : List ℕ). getD xs i 0) (sym q) ∙ c .loop-test .left))
 
 pub tree-place-spec : {M : Type 1} → statement M
 tree-place-spec =

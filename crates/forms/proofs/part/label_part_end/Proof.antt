@@ -18,21 +18,24 @@ sub-n c = search needs
 
 returns : tie.Need-returns
 returns c =
-    let s : List ℕ = c .before .before .before .args .s .now in
-    let at : ℕ = c .before .before .before .args .at in
-    bad-onward _ _ (label-none s at (c .before .label-end .result - at) (omega arith) (omega arith))
+    let at-label-end = c .before in let start = at-label-end .before .before in
+    let s : List ℕ = start .args .s .now in
+    let at : ℕ = start .args .at in
+    bad-onward _ _ (label-none s at (at-label-end .label-end .result - at) (omega arith) (omega arith))
 
 returns-2 : tie.Need-returns-2
 returns-2 c =
-    let s : List ℕ = c .before .before .before .before .args .s .now in
-    let at : ℕ = c .before .before .before .before .args .at in
-    bad-onward _ _ (label-long s at (c .before .before .label-end .result - at) (omega arith) (omega arith))
+    let at-label-end = c .before .before in let start = at-label-end .before .before in
+    let s : List ℕ = start .args .s .now in
+    let at : ℕ = start .args .at in
+    bad-onward _ _ (label-long s at (at-label-end .label-end .result - at) (omega arith) (omega arith))
 
 returns-3 : tie.Need-returns-3
 returns-3 c =
-    let s : List ℕ = c .before .before .before .before .args .s .now in
-    let at : ℕ = c .before .before .before .before .args .at in
-    let e : ℕ = c .before .before .label-end .result in
+    let at-label-end = c .before .before in let start = at-label-end .before .before in
+    let s : List ℕ = start .args .s .now in
+    let at : ℕ = start .args .at in
+    let e : ℕ = at-label-end .label-end .result in
     let z : at + (e - at) ≡ e = omega arith in
     at-onward _ _ e (label-good s at (e - at) (omega arith) (omega arith) (omega arith) ∙ ap At z) (omega arith) (omega arith)
 

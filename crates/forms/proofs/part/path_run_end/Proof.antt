@@ -30,9 +30,10 @@ path-byte-requires c κs = search needs
 
 returns : tie.Need-returns Inv-loop μ-loop
 returns c =
-    let s : List ℕ = c .before .before .before .before .before .before .args .s .now in
-    let i : ℕ = c .before .before .before .before .loop .i in
-    let stop : runAt pathByte s i ≡ 0 = run-no pathByte s i (omega arith) (sym (c .before .path-byte .ensures) ∙ not-true _ (c .if1 .taken)) in
+    let at-path-byte = c .before in let at-loop = at-path-byte .before .before .before in let start = at-loop .before .before in
+    let s : List ℕ = start .args .s .now in
+    let i : ℕ = at-loop .loop .i in
+    let stop : runAt pathByte s i ≡ 0 = run-no pathByte s i (omega arith) (sym (at-path-byte .path-byte .ensures) ∙ not-true _ (c .if1 .taken)) in
     record { is = omega arith; from = omega arith; to = omega arith }
 
 add-i : tie.Need-add-i Inv-loop μ-loop
@@ -43,14 +44,16 @@ loop-less c = omega arith
 
 loop-again : tie.Need-loop-again Inv-loop μ-loop
 loop-again c =
-    let s : List ℕ = c .before .before .before .before .before .before .args .s .now in
-    let i : ℕ = c .before .before .before .before .loop .i in
-    let more = run-yes pathByte s i (omega arith) (sym (c .before .path-byte .ensures) ∙ not-false _ (c .if1 .left)) in
+    let at-path-byte = c .before in let at-loop = at-path-byte .before .before .before in let start = at-loop .before .before in
+    let s : List ℕ = start .args .s .now in
+    let i : ℕ = at-loop .loop .i in
+    let more = run-yes pathByte s i (omega arith) (sym (at-path-byte .path-byte .ensures) ∙ not-false _ (c .if1 .left)) in
     (omega arith, omega arith, omega arith)
 
 returns-2 : tie.Need-returns-2 Inv-loop μ-loop
 returns-2 c =
-    let stop = run-end pathByte (c .before .before .before .args .s .now) (c .before .loop .i) (omega arith) in
+    let at-loop = c .before in let start = at-loop .before .before in
+    let stop = run-end pathByte (start .args .s .now) (at-loop .loop .i) (omega arith) in
     record { is = omega arith; from = omega arith; to = omega arith }
 
 pub path-run-end-spec : {M : Type 1} → statement M

@@ -26,15 +26,17 @@ loop-holds c = (omega arith, omega arith, refl)
 returns-2 : tie.Need-returns-2 Inv-loop μ-loop
 unfolding lineOk
 returns-2 c =
-    let inv = c .before .before .before .before .loop .inv in
-    rw (le-leb _ 1024 (inv .0)) (sym (inv .2 ∙ all-stop lineByte _ _ (c .before .before .before .loop-test .taken) (sym (c .before .line-byte .ensures) ∙ not-true _ (c .if2 .taken))))
+    let at-line-byte = c .before in let at-test = at-line-byte .before .before in let at-loop = at-test .before in
+    let inv = at-loop .loop .inv in
+    rw (le-leb _ 1024 (inv .0)) (sym (inv .2 ∙ all-stop lineByte _ _ (at-test .loop-test .taken) (sym (at-line-byte .line-byte .ensures) ∙ not-true _ (c .if2 .taken))))
 
 loop-again : tie.Need-loop-again Inv-loop μ-loop
-loop-again c = (
-  omega arith,
-  omega arith,
-  c .before .before .before .before .loop .inv .2 ∙ all-step lineByte _ _ (c .before .before .before .loop-test .taken) (sym (c .before .line-byte .ensures) ∙ not-false _ (c .if2 .left)),
-)
+loop-again c =
+    let at-line-byte = c .before in let at-test = at-line-byte .before .before in let at-loop = at-test .before in (
+      omega arith,
+      omega arith,
+      at-loop .loop .inv .2 ∙ all-step lineByte _ _ (at-test .loop-test .taken) (sym (at-line-byte .line-byte .ensures) ∙ not-false _ (c .if2 .left)),
+    )
 
 returns-3 : tie.Need-returns-3 Inv-loop μ-loop
 unfolding lineOk

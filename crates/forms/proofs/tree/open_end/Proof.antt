@@ -18,15 +18,17 @@ returns c =
 
 returns-2 : tie.Need-returns-2
 returns-2 c =
-    let s : List ℕ = c .before .before .before .before .args .s .now in
-    let at : ℕ = c .before .before .before .before .args .at in
+    let start = c .before .before .before .before in
+    let s : List ℕ = start .args .s .now in
+    let at : ℕ = start .args .at in
     bad-onward _ _ (open-not s at (c .if2 .taken))
 
 returns-3 : tie.Need-returns-3
 returns-3 c =
-    let s : List ℕ = c .before .before .before .before .before .args .s .now in
-    let at : ℕ = c .before .before .before .before .before .args .at in
-    earlier _ _ _ (open-label s at (c .before .if2 .left)) (omega arith) (c .label-part-end .ensures)
+    let at-if2 = c .before in let start = at-if2 .before .before .before .before in
+    let s : List ℕ = start .args .s .now in
+    let at : ℕ = start .args .at in
+    earlier _ _ _ (open-label s at (at-if2 .if2 .left)) (omega arith) (c .label-part-end .ensures)
 
 pub open-end-spec : {M : Type 1} → statement M
 open-end-spec =

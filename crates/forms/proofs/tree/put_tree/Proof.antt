@@ -11,66 +11,76 @@ use Rattle.forms.proofs.tree.put_tree.Tie as tie
 
 returns : tie.Need-returns
 returns c =
-    let s : List ℕ = c .before .before .before .before .before .args .s .now in
-    let at : ℕ = c .before .before .before .before .before .args .at in
-    let tree : List ℕ = c .before .before .before .before .before .args .tree .now in
-    put-tree-none s at tree (sym (c .before .before .open-end .ensures .is) ∙ c .enum-told .given .1)
+    let at-open-end = c .before .before in let start = at-open-end .before .before .before in
+    let s : List ℕ = start .args .s .now in
+    let at : ℕ = start .args .at in
+    let tree : List ℕ = start .args .tree .now in
+    put-tree-none s at tree (sym (at-open-end .open-end .ensures .is) ∙ c .enum-told .given .1)
 
 add-a : tie.Need-add-a
 add-a c =
-    let e : ℕ = c .before .e .given .0 .0 in
-    let hi = c .before .before .before .open-end .ensures .on e (c .before .e .given .1) in
+    let at-e = c .before in let at-open-end = at-e .before .before in
+    let e : ℕ = at-e .e .given .0 .0 in
+    let hi = at-open-end .open-end .ensures .on e (at-e .e .given .1) in
     omega arith
 
 sub-put-node : tie.Need-sub-put-node
 sub-put-node c =
-    let e : ℕ = c .before .before .e .given .0 .0 in
-    let hi = c .before .before .before .before .open-end .ensures .on e (c .before .before .e .given .1) in
+    let at-e = c .before .before in let at-open-end = at-e .before .before in
+    let e : ℕ = at-e .e .given .0 .0 in
+    let hi = at-open-end .open-end .ensures .on e (at-e .e .given .1) in
     omega arith
 
 put-node-requires : tie.Need-put-node-requires
 put-node-requires c κs =
-    let s : List ℕ = c .before .before .before .before .before .before .before .args .s .now in
-    let at : ℕ = c .before .before .before .before .before .before .before .args .at in
-    let tree : List ℕ = c .before .before .before .before .before .before .before .args .tree .now in
-    let e : ℕ = c .before .before .e .given .0 .0 in
-    let hi = c .before .before .before .before .open-end .ensures .on e (c .before .before .e .given .1) in
-    let o = opened s at e (sym (c .before .before .before .before .open-end .ensures .is) ∙ c .before .before .e .given .1) in
+    let at-e = c .before .before in let at-open-end = at-e .before .before in let start = at-open-end .before .before .before in
+    let s : List ℕ = start .args .s .now in
+    let at : ℕ = start .args .at in
+    let tree : List ℕ = start .args .tree .now in
+    let e : ℕ = at-e .e .given .0 .0 in
+    let hi = at-open-end .open-end .ensures .on e (at-e .e .given .1) in
+    let o = opened s at e (sym (at-open-end .open-end .ensures .is) ∙ at-e .e .given .1) in
     (omega arith, omega arith, omega arith)
 
 sub-put-tail : tie.Need-sub-put-tail
 sub-put-tail c =
-    let e : ℕ = c .before .before .before .before .before .e .given .0 .0 in
-    let hi = c .before .before .before .before .before .before .before .open-end .ensures .on e (c .before .before .before .before .before .e .given .1) in
+    let at-e = c .before .before .before .before .before in let at-open-end = at-e .before .before in
+    let e : ℕ = at-e .e .given .0 .0 in
+    let hi = at-open-end .open-end .ensures .on e (at-e .e .given .1) in
     omega arith
 
 part-put-tail-start : tie.Need-part-put-tail-start
 part-put-tail-start c =
-    let e : ℕ = c .before .before .before .before .before .e .given .0 .0 in
-    let hi = c .before .before .before .before .before .before .before .open-end .ensures .on e (c .before .before .before .before .before .e .given .1) in
+    let at-e = c .before .before .before .before .before in let at-open-end = at-e .before .before in
+    let e : ℕ = at-e .e .given .0 .0 in
+    let hi = at-open-end .open-end .ensures .on e (at-e .e .given .1) in
     omega arith
 
 put-tail-requires : tie.Need-put-tail-requires
 put-tail-requires c κs =
-    let s : List ℕ = c .before .before .before .before .before .before .before .before .before .before .before .before .args .s .now in
-    let at : ℕ = c .before .before .before .before .before .before .before .before .before .before .before .before .args .at in
-    let tree : List ℕ = c .before .before .before .before .before .before .before .before .before .before .before .before .args .tree .now in
-    let e : ℕ = c .before .before .before .before .before .before .before .e .given .0 .0 in
-    let hi = c .before .before .before .before .before .before .before .before .before .open-end .ensures .on e (c .before .before .before .before .before .before .before .e .given .1) in
-    let o = opened s at e (sym (c .before .before .before .before .before .before .before .before .before .open-end .ensures .is) ∙ c .before .before .before .before .before .before .before .e .given .1) in
+    let at-put-node = c .before .before .before .before in let at-e = at-put-node .before .before .before in let at-open-end = at-e .before .before in
+    let start = at-open-end .before .before .before in
+    let s : List ℕ = start .args .s .now in
+    let at : ℕ = start .args .at in
+    let tree : List ℕ = start .args .tree .now in
+    let e : ℕ = at-e .e .given .0 .0 in
+    let hi = at-open-end .open-end .ensures .on e (at-e .e .given .1) in
+    let o = opened s at e (sym (at-open-end .open-end .ensures .is) ∙ at-e .e .given .1) in
     let len = rest-length s e in
-    let kept = c .before .before .before .before .put-node .kept .0 in
+    let kept = at-put-node .put-node .kept .0 in
     omega arith
 
 returns-2 : tie.Need-returns-2
 returns-2 c =
-    let s : List ℕ = c .before .before .before .before .before .before .before .before .before .before .before .before .before .before .before .args .s .now in
-    let at : ℕ = c .before .before .before .before .before .before .before .before .before .before .before .before .before .before .before .args .at in
-    let tree : List ℕ = c .before .before .before .before .before .before .before .before .before .before .before .before .before .before .before .args .tree .now in
-    let e : ℕ = c .before .before .before .before .before .before .before .before .before .before .e .given .0 .0 in
-    let hi = c .before .before .before .before .before .before .before .before .before .before .before .before .open-end .ensures .on e (c .before .before .before .before .before .before .before .before .before .before .e .given .1) in
-    let o = opened s at e (sym (c .before .before .before .before .before .before .before .before .before .before .before .before .open-end .ensures .is) ∙ c .before .before .before .before .before .before .before .before .before .before .e .given .1) in
-    put-tree-some s at tree (c .before .before .before .before .before .before .before .put-node .last .0) _ _ _ e (sym (c .before .before .before .before .before .before .before .before .before .before .before .before .open-end .ensures .is) ∙ c .before .before .before .before .before .before .before .before .before .before .e .given .1) (omega arith) (omega arith) (omega arith) (omega arith) (c .before .before .before .before .before .before .before .put-node .ensures) (rest-of s e) (c .before .before .put-tail .ensures)
+    let at-put-tail = c .before .before in let at-put-node = at-put-tail .before .before .before .before .before in
+    let at-e = at-put-node .before .before .before in let at-open-end = at-e .before .before in let start = at-open-end .before .before .before in
+    let s : List ℕ = start .args .s .now in
+    let at : ℕ = start .args .at in
+    let tree : List ℕ = start .args .tree .now in
+    let e : ℕ = at-e .e .given .0 .0 in
+    let hi = at-open-end .open-end .ensures .on e (at-e .e .given .1) in
+    let o = opened s at e (sym (at-open-end .open-end .ensures .is) ∙ at-e .e .given .1) in
+    put-tree-some s at tree (at-put-node .put-node .last .0) _ _ _ e (sym (at-open-end .open-end .ensures .is) ∙ at-e .e .given .1) (omega arith) (omega arith) (omega arith) (omega arith) (at-put-node .put-node .ensures) (rest-of s e) (at-put-tail .put-tail .ensures)
 
 pub put-tree-spec : {M : Type 1} → statement M
 put-tree-spec =

@@ -12,37 +12,42 @@ use Rattle.forms.proofs.tree.tree_end.Tie as tie
 
 returns : tie.Need-returns
 returns c =
-    let s : List ℕ = c .before .before .before .before .args .s .now in
-    let at : ℕ = c .before .before .before .before .args .at in
-    bad-onward _ _ (tree-unopened s at (sym (c .before .before .open-end .ensures .is) ∙ c .enum-told .given .1))
+    let at-open-end = c .before .before in let start = at-open-end .before .before in
+    let s : List ℕ = start .args .s .now in
+    let at : ℕ = start .args .at in
+    bad-onward _ _ (tree-unopened s at (sym (at-open-end .open-end .ensures .is) ∙ c .enum-told .given .1))
 
 sub-tail-end : tie.Need-sub-tail-end
 sub-tail-end c =
-    let e : ℕ = c .before .e .given .0 .0 in
-    let hi = c .before .before .before .open-end .ensures .on e (c .before .e .given .1) in
+    let at-e = c .before in let at-open-end = at-e .before .before in
+    let e : ℕ = at-e .e .given .0 .0 in
+    let hi = at-open-end .open-end .ensures .on e (at-e .e .given .1) in
     omega arith
 
 part-tail-end-start : tie.Need-part-tail-end-start
 part-tail-end-start c =
-    let e : ℕ = c .before .e .given .0 .0 in
-    let hi = c .before .before .before .open-end .ensures .on e (c .before .e .given .1) in
+    let at-e = c .before in let at-open-end = at-e .before .before in
+    let e : ℕ = at-e .e .given .0 .0 in
+    let hi = at-open-end .open-end .ensures .on e (at-e .e .given .1) in
     omega arith
 
 tail-end-requires : tie.Need-tail-end-requires
 tail-end-requires c κs =
-    let s : List ℕ = c .before .before .before .before .before .before .args .s .now in
-    let e : ℕ = c .before .before .e .given .0 .0 in
-    let hi = c .before .before .before .before .open-end .ensures .on e (c .before .before .e .given .1) in
+    let at-e = c .before .before in let at-open-end = at-e .before .before in let start = at-open-end .before .before in
+    let s : List ℕ = start .args .s .now in
+    let e : ℕ = at-e .e .given .0 .0 in
+    let hi = at-open-end .open-end .ensures .on e (at-e .e .given .1) in
     let len = rest-length s e in
     omega arith
 
 returns-2 : tie.Need-returns-2
 returns-2 c =
-    let s : List ℕ = c .before .before .before .before .before .before .before .args .s .now in
-    let at : ℕ = c .before .before .before .before .before .before .before .args .at in
-    let e : ℕ = c .before .before .before .e .given .0 .0 in
-    let hi = c .before .before .before .before .before .open-end .ensures .on e (c .before .before .before .e .given .1) in
-    tree-opened s at _ _ e (sym (c .before .before .before .before .before .open-end .ensures .is) ∙ c .before .before .before .e .given .1) (omega arith) (omega arith) (rest-of s e) (c .tail-end .ensures)
+    let at-e = c .before .before .before in let at-open-end = at-e .before .before in let start = at-open-end .before .before in
+    let s : List ℕ = start .args .s .now in
+    let at : ℕ = start .args .at in
+    let e : ℕ = at-e .e .given .0 .0 in
+    let hi = at-open-end .open-end .ensures .on e (at-e .e .given .1) in
+    tree-opened s at _ _ e (sym (at-open-end .open-end .ensures .is) ∙ at-e .e .given .1) (omega arith) (omega arith) (rest-of s e) (c .tail-end .ensures)
 
 pub tree-end-spec : {M : Type 1} → statement M
 tree-end-spec =

@@ -18,7 +18,9 @@ sub-if1 c = search needs
 
 returns : tie.Need-returns
 unfolding numberAt
-returns c = rw (lt-leb (runAt labelByte (c .before .before .before .args .s .now) (c .before .before .before .args .at)) 8 (omega arith))
+returns c =
+    let start = c .before .before .before in
+    rw (lt-leb (runAt labelByte (start .args .s .now) (start .args .at)) 8 (omega arith))
 
 word-number-requires : tie.Need-word-number-requires
 word-number-requires c κs = search needs
@@ -26,8 +28,9 @@ word-number-requires c κs = search needs
 returns-2 : tie.Need-returns-2
 unfolding numberAt
 returns-2 c =
-    let z : c .before .before .label-end .result - c .before .before .before .before .args .at ≡ runAt labelByte (c .before .before .before .before .args .s .now) (c .before .before .before .before .args .at) = omega arith in
-    rw (le-leb (runAt labelByte (c .before .before .before .before .args .s .now) (c .before .before .before .before .args .at)) 8 (omega arith)) (rw z at (c .word-number .ensures))
+    let at-label-end = c .before .before in let start = at-label-end .before .before in
+    let z : at-label-end .label-end .result - start .args .at ≡ runAt labelByte (start .args .s .now) (start .args .at) = omega arith in
+    rw (le-leb (runAt labelByte (start .args .s .now) (start .args .at)) 8 (omega arith)) (rw z at (c .word-number .ensures))
 
 pub number-at-spec : {M : Type 1} → statement M
 number-at-spec =

@@ -16,7 +16,9 @@ numbered-right-requires c κs = search needs
 
 returns : tie.Need-returns
 unfolding rightAt labelByte all
-returns c = c .numbered-right .ensures ∙ ap (numbered 0 rights) (c .before .number-at .ensures) ∙ numbered-among 0 rights refl (c .before .before .before .args .s .now) (c .before .before .before .args .at)
+returns c =
+    let at-number-at = c .before in let start = at-number-at .before .before in
+    c .numbered-right .ensures ∙ ap (numbered 0 rights) (at-number-at .number-at .ensures) ∙ numbered-among 0 rights refl (start .args .s .now) (start .args .at)
 
 pub right-at-spec : {M : Type 1} → statement M
 right-at-spec = tie.close (tie.spec number-at-requires numbered-right-requires returns)

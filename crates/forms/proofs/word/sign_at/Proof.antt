@@ -16,7 +16,9 @@ numbered-sign-requires c κs = search needs
 
 returns : tie.Need-returns
 unfolding signAt labelByte all
-returns c = c .numbered-sign .ensures ∙ ap (numbered 0 signs) (c .before .number-at .ensures) ∙ numbered-among 0 signs refl (c .before .before .before .args .s .now) (c .before .before .before .args .at)
+returns c =
+    let at-number-at = c .before in let start = at-number-at .before .before in
+    c .numbered-sign .ensures ∙ ap (numbered 0 signs) (at-number-at .number-at .ensures) ∙ numbered-among 0 signs refl (start .args .s .now) (start .args .at)
 
 pub sign-at-spec : {M : Type 1} → statement M
 sign-at-spec = tie.close (tie.spec number-at-requires numbered-sign-requires returns)

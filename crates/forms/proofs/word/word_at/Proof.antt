@@ -17,7 +17,9 @@ numbered-word-requires c κs = search needs
 
 returns : tie.Need-returns
 unfolding wordAt labelByte all
-returns c = c .numbered-word .ensures ∙ ap (numbered Other words) (c .before .number-at .ensures) ∙ numbered-among Other words refl (c .before .before .before .args .s .now) (c .before .before .before .args .at)
+returns c =
+    let at-number-at = c .before in let start = at-number-at .before .before in
+    c .numbered-word .ensures ∙ ap (numbered Other words) (at-number-at .number-at .ensures) ∙ numbered-among Other words refl (start .args .s .now) (start .args .at)
 
 pub word-at-spec : {M : Type 1} → statement M
 word-at-spec = tie.close (tie.spec number-at-requires numbered-word-requires returns)

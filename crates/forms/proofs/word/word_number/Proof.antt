@@ -36,21 +36,23 @@ cast-n c = omega (arith, c .shared-slice-known .given (c .before .before .loop .
 
 add-n : tie.Need-add-n Inv-loop μ-loop
 add-n c =
-    let s : List ℕ = c .before .before .before .args .s .now in
-    let e : ℕ = c .before .before .before .args .e in
-    let i : ℕ = c .before .before .loop .i in
-    let n : ℕ = c .before .before .loop .n in
-    let inv = c .before .before .loop .inv in
+    let at-loop = c .before .before in let start = at-loop .before in
+    let s : List ℕ = start .args .s .now in
+    let e : ℕ = start .args .e in
+    let i : ℕ = at-loop .loop .i in
+    let n : ℕ = at-loop .loop .n in
+    let inv = at-loop .loop .inv in
     let small = few-fit n (e - i) (omega arith) (inv .3) in
     omega (arith, c .shared-slice-known .given (i - 1))
 
 loop-again : tie.Need-loop-again Inv-loop μ-loop
 loop-again c =
-    let s : List ℕ = c .before .before .before .args .s .now in
-    let e : ℕ = c .before .before .before .args .e in
-    let i : ℕ = c .before .before .loop .i in
-    let n : ℕ = c .before .before .loop .n in
-    let inv = c .before .before .loop .inv in
+    let at-loop = c .before .before in let start = at-loop .before in
+    let s : List ℕ = start .args .s .now in
+    let e : ℕ = start .args .e in
+    let i : ℕ = at-loop .loop .i in
+    let n : ℕ = at-loop .loop .n in
+    let inv = at-loop .loop .inv in
     let small = few-fit n (e - i) (omega arith) (inv .3) in
     let j : ℕ = i - 1 in
     let q : suc j ≡ i = omega arith in

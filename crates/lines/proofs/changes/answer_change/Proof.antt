@@ -17,8 +17,11 @@ same-length : tie.Need-same-length
 same-length c = search needs
 
 returns : tie.Need-returns
-returns c = let a = c .before .before .before .before .before .before .before .before .before .args in
-    answered-count (a .table .now) (a .done .now) (a .area .now) _ (a .selected) _ _ _ (c .before .before .before .before .before .count-of .ensures) (c .before .before .before .before .count-marks .ensures .0) (c .before .before .answer-done .ensures)
+returns c =
+    let at-answer-done = c .before .before in let at-count-marks = at-answer-done .before .before in let at-count-of = at-count-marks .before in
+    let start = at-count-of .before .before .before .before in
+    let a = start .args in
+    answered-count (a .table .now) (a .done .now) (a .area .now) _ (a .selected) _ _ _ (at-count-of .count-of .ensures) (at-count-marks .count-marks .ensures .0) (at-answer-done .answer-done .ensures)
 
 pub answer-change-spec : {M : Type 1} → statement M
 answer-change-spec =

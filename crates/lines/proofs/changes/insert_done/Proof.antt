@@ -11,18 +11,29 @@ returns : tie.Need-returns
 returns c = performs-refused _ _ _ (c .before .insert-refusal .ensures) (c .if1 .taken)
 
 returns-2 : tie.Need-returns-2
-returns-2 c = let a = c .before .before .before .before .before .before .before .before .before .before .before .before .before .before .before .args in
-    performs-short _ _ _ (passed (insertChecks (a .place) (a .done .now) (a .m) (a .tree .now) (a .table .now)) _ refl (c .before .before .before .before .before .before .before .before .insert-refusal .ensures) (c .before .before .before .before .before .before .before .if1 .left)) (c .before .before .before .before .answer-change .ensures) (c .before .area-refusal .ensures) (c .if2 .taken)
+returns-2 c =
+    let at-area-refusal = c .before in let at-answer-change = at-area-refusal .before .before .before in
+    let at-if1 = at-answer-change .before .before .before in let at-insert-refusal = at-if1 .before in
+    let start = at-insert-refusal .before .before .before .before .before .before .before in
+    let a = start .args in
+    performs-short _ _ _ (passed (insertChecks (a .place) (a .done .now) (a .m) (a .tree .now) (a .table .now)) _ refl (at-insert-refusal .insert-refusal .ensures) (at-if1 .if1 .left)) (at-answer-change .answer-change .ensures) (at-area-refusal .area-refusal .ensures) (c .if2 .taken)
 
 insert-marked-requires : tie.Need-insert-marked-requires
-insert-marked-requires c κs = let a = c .before .before .before .before .before .before .before .before .before .before .before .before .before .before .before .before .args in
-    let g = c .before .before .before .before .before .before .before .before .before .before .before .before .before .before .before .before .pre in
-    let p = passed (insertChecks (a .place) (a .done .now) (a .m) (a .tree .now) (a .table .now)) _ refl (c .before .before .before .before .before .before .before .before .before .insert-refusal .ensures) (c .before .before .before .before .before .before .before .before .if1 .left) in
+insert-marked-requires c κs =
+    let at-if1 = c .before .before .before .before .before .before .before .before in let at-insert-refusal = at-if1 .before in
+    let start = at-insert-refusal .before .before .before .before .before .before .before in
+    let a = start .args in
+    let g = start .pre in
+    let p = passed (insertChecks (a .place) (a .done .now) (a .m) (a .tree .now) (a .table .now)) _ refl (at-insert-refusal .insert-refusal .ensures) (at-if1 .if1 .left) in
     ((g .1, g .2, g .3), (p .0, not-false _ (p .1 .0)))
 
 returns-3 : tie.Need-returns-3
-returns-3 c = let a = c .before .before .before .before .before .before .before .before .before .before .before .before .before .before .before .before .before .before .before .args in
-    performs-done _ _ _ (passed (insertChecks (a .place) (a .done .now) (a .m) (a .tree .now) (a .table .now)) _ refl (c .before .before .before .before .before .before .before .before .before .before .before .before .insert-refusal .ensures) (c .before .before .before .before .before .before .before .before .before .before .before .if1 .left)) (c .before .before .before .before .before .before .before .before .answer-change .ensures) (c .before .before .before .before .before .area-refusal .ensures) (c .before .before .before .before .if2 .left) (sym (same-stage (a .state .now) (c .before .before .before .before .before .before .before .before .before .before .before .before .before .before .before .before .before .before .before .pre .0))) (c .before .before .insert-marked .ensures)
+returns-3 c =
+    let at-insert-marked = c .before .before in let at-if2 = at-insert-marked .before .before in let at-area-refusal = at-if2 .before in
+    let at-answer-change = at-area-refusal .before .before .before in let at-if1 = at-answer-change .before .before .before in
+    let at-insert-refusal = at-if1 .before in let start = at-insert-refusal .before .before .before .before .before .before .before in
+    let a = start .args in
+    performs-done _ _ _ (passed (insertChecks (a .place) (a .done .now) (a .m) (a .tree .now) (a .table .now)) _ refl (at-insert-refusal .insert-refusal .ensures) (at-if1 .if1 .left)) (at-answer-change .answer-change .ensures) (at-area-refusal .area-refusal .ensures) (at-if2 .if2 .left) (sym (same-stage (a .state .now) (start .pre .0))) (at-insert-marked .insert-marked .ensures)
 
 pub insert-done-spec : {M : Type 1} → statement M
 insert-done-spec =

@@ -7,25 +7,35 @@ use Rattle.lines.proofs.changes.is_barred.Statement.{statement}
 use Rattle.lines.proofs.changes.is_barred.Tie as tie
 
 returns : tie.Need-returns
-returns c = let g = c .before .before .before .before .before .pre in
-    let a = c .before .before .before .before .before .args in
-    barred-restricted (a .state .now) (a .label .now) _ (c .before .is-restricted .ensures) (c .if1 .taken)
+returns c =
+    let at-is-restricted = c .before in let start = at-is-restricted .before .before .before .before in
+    let g = start .pre in
+    let a = start .args in
+    barred-restricted (a .state .now) (a .label .now) _ (at-is-restricted .is-restricted .ensures) (c .if1 .taken)
 
 sub-is-policy-word : tie.Need-sub-is-policy-word
-sub-is-policy-word c = omega (arith, store-held _ _ (c .before .before .before .before .before .pre) .size)
+sub-is-policy-word c =
+    let start = c .before .before .before .before .before in
+    omega (arith, store-held _ _ (start .pre) .size)
 
 part-is-policy-word-start : tie.Need-part-is-policy-word-start
-part-is-policy-word-start c = omega (arith, store-held _ _ (c .before .before .before .before .before .pre) .size)
+part-is-policy-word-start c =
+    let start = c .before .before .before .before .before in
+    omega (arith, store-held _ _ (start .pre) .size)
 
 is-policy-word-requires : tie.Need-is-policy-word-requires
-is-policy-word-requires c κs = let g = c .before .before .before .before .before .before .pre in
-    let a = c .before .before .before .before .before .before .args in
+is-policy-word-requires c κs =
+    let start = c .before .before .before .before .before .before in
+    let g = start .pre in
+    let a = start .args in
     (rw (rest-of (a .state .now) 8) (store-held _ _ g .policy), omega arith)
 
 returns-2 : tie.Need-returns-2
-returns-2 c = let g = c .before .before .before .before .before .before .before .pre in
-    let a = c .before .before .before .before .before .before .before .args in
-    barred-word (a .state .now) (a .label .now) _ (c .before .before .before .is-restricted .ensures) _ (c .before .before .if1 .left) (c .is-policy-word .ensures)
+returns-2 c =
+    let at-if1 = c .before .before in let at-is-restricted = at-if1 .before in let start = at-is-restricted .before .before .before .before in
+    let g = start .pre in
+    let a = start .args in
+    barred-word (a .state .now) (a .label .now) _ (at-is-restricted .is-restricted .ensures) _ (at-if1 .if1 .left) (c .is-policy-word .ensures)
 
 pub is-barred-spec : {M : Type 1} → statement M
 is-barred-spec =

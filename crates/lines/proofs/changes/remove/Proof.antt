@@ -19,40 +19,69 @@ returns : tie.Need-returns
 returns c = performs-refused _ _ _ (c .before .path-refusal .ensures) (c .if1 .taken)
 
 mark-change-requires : tie.Need-mark-change-requires
-mark-change-requires c κs = let a = c .before .before .before .before .before .before .before .before .args in
-    (c .before .before .before .before .before .before .before .before .pre, (passed (onView (a .path .now) (a .state .now)) _ refl (c .before .before .before .path-refusal .ensures) (c .before .before .if1 .left)), refl {a = 16384})
+mark-change-requires c κs =
+    let at-if1 = c .before .before in let at-path-refusal = at-if1 .before in let start = at-path-refusal .before .before .before .before .before in
+    let a = start .args in
+    (start .pre, (passed (onView (a .path .now) (a .state .now)) _ refl (at-path-refusal .path-refusal .ensures) (at-if1 .if1 .left)), refl {a = 16384})
 
 count-of-requires : tie.Need-count-of-requires
-count-of-requires c κs = table-long _ (store-held _ _ (c .before .before .before .before .before .before .before .before .before .before .before .pre) .table)
+count-of-requires c κs =
+    let start = c .before .before .before .before .before .before .before .before .before .before .before in
+    table-long _ (store-held _ _ (start .pre) .table)
 
 part-answer-change-end : tie.Need-part-answer-change-end
-part-answer-change-end c = let a = c .before .before .before .before .before .before .before .before .before .before .before .before .before .before .args in
-    done-reach change.Remove (a .state .now) (a .table .now) (a .path .now) (replicate 16384 0) _ _ _ (c .before .before .before .before .before .mark-change .ensures) (c .before .before .count-of .ensures)
+part-answer-change-end c =
+    let at-count-of = c .before .before in let at-mark-change = at-count-of .before .before .before in
+    let start = at-mark-change .before .before .before .before .before .before .before .before .before in
+    let a = start .args in
+    done-reach change.Remove (a .state .now) (a .table .now) (a .path .now) (replicate 16384 0) _ _ _ (at-mark-change .mark-change .ensures) (at-count-of .count-of .ensures)
 
 answer-change-requires : tie.Need-answer-change-requires
-answer-change-requires c κs = let a = c .before .before .before .before .before .before .before .before .before .before .before .before .before .before .before .before .args in
-    (store-held (a .state .now) (a .table .now) (c .before .before .before .before .before .before .before .before .before .before .before .before .before .before .before .before .pre) .table, done-cover change.Remove (a .state .now) (a .table .now) (a .path .now) (replicate 16384 0) _ _ _ (c .before .before .before .before .before .before .before .mark-change .ensures) (c .before .before .before .before .count-of .ensures))
+answer-change-requires c κs =
+    let at-count-of = c .before .before .before .before in let at-mark-change = at-count-of .before .before .before in
+    let start = at-mark-change .before .before .before .before .before .before .before .before .before in
+    let a = start .args in
+    (store-held (a .state .now) (a .table .now) (start .pre) .table, done-cover change.Remove (a .state .now) (a .table .now) (a .path .now) (replicate 16384 0) _ _ _ (at-mark-change .mark-change .ensures) (at-count-of .count-of .ensures))
 
 returns-2 : tie.Need-returns-2
-returns-2 c = let a = c .before .before .before .before .before .before .before .before .before .before .before .before .before .before .before .before .before .before .before .before .before .args in
-    performs-short _ _ _ (passed (onView (a .path .now) (a .state .now)) _ refl (c .before .before .before .before .before .before .before .before .before .before .before .before .before .before .before .before .path-refusal .ensures) (c .before .before .before .before .before .before .before .before .before .before .before .before .before .before .before .if1 .left)) (done-answered change.Remove (a .state .now) (a .table .now) (a .path .now) (replicate {A = ℕ} 16384 0) _ _ _ (c .before .before .before .before .before .before .before .before .before .before .before .before .mark-change .ensures) (c .before .before .before .before .before .before .before .before .before .count-of .ensures) (a .area .now) _ _ (c .before .before .before .before .answer-change .ensures)) (c .before .area-refusal .ensures) (c .if2 .taken)
+returns-2 c =
+    let at-area-refusal = c .before in let at-answer-change = at-area-refusal .before .before .before in
+    let at-count-of = at-answer-change .before .before .before .before .before in let at-mark-change = at-count-of .before .before .before in
+    let at-if1 = at-mark-change .before .before .before in let at-path-refusal = at-if1 .before in
+    let start = at-path-refusal .before .before .before .before .before in
+    let a = start .args in
+    performs-short _ _ _ (passed (onView (a .path .now) (a .state .now)) _ refl (at-path-refusal .path-refusal .ensures) (at-if1 .if1 .left)) (done-answered change.Remove (a .state .now) (a .table .now) (a .path .now) (replicate {A = ℕ} 16384 0) _ _ _ (at-mark-change .mark-change .ensures) (at-count-of .count-of .ensures) (a .area .now) _ _ (at-answer-change .answer-change .ensures)) (at-area-refusal .area-refusal .ensures) (c .if2 .taken)
 
 part-remove-marked-end : tie.Need-part-remove-marked-end
-part-remove-marked-end c = let a = c .before .before .before .before .before .before .before .before .before .before .before .before .before .before .before .before .before .before .before .before .before .before .before .args in
-    done-reach change.Remove (a .state .now) (a .table .now) (a .path .now) (replicate 16384 0) _ _ _ (c .before .before .before .before .before .before .before .before .before .before .before .before .before .before .mark-change .ensures) (c .before .before .before .before .before .before .before .before .before .before .before .count-of .ensures)
+part-remove-marked-end c =
+    let at-count-of = c .before .before .before .before .before .before .before .before .before .before .before in
+    let at-mark-change = at-count-of .before .before .before in
+    let start = at-mark-change .before .before .before .before .before .before .before .before .before in
+    let a = start .args in
+    done-reach change.Remove (a .state .now) (a .table .now) (a .path .now) (replicate 16384 0) _ _ _ (at-mark-change .mark-change .ensures) (at-count-of .count-of .ensures)
 
 remove-marked-requires : tie.Need-remove-marked-requires
-remove-marked-requires c κs = let a = c .before .before .before .before .before .before .before .before .before .before .before .before .before .before .before .before .before .before .before .before .before .before .before .before .args in
-    (store-held (a .state .now) (a .table .now) (c .before .before .before .before .before .before .before .before .before .before .before .before .before .before .before .before .before .before .before .before .before .before .before .before .pre) .table, done-cover change.Remove (a .state .now) (a .table .now) (a .path .now) (replicate 16384 0) _ _ _ (c .before .before .before .before .before .before .before .before .before .before .before .before .before .before .before .mark-change .ensures) (c .before .before .before .before .before .before .before .before .before .before .before .before .count-of .ensures))
+remove-marked-requires c κs =
+    let at-count-of = c .before .before .before .before .before .before .before .before .before .before .before .before in
+    let at-mark-change = at-count-of .before .before .before in
+    let start = at-mark-change .before .before .before .before .before .before .before .before .before in
+    let a = start .args in
+    (store-held (a .state .now) (a .table .now) (start .pre) .table, done-cover change.Remove (a .state .now) (a .table .now) (a .path .now) (replicate 16384 0) _ _ _ (at-mark-change .mark-change .ensures) (at-count-of .count-of .ensures))
 
 returns-3 : tie.Need-returns-3
-returns-3 c = let a = c .before .before .before .before .before .before .before .before .before .before .before .before .before .before .before .before .before .before .before .before .before .before .before .before .before .before .before .args in
+returns-3 c =
+    let at-remove-marked = c .before .before in let at-if2 = at-remove-marked .before .before .before .before in
+    let at-area-refusal = at-if2 .before in let at-answer-change = at-area-refusal .before .before .before in
+    let at-count-of = at-answer-change .before .before .before .before .before in let at-mark-change = at-count-of .before .before .before in
+    let at-if1 = at-mark-change .before .before .before in let at-path-refusal = at-if1 .before in
+    let start = at-path-refusal .before .before .before .before .before in
+    let a = start .args in
     let s = a .state .now in
     let h = a .path .now in
-    let d = c .before .before .before .before .before .before .before .before .before .before .before .before .before .before .before .before .before .before .mark-change .ensures in
-    let e = c .before .before .before .before .before .before .before .before .before .before .before .before .before .before .before .count-of .ensures in
+    let d = at-mark-change .mark-change .ensures in
+    let e = at-count-of .count-of .ensures in
     let z = replicate {A = ℕ} 16384 0 in
-    performs-done _ _ _ (passed (onView h s) _ refl (c .before .before .before .before .before .before .before .before .before .before .before .before .before .before .before .before .before .before .before .before .before .before .path-refusal .ensures) (c .before .before .before .before .before .before .before .before .before .before .before .before .before .before .before .before .before .before .before .before .before .if1 .left)) (done-answered change.Remove s (a .table .now) h z _ _ _ d e (a .area .now) _ _ (c .before .before .before .before .before .before .before .before .before .before .answer-change .ensures)) (c .before .before .before .before .before .before .before .area-refusal .ensures) (c .before .before .before .before .before .before .if2 .left) refl (removed-table change.Remove s (a .table .now) h z _ _ _ d e _ (c .before .before .remove-marked .ensures))
+    performs-done _ _ _ (passed (onView h s) _ refl (at-path-refusal .path-refusal .ensures) (at-if1 .if1 .left)) (done-answered change.Remove s (a .table .now) h z _ _ _ d e (a .area .now) _ _ (at-answer-change .answer-change .ensures)) (at-area-refusal .area-refusal .ensures) (at-if2 .if2 .left) refl (removed-table change.Remove s (a .table .now) h z _ _ _ d e _ (at-remove-marked .remove-marked .ensures))
 
 pub remove-spec : {M : Type 1} → statement M
 remove-spec =

@@ -17,16 +17,24 @@ path-refusal-requires : tie.Need-path-refusal-requires
 path-refusal-requires c κs = omega (arith, store-held _ _ (c .before .before .before .before .pre) .size)
 
 returns : tie.Need-returns
-returns c = let a = c .before .before .before .before .before .before .args in
-    first-front (onView (a .path .now) (a .state .now)) (check bannedLabel (sameLabel (a .label .now) restricted || policyWord (policyIn (a .state .now)) (a .label .now)) ∷ []) _ (c .before .path-refusal .ensures) (c .if1 .taken)
+returns c =
+    let at-path-refusal = c .before in let start = at-path-refusal .before .before .before .before .before in
+    let a = start .args in
+    first-front (onView (a .path .now) (a .state .now)) (check bannedLabel (sameLabel (a .label .now) restricted || policyWord (policyIn (a .state .now)) (a .label .now)) ∷ []) _ (at-path-refusal .path-refusal .ensures) (c .if1 .taken)
 
 returns-2 : tie.Need-returns-2
-returns-2 c = let p = passed (onView (c .before .before .before .before .before .before .before .before .args .path .now) (c .before .before .before .before .before .before .before .before .args .state .now)) _ refl (c .before .before .before .path-refusal .ensures) (c .before .before .if1 .left) in
-    rw (p .0, p .1 .0, sym (c .before .is-barred .ensures) ∙ c .if2 .taken)
+returns-2 c =
+    let at-is-barred = c .before in let at-if1 = at-is-barred .before in let at-path-refusal = at-if1 .before in
+    let start = at-path-refusal .before .before .before .before .before in
+    let p = passed (onView (start .args .path .now) (start .args .state .now)) _ refl (at-path-refusal .path-refusal .ensures) (at-if1 .if1 .left) in
+    rw (p .0, p .1 .0, sym (at-is-barred .is-barred .ensures) ∙ c .if2 .taken)
 
 returns-3 : tie.Need-returns-3
-returns-3 c = let p = passed (onView (c .before .before .before .before .before .before .before .before .args .path .now) (c .before .before .before .before .before .before .before .before .args .state .now)) _ refl (c .before .before .before .path-refusal .ensures) (c .before .before .if1 .left) in
-    rw (p .0, p .1 .0, sym (c .before .is-barred .ensures) ∙ c .if2 .left)
+returns-3 c =
+    let at-is-barred = c .before in let at-if1 = at-is-barred .before in let at-path-refusal = at-if1 .before in
+    let start = at-path-refusal .before .before .before .before .before in
+    let p = passed (onView (start .args .path .now) (start .args .state .now)) _ refl (at-path-refusal .path-refusal .ensures) (at-if1 .if1 .left) in
+    rw (p .0, p .1 .0, sym (at-is-barred .is-barred .ensures) ∙ c .if2 .left)
 
 pub rename-refusal-spec : {M : Type 1} → statement M
 rename-refusal-spec = tie.close (tie.spec path-refusal-requires returns (λ c κs. search needs) returns-2 returns-3)

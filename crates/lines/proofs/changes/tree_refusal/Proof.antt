@@ -7,16 +7,24 @@ use Rattle.lines.proofs.changes.tree_refusal.Statement.{statement}
 use Rattle.lines.proofs.changes.tree_refusal.Tie as tie
 
 returns : tie.Need-returns
-returns c = let a = c .before .before .before .before .before .args in
-    first-front (onView (a .path .now) (a .state .now)) (labelCheck (a .m) (a .tree .now) ∷ []) _ (c .before .path-refusal .ensures) (c .if1 .taken)
+returns c =
+    let at-path-refusal = c .before in let start = at-path-refusal .before .before .before .before in
+    let a = start .args in
+    first-front (onView (a .path .now) (a .state .now)) (labelCheck (a .m) (a .tree .now) ∷ []) _ (at-path-refusal .path-refusal .ensures) (c .if1 .taken)
 
 returns-2 : tie.Need-returns-2
-returns-2 c = let p = passed (onView (c .before .before .before .before .before .before .before .args .path .now) (c .before .before .before .before .before .before .before .args .state .now)) _ refl (c .before .before .before .path-refusal .ensures) (c .before .before .if1 .left) in
-    rw (p .0, p .1 .0, sym (c .before .tree-restricted .ensures) ∙ c .if2 .taken)
+returns-2 c =
+    let at-tree-restricted = c .before in let at-if1 = at-tree-restricted .before in let at-path-refusal = at-if1 .before in
+    let start = at-path-refusal .before .before .before .before in
+    let p = passed (onView (start .args .path .now) (start .args .state .now)) _ refl (at-path-refusal .path-refusal .ensures) (at-if1 .if1 .left) in
+    rw (p .0, p .1 .0, sym (at-tree-restricted .tree-restricted .ensures) ∙ c .if2 .taken)
 
 returns-3 : tie.Need-returns-3
-returns-3 c = let p = passed (onView (c .before .before .before .before .before .before .before .args .path .now) (c .before .before .before .before .before .before .before .args .state .now)) _ refl (c .before .before .before .path-refusal .ensures) (c .before .before .if1 .left) in
-    rw (p .0, p .1 .0, sym (c .before .tree-restricted .ensures) ∙ c .if2 .left)
+returns-3 c =
+    let at-tree-restricted = c .before in let at-if1 = at-tree-restricted .before in let at-path-refusal = at-if1 .before in
+    let start = at-path-refusal .before .before .before .before in
+    let p = passed (onView (start .args .path .now) (start .args .state .now)) _ refl (at-path-refusal .path-refusal .ensures) (at-if1 .if1 .left) in
+    rw (p .0, p .1 .0, sym (at-tree-restricted .tree-restricted .ensures) ∙ c .if2 .left)
 
 pub tree-refusal-spec : {M : Type 1} → statement M
 tree-refusal-spec = tie.close (tie.spec (λ c κs. search needs) returns (λ c κs. search needs) returns-2 returns-3)

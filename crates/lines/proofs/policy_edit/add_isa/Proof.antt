@@ -12,33 +12,39 @@ slice-read-count c = omega (arith, policy-sound (c .before .before .args .policy
 
 cast-policy : tie.Need-cast-policy
 cast-policy c =
-    let g = policy-sound (c .before .before .before .args .policy .now) (c .before .before .before .pre .0) in
+    let start = c .before .before .before in
+    let g = policy-sound (start .args .policy .now) (start .pre .0) in
     omega (arith, g .subjects)
 
 slice-write-policy : tie.Need-slice-write-policy
 slice-write-policy c =
-    let g = policy-sound (c .before .before .before .args .policy .now) (c .before .before .before .pre .0) in
+    let start = c .before .before .before in
+    let g = policy-sound (start .args .policy .now) (start .pre .0) in
     omega (arith, g .size, c .wide .ensures)
 
 cast-policy-2 : tie.Need-cast-policy-2
 cast-policy-2 c =
-    let g = policy-sound (c .before .before .before .args .policy .now) (c .before .before .before .pre .0) in
+    let start = c .before .before .before in
+    let g = policy-sound (start .args .policy .now) (start .pre .0) in
     omega (arith, g .subjects)
 
 slice-write-policy-2 : tie.Need-slice-write-policy-2
 slice-write-policy-2 c =
-    let g = policy-sound (c .before .before .before .args .policy .now) (c .before .before .before .pre .0) in
+    let start = c .before .before .before in
+    let g = policy-sound (start .args .policy .now) (start .pre .0) in
     simp length-set (omega (arith, g .size, c .wide .ensures))
 
 slice-write-policy-3 : tie.Need-slice-write-policy-3
 slice-write-policy-3 c =
-    let g = policy-sound (c .before .before .before .args .policy .now) (c .before .before .before .pre .0) in
+    let start = c .before .before .before in
+    let g = policy-sound (start .args .policy .now) (start .pre .0) in
     simp length-set (omega (arith, g .size))
 
 returns : tie.Need-returns
 returns c =
-    let g = policy-sound (c .before .before .before .args .policy .now) (c .before .before .before .pre .0) in
-    let a = c .before .before .before .args in
+    let start = c .before .before .before in
+    let g = policy-sound (start .args .policy .now) (start .pre .0) in
+    let a = start .args in
     isa-written (a .policy .now) (a .n) (a .r) (c .wide .result) (c .wide .ensures) (omega (arith, g .size, c .wide .ensures))
 
 pub add-isa-spec : {M : Type 1} → statement M

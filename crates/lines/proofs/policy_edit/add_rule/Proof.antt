@@ -10,35 +10,47 @@ use Rattle.lines.proofs.policy_edit.add_rule.Statement.{statement}
 use Rattle.lines.proofs.policy_edit.add_rule.Tie as tie
 
 slice-read-count : tie.Need-slice-read-count
-slice-read-count c = omega (arith, policy-sound (c .before .before .before .args .policy .now) (c .before .before .before .pre .0) .size)
+slice-read-count c =
+    let start = c .before .before .before in
+    omega (arith, policy-sound (start .args .policy .now) (start .pre .0) .size)
 
 put-steps-requires : tie.Need-put-steps-requires
 put-steps-requires c κs =
-    let g = policy-sound (c .before .before .before .before .before .args .policy .now) (c .before .before .before .before .before .pre .0) in
-    (c .before .before .before .before .before .pre .3, omega (arith, g .size, c .before .wide .ensures, c .before .before .before .before .before .pre .1))
+    let at-wide = c .before in let start = at-wide .before .before .before .before in
+    let g = policy-sound (start .args .policy .now) (start .pre .0) in
+    (start .pre .3, omega (arith, g .size, at-wide .wide .ensures, start .pre .1))
 
 cast-put-head : tie.Need-cast-put-head
-cast-put-head c = omega (arith, policy-sound (c .before .before .before .before .before .before .before .before .before .args .policy .now) (c .before .before .before .before .before .before .before .before .before .pre .0) .subjects, c .before .before .before .before .before .before .before .before .before .pre .2)
+cast-put-head c =
+    let start = c .before .before .before .before .before .before .before .before .before in
+    omega (arith, policy-sound (start .args .policy .now) (start .pre .0) .subjects, start .pre .2)
 
 cast-put-head-2 : tie.Need-cast-put-head-2
-cast-put-head-2 c = omega (arith, c .before .before .before .put-steps .ensures .0, written (c .before .before .before .before .before .before .before .before .before .args .path .now) (c .before .before .before .before .before .before .before .before .before .pre .3) .few)
+cast-put-head-2 c =
+    let at-put-steps = c .before .before .before in let start = at-put-steps .before .before .before .before .before .before in
+    omega (arith, at-put-steps .put-steps .ensures .0, written (start .args .path .now) (start .pre .3) .few)
 
 put-head-requires : tie.Need-put-head-requires
 put-head-requires c κs =
-    let g = policy-sound (c .before .before .before .before .before .before .before .before .before .args .policy .now) (c .before .before .before .before .before .before .before .before .before .pre .0) in
-    omega (arith, g .size, c .before .before .before .before .before .wide .ensures, c .before .before .before .before .before .before .before .before .before .pre .1)
+    let at-wide = c .before .before .before .before .before in let start = at-wide .before .before .before .before in
+    let g = policy-sound (start .args .policy .now) (start .pre .0) in
+    omega (arith, g .size, at-wide .wide .ensures, start .pre .1)
 
 slice-write-policy : tie.Need-slice-write-policy
-slice-write-policy c = omega (arith, policy-sound (c .before .before .before .before .before .before .before .before .before .before .before .before .args .policy .now) (c .before .before .before .before .before .before .before .before .before .before .before .before .pre .0) .size)
+slice-write-policy c =
+    let start = c .before .before .before .before .before .before .before .before .before .before .before .before in
+    omega (arith, policy-sound (start .args .policy .now) (start .pre .0) .size)
 
 returns : tie.Need-returns
 returns c =
-    let a = c .before .before .before .before .before .before .before .before .before .before .before .before .args in
-    let g = policy-sound (c .before .before .before .before .before .before .before .before .before .before .before .before .args .policy .now) (c .before .before .before .before .before .before .before .before .before .before .before .before .pre .0) in
-    let w = c .before .before .before .before .before .before .before .before .wide in
-    let t = c .before .before .before .before .before .before .put-steps in
-    let h = c .before .before .put-head in
-    rule-written (a .policy .now) (t .last .0) (h .last .0) (a .accept) (a .bit) (a .who) (w .result) (t .result) (stepsIn (a .path .now)) (w .ensures) (t .ensures .0) (omega (arith, g .size, w .ensures, c .before .before .before .before .before .before .before .before .before .before .before .before .pre .1)) (t .ensures .1) (h .ensures)
+    let at-put-head = c .before .before in let at-put-steps = at-put-head .before .before .before .before in
+    let at-wide = at-put-steps .before .before in let start = at-wide .before .before .before .before in
+    let a = start .args in
+    let g = policy-sound (start .args .policy .now) (start .pre .0) in
+    let w = at-wide .wide in
+    let t = at-put-steps .put-steps in
+    let h = at-put-head .put-head in
+    rule-written (a .policy .now) (t .last .0) (h .last .0) (a .accept) (a .bit) (a .who) (w .result) (t .result) (stepsIn (a .path .now)) (w .ensures) (t .ensures .0) (omega (arith, g .size, w .ensures, start .pre .1)) (t .ensures .1) (h .ensures)
 
 pub add-rule-spec : {M : Type 1} → statement M
 add-rule-spec =

@@ -8,21 +8,27 @@ use Rattle.lines.proofs.policy_edit.add_subject.Statement.{statement}
 use Rattle.lines.proofs.policy_edit.add_subject.Tie as tie
 
 slice-read-count : tie.Need-slice-read-count
-slice-read-count c = omega (arith, policy-sound (c .before .before .before .args .policy .now) (c .before .before .before .pre .0) .size)
+slice-read-count c =
+    let start = c .before .before .before in
+    omega (arith, policy-sound (start .args .policy .now) (start .pre .0) .size)
 
 put-name-requires : tie.Need-put-name-requires
 put-name-requires c κs =
-    let g = policy-sound (c .before .before .before .before .before .args .policy .now) (c .before .before .before .before .before .pre .0) in
-    (omega (arith, g .size, c .before .wide .ensures), c .before .before .before .before .before .pre .2, c .before .before .before .before .before .pre .3)
+    let at-wide = c .before in let start = at-wide .before .before .before .before in
+    let g = policy-sound (start .args .policy .now) (start .pre .0) in
+    (omega (arith, g .size, at-wide .wide .ensures), start .pre .2, start .pre .3)
 
 slice-write-policy : tie.Need-slice-write-policy
-slice-write-policy c = omega (arith, policy-sound (c .before .before .before .before .before .before .before .before .args .policy .now) (c .before .before .before .before .before .before .before .before .pre .0) .size)
+slice-write-policy c =
+    let start = c .before .before .before .before .before .before .before .before in
+    omega (arith, policy-sound (start .args .policy .now) (start .pre .0) .size)
 
 returns : tie.Need-returns
 returns c =
-    let a = c .before .before .before .before .before .before .before .before .args in
-    let r = c .before .before .put-name in
-    subject-written (a .policy .now) (r .last .0) (take (a .n) (drop (a .at) (a .s .now))) (c .before .before .before .before .wide .result) (c .before .before .before .before .wide .ensures) (r .ensures)
+    let at-put-name = c .before .before in let at-wide = at-put-name .before .before in let start = at-wide .before .before .before .before in
+    let a = start .args in
+    let r = at-put-name .put-name in
+    subject-written (a .policy .now) (r .last .0) (take (a .n) (drop (a .at) (a .s .now))) (at-wide .wide .result) (at-wide .wide .ensures) (r .ensures)
 
 pub add-subject-spec : {M : Type 1} → statement M
 add-subject-spec =

@@ -18,7 +18,9 @@ abbrev μ-loop : tie.MeasureT-loop
 μ-loop policy name count u₀ u = subjectCount policy - u
 
 shared-slice-read-wide : tie.Need-shared-slice-read-wide Inv-loop μ-loop
-shared-slice-read-wide c = omega (arith, policy-sound (c .before .before .before .args .policy .now) (c .before .before .before .pre) .size)
+shared-slice-read-wide c =
+    let start = c .before .before .before in
+    omega (arith, policy-sound (start .args .policy .now) (start .pre) .size)
 
 loop-holds : tie.Need-loop-holds Inv-loop μ-loop
 loop-holds c =
@@ -27,30 +29,36 @@ loop-holds c =
 
 is-name-requires : tie.Need-is-name-requires Inv-loop μ-loop
 is-name-requires c κs =
-    let g = c .before .before .before .before .before .before .pre in
-    let p = c .before .before .before .before .before .before .args .policy .now in
-    let h : c .before .loop .u < subjectCount p = omega (arith, c .before .before .wide .ensures) in
-    (record { declared = h; name = policy-sound p g .names (c .before .loop .u) h }, omega arith)
+    let at-loop = c .before in let at-wide = at-loop .before in let start = at-wide .before .before .before .before in
+    let g = start .pre in
+    let p = start .args .policy .now in
+    let h : at-loop .loop .u < subjectCount p = omega (arith, at-wide .wide .ensures) in
+    (record { declared = h; name = policy-sound p g .names (at-loop .loop .u) h }, omega arith)
 
 returns : tie.Need-returns Inv-loop μ-loop
 returns c =
-    let a = c .before .before .before .before .before .before .before .before .args in
-    let l = c .before .before .before .loop in
-    sym (l .inv .1 ∙ find-here (a .policy .now) (a .name .now) (subjectCount (a .policy .now)) (l .u) (omega (arith, c .before .before .before .before .wide .ensures)) (ap (λ x. sameLabel x (nameAt (a .policy .now) (l .u))) (sym (take-length (a .name .now))) ∙ sym (c .before .is-name .ensures) ∙ c .if1 .taken))
+    let at-is-name = c .before in let at-loop = at-is-name .before .before in let at-wide = at-loop .before in
+    let start = at-wide .before .before .before .before in
+    let a = start .args in
+    let l = at-loop .loop in
+    sym (l .inv .1 ∙ find-here (a .policy .now) (a .name .now) (subjectCount (a .policy .now)) (l .u) (omega (arith, at-wide .wide .ensures)) (ap (λ x. sameLabel x (nameAt (a .policy .now) (l .u))) (sym (take-length (a .name .now))) ∙ sym (at-is-name .is-name .ensures) ∙ c .if1 .taken))
 
 loop-less : tie.Need-loop-less Inv-loop μ-loop
 loop-less c = omega (arith, c .before .before .before .before .wide .ensures)
 
 loop-again : tie.Need-loop-again Inv-loop μ-loop
 loop-again c =
-    let a = c .before .before .before .before .before .before .before .before .args in
-    let l = c .before .before .before .loop in
-    (omega (arith, c .before .before .before .before .wide .ensures), l .inv .1 ∙ find-later (a .policy .now) (a .name .now) (subjectCount (a .policy .now)) (l .u) (omega (arith, c .before .before .before .before .wide .ensures)) (ap (λ x. sameLabel x (nameAt (a .policy .now) (l .u))) (sym (take-length (a .name .now))) ∙ sym (c .before .is-name .ensures) ∙ c .if1 .left))
+    let at-is-name = c .before in let at-loop = at-is-name .before .before in let at-wide = at-loop .before in
+    let start = at-wide .before .before .before .before in
+    let a = start .args in
+    let l = at-loop .loop in
+    (omega (arith, at-wide .wide .ensures), l .inv .1 ∙ find-later (a .policy .now) (a .name .now) (subjectCount (a .policy .now)) (l .u) (omega (arith, at-wide .wide .ensures)) (ap (λ x. sameLabel x (nameAt (a .policy .now) (l .u))) (sym (take-length (a .name .now))) ∙ sym (at-is-name .is-name .ensures) ∙ c .if1 .left))
 
 returns-2 : tie.Need-returns-2 Inv-loop μ-loop
 returns-2 c =
-    let a = c .before .before .before .before .before .before .args in
-    sym (c .before .loop .inv .1 ∙ find-none (a .policy .now) (a .name .now) (subjectCount (a .policy .now)) (c .before .loop .u) (omega (arith, c .before .before .wide .ensures)))
+    let at-loop = c .before in let at-wide = at-loop .before in let start = at-wide .before .before .before .before in
+    let a = start .args in
+    sym (at-loop .loop .inv .1 ∙ find-none (a .policy .now) (a .name .now) (subjectCount (a .policy .now)) (at-loop .loop .u) (omega (arith, at-wide .wide .ensures)))
 
 pub find-name-spec : {M : Type 1} → statement M
 find-name-spec =

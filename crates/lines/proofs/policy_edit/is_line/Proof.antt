@@ -8,14 +8,16 @@ use Rattle.lines.proofs.policy_edit.is_line.Tie as tie
 
 returns : tie.Need-returns
 returns c =
-    let a = c .before .before .before .before .args in
-    let h : isaN (a .policy .now) (a .k) ≡ a .n → ⊥ = λ e. c .if1 .taken (c .before .wide .ensures ∙ e) in
+    let at-wide = c .before in let start = at-wide .before .before .before in
+    let a = start .args in
+    let h : isaN (a .policy .now) (a .k) ≡ a .n → ⊥ = λ e. c .if1 .taken (at-wide .wide .ensures ∙ e) in
     rw (ne-eqb (isaN (a .policy .now) (a .k)) (a .n) h)
 
 returns-2 : tie.Need-returns-2
 returns-2 c =
-    let a = c .before .before .before .before .before .before .args in
-    let e : isaN (a .policy .now) (a .k) ≡ a .n = sym (c .before .before .before .wide .ensures) ∙ c .before .before .if1 .left in
+    let at-if1 = c .before .before in let at-wide = at-if1 .before in let start = at-wide .before .before .before in
+    let a = start .args in
+    let e : isaN (a .policy .now) (a .k) ≡ a .n = sym (at-wide .wide .ensures) ∙ at-if1 .if1 .left in
     rw (eq-eqb (isaN (a .policy .now) (a .k)) (a .n) e, c .wide2 .ensures)
 
 pub is-line-spec : {M : Type 1} → statement M

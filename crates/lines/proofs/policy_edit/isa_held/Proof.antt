@@ -26,29 +26,35 @@ loop-holds c =
 
 is-line-requires : tie.Need-is-line-requires Inv-loop μ-loop
 is-line-requires c κs =
-    let p = c .before .before .before .before .before .args .policy .now in
-    let g = policy-sound p (c .before .before .before .before .before .pre) in
-    (omega (arith, c .before .before .wide .ensures, g .lines), g .size)
+    let at-wide = c .before .before in let start = at-wide .before .before .before in
+    let p = start .args .policy .now in
+    let g = policy-sound p (start .pre) in
+    (omega (arith, at-wide .wide .ensures, g .lines), g .size)
 
 returns : tie.Need-returns Inv-loop μ-loop
 returns c =
-    let a = c .before .before .before .before .before .before .before .args in
-    let l = c .before .before .before .loop in
-    sym (l .inv .1 ∙ line-here (a .policy .now) (a .n) (a .r) (isaCount (a .policy .now)) (l .k) (omega (arith, c .before .before .before .before .wide .ensures)) (sym (c .before .is-line .ensures) ∙ c .if1 .taken))
+    let at-is-line = c .before in let at-loop = at-is-line .before .before in let at-wide = at-loop .before in
+    let start = at-wide .before .before .before in
+    let a = start .args in
+    let l = at-loop .loop in
+    sym (l .inv .1 ∙ line-here (a .policy .now) (a .n) (a .r) (isaCount (a .policy .now)) (l .k) (omega (arith, at-wide .wide .ensures)) (sym (at-is-line .is-line .ensures) ∙ c .if1 .taken))
 
 loop-less : tie.Need-loop-less Inv-loop μ-loop
 loop-less c = omega (arith, c .before .before .before .before .wide .ensures)
 
 loop-again : tie.Need-loop-again Inv-loop μ-loop
 loop-again c =
-    let a = c .before .before .before .before .before .before .before .args in
-    let l = c .before .before .before .loop in
-    (omega (arith, c .before .before .before .before .wide .ensures), l .inv .1 ∙ line-later (a .policy .now) (a .n) (a .r) (isaCount (a .policy .now)) (l .k) (omega (arith, c .before .before .before .before .wide .ensures)) (sym (c .before .is-line .ensures) ∙ c .if1 .left))
+    let at-is-line = c .before in let at-loop = at-is-line .before .before in let at-wide = at-loop .before in
+    let start = at-wide .before .before .before in
+    let a = start .args in
+    let l = at-loop .loop in
+    (omega (arith, at-wide .wide .ensures), l .inv .1 ∙ line-later (a .policy .now) (a .n) (a .r) (isaCount (a .policy .now)) (l .k) (omega (arith, at-wide .wide .ensures)) (sym (at-is-line .is-line .ensures) ∙ c .if1 .left))
 
 returns-2 : tie.Need-returns-2 Inv-loop μ-loop
 returns-2 c =
-    let a = c .before .before .before .before .before .args in
-    sym (c .before .loop .inv .1 ∙ line-none (a .policy .now) (a .n) (a .r) (isaCount (a .policy .now)) (c .before .loop .k) (omega (arith, c .before .before .wide .ensures)))
+    let at-loop = c .before in let at-wide = at-loop .before in let start = at-wide .before .before .before in
+    let a = start .args in
+    sym (at-loop .loop .inv .1 ∙ line-none (a .policy .now) (a .n) (a .r) (isaCount (a .policy .now)) (at-loop .loop .k) (omega (arith, at-wide .wide .ensures)))
 
 pub isa-held-spec : {M : Type 1} → statement M
 isa-held-spec =

@@ -20,17 +20,21 @@ loop-holds c = (omega arith, seek-first (c .before .args .s .now) (c .before .pr
 
 returns : tie.Need-returns Inv-loop μ-loop
 returns c =
-    let l = c .before .before .before .before .loop in
-    let read = c .before .before .read-step in
-    seek-none (c .before .before .before .before .before .before .args .s .now) (l .i) (l .inv .1) (c .before .before .before .loop-test .taken) (read .result) (read .ensures) (c .enum-told .given .1)
+    let at-read-step = c .before .before in let at-test = at-read-step .before in let at-loop = at-test .before in
+    let start = at-loop .before .before in
+    let l = at-loop .loop in
+    let read = at-read-step .read-step in
+    seek-none (start .args .s .now) (l .i) (l .inv .1) (at-test .loop-test .taken) (read .result) (read .ensures) (c .enum-told .given .1)
 
 sub-is-restricted : tie.Need-sub-is-restricted Inv-loop μ-loop
 sub-is-restricted c =
-    let s = c .before .before .before .before .before .before .before .args .s .now in
-    let l = c .before .before .before .before .before .loop in
-    let t = c .before .before .before .before .loop-test .taken in
-    let read = c .before .before .before .read-step in
-    let g = c .before .k .given in
+    let at-k = c .before in let at-read-step = at-k .before .before in let at-test = at-read-step .before in let at-loop = at-test .before in
+    let start = at-loop .before .before in
+    let s = start .args .s .now in
+    let l = at-loop .loop in
+    let t = at-test .loop-test .taken in
+    let read = at-read-step .read-step in
+    let g = at-k .k .given in
     let k = g .0 .1 .0 in
     let e = g .0 .1 .1 .0 in
     let on = step-on s (l .i + 1) (read .result) (read .ensures) (g .0 .0) k e (g .1) in
@@ -38,11 +42,13 @@ sub-is-restricted c =
 
 is-restricted-requires : tie.Need-is-restricted-requires Inv-loop μ-loop
 is-restricted-requires c κs =
-    let s = c .before .before .before .before .before .before .before .args .s .now in
-    let l = c .before .before .before .before .before .loop in
-    let t = c .before .before .before .before .loop-test .taken in
-    let read = c .before .before .before .read-step in
-    let g = c .before .k .given in
+    let at-k = c .before in let at-read-step = at-k .before .before in let at-test = at-read-step .before in let at-loop = at-test .before in
+    let start = at-loop .before .before in
+    let s = start .args .s .now in
+    let l = at-loop .loop in
+    let t = at-test .loop-test .taken in
+    let read = at-read-step .read-step in
+    let g = at-k .k .given in
     let k = g .0 .1 .0 in
     let e = g .0 .1 .1 .0 in
     let on = step-on s (l .i + 1) (read .result) (read .ensures) (g .0 .0) k e (g .1) in
@@ -50,23 +56,27 @@ is-restricted-requires c κs =
 
 returns-2 : tie.Need-returns-2 Inv-loop μ-loop
 returns-2 c =
-    let s = c .before .before .before .before .before .before .before .before .before .args .s .now in
-    let l = c .before .before .before .before .before .before .before .loop in
-    let t = c .before .before .before .before .before .before .loop-test .taken in
-    let read = c .before .before .before .before .before .read-step in
-    let g = c .before .before .before .k .given in
+    let at-is-restricted = c .before in let at-k = at-is-restricted .before .before in let at-read-step = at-k .before .before in
+    let at-test = at-read-step .before in let at-loop = at-test .before in let start = at-loop .before .before in
+    let s = start .args .s .now in
+    let l = at-loop .loop in
+    let t = at-test .loop-test .taken in
+    let read = at-read-step .read-step in
+    let g = at-k .k .given in
     let k = g .0 .1 .0 in
     let e = g .0 .1 .1 .0 in
     let on = step-on s (l .i + 1) (read .result) (read .ensures) (g .0 .0) k e (g .1) in
-    sym (seek-found s (l .i) (l .inv .1) t (read .result) (read .ensures) (g .0 .0) k e (g .1) (sym (c .before .is-restricted .ensures) ∙ c .if1 .taken))
+    sym (seek-found s (l .i) (l .inv .1) t (read .result) (read .ensures) (g .0 .0) k e (g .1) (sym (at-is-restricted .is-restricted .ensures) ∙ c .if1 .taken))
 
 loop-less : tie.Need-loop-less Inv-loop μ-loop
 loop-less c =
-    let s = c .before .before .before .before .before .before .before .before .before .args .s .now in
-    let l = c .before .before .before .before .before .before .before .loop in
-    let t = c .before .before .before .before .before .before .loop-test .taken in
-    let read = c .before .before .before .before .before .read-step in
-    let g = c .before .before .before .k .given in
+    let at-k = c .before .before .before in let at-read-step = at-k .before .before in let at-test = at-read-step .before in
+    let at-loop = at-test .before in let start = at-loop .before .before in
+    let s = start .args .s .now in
+    let l = at-loop .loop in
+    let t = at-test .loop-test .taken in
+    let read = at-read-step .read-step in
+    let g = at-k .k .given in
     let k = g .0 .1 .0 in
     let e = g .0 .1 .1 .0 in
     let on = step-on s (l .i + 1) (read .result) (read .ensures) (g .0 .0) k e (g .1) in
@@ -74,18 +84,22 @@ loop-less c =
 
 loop-again : tie.Need-loop-again Inv-loop μ-loop
 loop-again c =
-    let s = c .before .before .before .before .before .before .before .before .before .args .s .now in
-    let l = c .before .before .before .before .before .before .before .loop in
-    let t = c .before .before .before .before .before .before .loop-test .taken in
-    let read = c .before .before .before .before .before .read-step in
-    let g = c .before .before .before .k .given in
+    let at-is-restricted = c .before in let at-k = at-is-restricted .before .before in let at-read-step = at-k .before .before in
+    let at-test = at-read-step .before in let at-loop = at-test .before in let start = at-loop .before .before in
+    let s = start .args .s .now in
+    let l = at-loop .loop in
+    let t = at-test .loop-test .taken in
+    let read = at-read-step .read-step in
+    let g = at-k .k .given in
     let k = g .0 .1 .0 in
     let e = g .0 .1 .1 .0 in
     let on = step-on s (l .i + 1) (read .result) (read .ensures) (g .0 .0) k e (g .1) in
-    (on .2, seek-more s (l .i) (l .inv .1) t (read .result) (read .ensures) (g .0 .0) k e (g .1) (sym (c .before .is-restricted .ensures) ∙ c .if1 .left))
+    (on .2, seek-more s (l .i) (l .inv .1) t (read .result) (read .ensures) (g .0 .0) k e (g .1) (sym (at-is-restricted .is-restricted .ensures) ∙ c .if1 .left))
 
 returns-3 : tie.Need-returns-3 Inv-loop μ-loop
-returns-3 c = sym (seek-end (c .before .before .before .args .s .now) (c .before .loop .i) (c .before .loop .inv .1) (c .loop-test .left))
+returns-3 c =
+    let at-loop = c .before in let start = at-loop .before .before in
+    sym (seek-end (start .args .s .now) (at-loop .loop .i) (at-loop .loop .inv .1) (c .loop-test .left))
 
 pub path-restricted-spec : {M : Type 1} → statement M
 path-restricted-spec =

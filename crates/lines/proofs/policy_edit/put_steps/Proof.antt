@@ -25,25 +25,33 @@ same-length c = c .before .before .before .before .loop .inv .1
 
 returns : tie.Need-returns Inv-loop μ-loop
 returns c =
-    let a = c .before .before .before .before .before .before .before .args in
-    let l = c .before .before .before .before .loop in
-    let read = c .before .before .read-step in
-    put-none (a .policy .now) (a .at) (a .path .now) (l .policy) (l .n) (l .i) (l .inv .2) (c .before .before .before .before .before .before .before .pre .0) (c .before .before .before .loop-test .taken) (read .result) (read .ensures) (c .enum-told .given .1)
+    let at-read-step = c .before .before in let at-test = at-read-step .before in let at-loop = at-test .before in
+    let start = at-loop .before .before .before in
+    let a = start .args in
+    let l = at-loop .loop in
+    let read = at-read-step .read-step in
+    put-none (a .policy .now) (a .at) (a .path .now) (l .policy) (l .n) (l .i) (l .inv .2) (start .pre .0) (at-test .loop-test .taken) (read .result) (read .ensures) (c .enum-told .given .1)
 
 mul-put-name : tie.Need-mul-put-name Inv-loop μ-loop
-mul-put-name c = omega (arith, c .before .before .before .before .before .before .before .loop .inv .2 .room)
+mul-put-name c =
+    let at-loop = c .before .before .before .before .before .before .before in
+    omega (arith, at-loop .loop .inv .2 .room)
 
 add-put-name : tie.Need-add-put-name Inv-loop μ-loop
-add-put-name c = omega (arith, c .before .before .before .before .before .before .before .loop .inv .2 .room, c .before .before .before .before .before .before .before .before .before .before .pre .1)
+add-put-name c =
+    let at-loop = c .before .before .before .before .before .before .before in let start = at-loop .before .before .before in
+    omega (arith, at-loop .loop .inv .2 .room, start .pre .1)
 
 sub-put-name : tie.Need-sub-put-name Inv-loop μ-loop
 sub-put-name c =
-    let a = c .before .before .before .before .before .before .before .before .before .before .args in
-    let pre = c .before .before .before .before .before .before .before .before .before .before .pre in
-    let l = c .before .before .before .before .before .before .before .loop in
-    let t = c .before .before .before .before .before .before .loop-test .taken in
-    let read = c .before .before .before .before .before .read-step in
-    let g = c .before .before .before .axis .given in
+    let at-axis = c .before .before .before in let at-read-step = at-axis .before .before in let at-test = at-read-step .before in
+    let at-loop = at-test .before in let start = at-loop .before .before .before in
+    let a = start .args in
+    let pre = start .pre in
+    let l = at-loop .loop in
+    let t = at-test .loop-test .taken in
+    let read = at-read-step .read-step in
+    let g = at-axis .axis .given in
     let k = g .0 .1 .0 in
     let e = g .0 .1 .1 .0 in
     let on = step-on (a .path .now) (l .i + 1) (read .result) (read .ensures) (g .0 .0) k e (g .1) in
@@ -51,12 +59,14 @@ sub-put-name c =
 
 put-name-requires : tie.Need-put-name-requires Inv-loop μ-loop
 put-name-requires c κs =
-    let a = c .before .before .before .before .before .before .before .before .before .before .args in
-    let pre = c .before .before .before .before .before .before .before .before .before .before .pre in
-    let l = c .before .before .before .before .before .before .before .loop in
-    let t = c .before .before .before .before .before .before .loop-test .taken in
-    let read = c .before .before .before .before .before .read-step in
-    let g = c .before .before .before .axis .given in
+    let at-axis = c .before .before .before in let at-read-step = at-axis .before .before in let at-test = at-read-step .before in
+    let at-loop = at-test .before in let start = at-loop .before .before .before in
+    let a = start .args in
+    let pre = start .pre in
+    let l = at-loop .loop in
+    let t = at-test .loop-test .taken in
+    let read = at-read-step .read-step in
+    let g = at-axis .axis .given in
     let k = g .0 .1 .0 in
     let e = g .0 .1 .1 .0 in
     let on = step-on (a .path .now) (l .i + 1) (read .result) (read .ensures) (g .0 .0) k e (g .1) in
@@ -64,16 +74,20 @@ put-name-requires c κs =
     (omega (arith, w .0, pre .1, l .inv .1), w .1, omega (arith, on .1, on .2))
 
 add-n : tie.Need-add-n Inv-loop μ-loop
-add-n c = omega (arith, c .before .before .before .before .before .before .before .before .before .before .loop .inv .2 .room)
+add-n c =
+    let at-loop = c .before .before .before .before .before .before .before .before .before .before in
+    omega (arith, at-loop .loop .inv .2 .room)
 
 loop-less : tie.Need-loop-less Inv-loop μ-loop
 loop-less c =
-    let a = c .before .before .before .before .before .before .before .before .before .before .before .before .before .args in
-    let pre = c .before .before .before .before .before .before .before .before .before .before .before .before .before .pre in
-    let l = c .before .before .before .before .before .before .before .before .before .before .loop in
-    let t = c .before .before .before .before .before .before .before .before .before .loop-test .taken in
-    let read = c .before .before .before .before .before .before .before .before .read-step in
-    let g = c .before .before .before .before .before .before .axis .given in
+    let at-axis = c .before .before .before .before .before .before in let at-read-step = at-axis .before .before in
+    let at-test = at-read-step .before in let at-loop = at-test .before in let start = at-loop .before .before .before in
+    let a = start .args in
+    let pre = start .pre in
+    let l = at-loop .loop in
+    let t = at-test .loop-test .taken in
+    let read = at-read-step .read-step in
+    let g = at-axis .axis .given in
     let k = g .0 .1 .0 in
     let e = g .0 .1 .1 .0 in
     let on = step-on (a .path .now) (l .i + 1) (read .result) (read .ensures) (g .0 .0) k e (g .1) in
@@ -81,17 +95,20 @@ loop-less c =
 
 loop-again : tie.Need-loop-again Inv-loop μ-loop
 loop-again c =
-    let a = c .before .before .before .before .before .before .before .before .before .before .before .before .before .args in
-    let pre = c .before .before .before .before .before .before .before .before .before .before .before .before .before .pre in
-    let l = c .before .before .before .before .before .before .before .before .before .before .loop in
-    let t = c .before .before .before .before .before .before .before .before .before .loop-test .taken in
-    let read = c .before .before .before .before .before .before .before .before .read-step in
-    let g = c .before .before .before .before .before .before .axis .given in
+    let at-put-name = c .before .before in let at-axis-byte = at-put-name .before .before in let at-axis = at-axis-byte .before .before in
+    let at-read-step = at-axis .before .before in let at-test = at-read-step .before in let at-loop = at-test .before in
+    let start = at-loop .before .before .before in
+    let a = start .args in
+    let pre = start .pre in
+    let l = at-loop .loop in
+    let t = at-test .loop-test .taken in
+    let read = at-read-step .read-step in
+    let g = at-axis .axis .given in
     let k = g .0 .1 .0 in
     let e = g .0 .1 .1 .0 in
     let on = step-on (a .path .now) (l .i + 1) (read .result) (read .ensures) (g .0 .0) k e (g .1) in
-    let r = c .before .before .put-name in
-    let b = c .before .before .before .before .axis-byte in
+    let r = at-put-name .put-name in
+    let b = at-axis-byte .axis-byte in
     (on .2, omega (arith, l .inv .1), put-more (a .policy .now) (a .at) (a .path .now) (l .policy) (l .n) (l .i) (l .inv .2) (pre .0) t (read .result) (read .ensures) (g .0 .0) k e (g .1) (r .last .0) (b .result) (pre .1) (b .ensures) (r .ensures))
 
 same-length-2 : tie.Need-same-length-2 Inv-loop μ-loop
@@ -99,8 +116,9 @@ same-length-2 c = c .before .loop .inv .1
 
 returns-2 : tie.Need-returns-2 Inv-loop μ-loop
 returns-2 c =
-    let a = c .before .before .before .before .args in
-    let l = c .before .loop in
+    let at-loop = c .before in let start = at-loop .before .before .before in
+    let a = start .args in
+    let l = at-loop .loop in
     put-end (a .policy .now) (a .at) (a .path .now) (l .policy) (l .n) (l .i) (l .inv .2) (c .loop-test .left)
 
 pub put-steps-spec : {M : Type 1} → statement M

@@ -19,37 +19,57 @@ sub-subject-refusal : tie.Need-sub-subject-refusal
 sub-subject-refusal c = omega (arith, store-held _ _ (c .before .before .before .before .pre .0) .size)
 
 part-subject-refusal-start : tie.Need-part-subject-refusal-start
-part-subject-refusal-start c = omega (arith, store-held _ _ (c .before .before .before .before .before .pre .0) .size)
+part-subject-refusal-start c =
+    let start = c .before .before .before .before .before in
+    omega (arith, store-held _ _ (start .pre .0) .size)
 
 subject-refusal-requires : tie.Need-subject-refusal-requires
-subject-refusal-requires c κs = rw (rest-of (c .before .before .before .before .before .before .args .state .now) 8) (store-held _ _ (c .before .before .before .before .before .before .pre .0) .policy)
+subject-refusal-requires c κs =
+    let start = c .before .before .before .before .before .before in
+    rw (rest-of (start .args .state .now) 8) (store-held _ _ (start .pre .0) .policy)
 
 returns : tie.Need-returns
-returns c = let a = c .before .before .before .before .before .before .before .before .args in
-    performs-refused _ _ _ (c .before .subject-refusal .ensures ∙ ap (λ p. firstRefusal (subjectChecks p (a .name .now))) (rest-of (a .state .now) 8)) (c .if1 .taken)
+returns c =
+    let at-subject-refusal = c .before in let start = at-subject-refusal .before .before .before .before .before .before .before in
+    let a = start .args in
+    performs-refused _ _ _ (at-subject-refusal .subject-refusal .ensures ∙ ap (λ p. firstRefusal (subjectChecks p (a .name .now))) (rest-of (a .state .now) 8)) (c .if1 .taken)
 
 returns-2 : tie.Need-returns-2
-returns-2 c = let a = c .before .before .before .before .before .before .before .before .before .before .before .before .before .before .args in
-    performs-short _ _ _ (passed (subjectChecks (policyBytes (a .state .now)) (a .name .now)) _ refl (c .before .before .before .before .before .before .before .subject-refusal .ensures ∙ ap (λ p. firstRefusal (subjectChecks p (a .name .now))) (rest-of (a .state .now) 8)) (c .before .before .before .before .before .before .if1 .left)) (c .before .before .before .before .answer-ok .ensures) (c .before .area-refusal .ensures) (c .if2 .taken)
+returns-2 c =
+    let at-area-refusal = c .before in let at-answer-ok = at-area-refusal .before .before .before in let at-if1 = at-answer-ok .before .before in
+    let at-subject-refusal = at-if1 .before in let start = at-subject-refusal .before .before .before .before .before .before .before in
+    let a = start .args in
+    performs-short _ _ _ (passed (subjectChecks (policyBytes (a .state .now)) (a .name .now)) _ refl (at-subject-refusal .subject-refusal .ensures ∙ ap (λ p. firstRefusal (subjectChecks p (a .name .now))) (rest-of (a .state .now) 8)) (at-if1 .if1 .left)) (at-answer-ok .answer-ok .ensures) (at-area-refusal .area-refusal .ensures) (c .if2 .taken)
 
 sub-add-subject : tie.Need-sub-add-subject
-sub-add-subject c = omega (arith, store-held _ _ (c .before .before .before .before .before .before .before .before .before .before .before .before .before .before .pre .0) .size)
+sub-add-subject c =
+    let start = c .before .before .before .before .before .before .before .before .before .before .before .before .before .before in
+    omega (arith, store-held _ _ (start .pre .0) .size)
 
 part-add-subject-start : tie.Need-part-add-subject-start
-part-add-subject-start c = omega (arith, store-held _ _ (c .before .before .before .before .before .before .before .before .before .before .before .before .before .before .pre .0) .size)
+part-add-subject-start c =
+    let start = c .before .before .before .before .before .before .before .before .before .before .before .before .before .before in
+    omega (arith, store-held _ _ (start .pre .0) .size)
 
 add-subject-requires : tie.Need-add-subject-requires
-add-subject-requires c κs = let a = c .before .before .before .before .before .before .before .before .before .before .before .before .before .before .before .args in
+add-subject-requires c κs =
+    let at-if1 = c .before .before .before .before .before .before .before in let at-subject-refusal = at-if1 .before in
+    let start = at-subject-refusal .before .before .before .before .before .before .before in
+    let a = start .args in
     let s = a .state .now in
     rw (rest-of s 8)
-    (store-held _ _ (c .before .before .before .before .before .before .before .before .before .before .before .before .before .before .before .pre .0) .policy, omega (arith, leb-false 64 (subjectCount (policyBytes s)) ((passed (subjectChecks (policyBytes s) (a .name .now)) _ refl (c .before .before .before .before .before .before .before .before .subject-refusal .ensures ∙ ap (λ p. firstRefusal (subjectChecks p (a .name .now))) (rest-of s 8)) (c .before .before .before .before .before .before .before .if1 .left)) .1 .0)), c .before .before .before .before .before .before .before .before .before .before .before .before .before .before .before .pre .1, omega arith)
+    (store-held _ _ (start .pre .0) .policy, omega (arith, leb-false 64 (subjectCount (policyBytes s)) ((passed (subjectChecks (policyBytes s) (a .name .now)) _ refl (at-subject-refusal .subject-refusal .ensures ∙ ap (λ p. firstRefusal (subjectChecks p (a .name .now))) (rest-of s 8)) (at-if1 .if1 .left)) .1 .0)), start .pre .1, omega arith)
 
 returns-3 : tie.Need-returns-3
-returns-3 c = let a = c .before .before .before .before .before .before .before .before .before .before .before .before .before .before .before .before .before .before .args in
+returns-3 c =
+    let at-add-subject = c .before .before in let at-if2 = at-add-subject .before .before in let at-area-refusal = at-if2 .before in
+    let at-answer-ok = at-area-refusal .before .before .before in let at-if1 = at-answer-ok .before .before in
+    let at-subject-refusal = at-if1 .before in let start = at-subject-refusal .before .before .before .before .before .before .before in
+    let a = start .args in
     let s = a .state .now in
     let n = a .name .now in
-    performs-done _ _ _ (passed (subjectChecks (policyBytes s) n) _ refl (c .before .before .before .before .before .before .before .before .before .before .before .subject-refusal .ensures ∙ ap (λ p. firstRefusal (subjectChecks p n)) (rest-of s 8)) (c .before .before .before .before .before .before .before .before .before .before .if1 .left)) (c .before .before .before .before .before .before .before .before .answer-ok .ensures) (c .before .before .before .before .before .area-refusal .ensures) (c .before .before .before .before .if2 .left)
-    (put-kept s _ (λ x. withSubject x n) (omega (arith, store-held s (a .table .now) (c .before .before .before .before .before .before .before .before .before .before .before .before .before .before .before .before .before .before .pre .0) .size)) (c .before .before .add-subject .ensures ∙ ap (withSubject _) (take-length n))) refl
+    performs-done _ _ _ (passed (subjectChecks (policyBytes s) n) _ refl (at-subject-refusal .subject-refusal .ensures ∙ ap (λ p. firstRefusal (subjectChecks p n)) (rest-of s 8)) (at-if1 .if1 .left)) (at-answer-ok .answer-ok .ensures) (at-area-refusal .area-refusal .ensures) (at-if2 .if2 .left)
+    (put-kept s _ (λ x. withSubject x n) (omega (arith, store-held s (a .table .now) (start .pre .0) .size)) (at-add-subject .add-subject .ensures ∙ ap (withSubject _) (take-length n))) refl
 
 pub declare-spec : {M : Type 1} → statement M
 declare-spec =

@@ -16,76 +16,118 @@ use Rattle.lines.proofs.policy_lines.relate.Statement.{statement}
 use Rattle.lines.proofs.policy_lines.relate.Tie as tie
 
 sub-find-name : tie.Need-sub-find-name
-sub-find-name c = omega (arith, store-held _ _ (c .before .before .before .before .before .pre) .size)
+sub-find-name c =
+    let start = c .before .before .before .before .before in
+    omega (arith, store-held _ _ (start .pre) .size)
 
 part-find-name-start : tie.Need-part-find-name-start
-part-find-name-start c = omega (arith, store-held _ _ (c .before .before .before .before .before .before .pre) .size)
+part-find-name-start c =
+    let start = c .before .before .before .before .before .before in
+    omega (arith, store-held _ _ (start .pre) .size)
 
 find-name-requires : tie.Need-find-name-requires
-find-name-requires c κs = rw (rest-of (c .before .before .before .before .before .before .before .args .state .now) 8) (store-held _ _ (c .before .before .before .before .before .before .before .pre) .policy)
+find-name-requires c κs =
+    let start = c .before .before .before .before .before .before .before in
+    rw (rest-of (start .args .state .now) 8) (store-held _ _ (start .pre) .policy)
 
 sub-find-name-2 : tie.Need-sub-find-name-2
-sub-find-name-2 c = omega (arith, store-held _ _ (c .before .before .before .before .before .before .before .before .pre) .size)
+sub-find-name-2 c =
+    let start = c .before .before .before .before .before .before .before .before in
+    omega (arith, store-held _ _ (start .pre) .size)
 
 part-find-name-start-2 : tie.Need-part-find-name-start-2
-part-find-name-start-2 c = omega (arith, store-held _ _ (c .before .before .before .before .before .before .before .before .before .pre) .size)
+part-find-name-start-2 c =
+    let start = c .before .before .before .before .before .before .before .before .before in
+    omega (arith, store-held _ _ (start .pre) .size)
 
 find-name-requires-2 : tie.Need-find-name-requires-2
-find-name-requires-2 c κs = rw (rest-of (c .before .before .before .before .before .before .before .before .before .before .args .state .now) 8) (store-held _ _ (c .before .before .before .before .before .before .before .before .before .before .pre) .policy)
+find-name-requires-2 c κs =
+    let start = c .before .before .before .before .before .before .before .before .before .before in
+    rw (rest-of (start .args .state .now) 8) (store-held _ _ (start .pre) .policy)
 
 sub-isa-refusal : tie.Need-sub-isa-refusal
-sub-isa-refusal c = omega (arith, store-held _ _ (c .before .before .before .before .before .before .before .before .before .before .before .pre) .size)
+sub-isa-refusal c =
+    let start = c .before .before .before .before .before .before .before .before .before .before .before in
+    omega (arith, store-held _ _ (start .pre) .size)
 
 part-isa-refusal-start : tie.Need-part-isa-refusal-start
-part-isa-refusal-start c = omega (arith, store-held _ _ (c .before .before .before .before .before .before .before .before .before .before .before .before .pre) .size)
+part-isa-refusal-start c =
+    let start = c .before .before .before .before .before .before .before .before .before .before .before .before in
+    omega (arith, store-held _ _ (start .pre) .size)
 
 isa-refusal-requires : tie.Need-isa-refusal-requires
-isa-refusal-requires c κs = rw (rest-of (c .before .before .before .before .before .before .before .before .before .before .before .before .before .args .state .now) 8) (store-held _ _ (c .before .before .before .before .before .before .before .before .before .before .before .before .before .pre) .policy)
+isa-refusal-requires c κs =
+    let start = c .before .before .before .before .before .before .before .before .before .before .before .before .before in
+    rw (rest-of (start .args .state .now) 8) (store-held _ _ (start .pre) .policy)
 
 returns : tie.Need-returns
-returns c = let a = c .before .before .before .before .before .before .before .before .before .before .before .before .before .before .before .args in
+returns c =
+    let at-isa-refusal = c .before in let at-find-name2 = at-isa-refusal .before .before .before in
+    let at-find-name = at-find-name2 .before .before .before in
+    let start = at-find-name .before .before .before .before .before .before .before .before in
+    let a = start .args in
     let s = a .state .now in
-    performs-refused _ _ _ (isa-number s (c .before .isa-refusal .ensures) (found-part s (a .member .now) (c .before .before .before .before .before .before .before .find-name .ensures)) (found-part s (a .role .now) (c .before .before .before .before .find-name2 .ensures))) (c .if1 .taken)
+    performs-refused _ _ _ (isa-number s (at-isa-refusal .isa-refusal .ensures) (found-part s (a .member .now) (at-find-name .find-name .ensures)) (found-part s (a .role .now) (at-find-name2 .find-name2 .ensures))) (c .if1 .taken)
 
 returns-2 : tie.Need-returns-2
-returns-2 c = let a = c .before .before .before .before .before .before .before .before .before .before .before .before .before .before .before .before .before .before .before .before .before .args in
+returns-2 c =
+    let at-area-refusal = c .before in let at-answer-ok = at-area-refusal .before .before .before in let at-if1 = at-answer-ok .before .before in
+    let at-isa-refusal = at-if1 .before in let at-find-name2 = at-isa-refusal .before .before .before in
+    let at-find-name = at-find-name2 .before .before .before in
+    let start = at-find-name .before .before .before .before .before .before .before .before in
+    let a = start .args in
     let s = a .state .now in
-    performs-short _ _ _ (passed (isaChecks (policyBytes s) (subjectNamed (policyIn s) (a .member .now)) (subjectNamed (policyIn s) (a .role .now))) _ refl (isa-number s (c .before .before .before .before .before .before .before .isa-refusal .ensures) (found-part s (a .member .now) (c .before .before .before .before .before .before .before .before .before .before .before .before .before .find-name .ensures)) (found-part s (a .role .now) (c .before .before .before .before .before .before .before .before .before .before .find-name2 .ensures))) (c .before .before .before .before .before .before .if1 .left)) (c .before .before .before .before .answer-ok .ensures) (c .before .area-refusal .ensures) (c .if2 .taken)
+    performs-short _ _ _ (passed (isaChecks (policyBytes s) (subjectNamed (policyIn s) (a .member .now)) (subjectNamed (policyIn s) (a .role .now))) _ refl (isa-number s (at-isa-refusal .isa-refusal .ensures) (found-part s (a .member .now) (at-find-name .find-name .ensures)) (found-part s (a .role .now) (at-find-name2 .find-name2 .ensures))) (at-if1 .if1 .left)) (at-answer-ok .answer-ok .ensures) (at-area-refusal .area-refusal .ensures) (c .if2 .taken)
 
 sub-add-isa : tie.Need-sub-add-isa
-sub-add-isa c = omega (arith, store-held _ _ (c .before .before .before .before .before .before .before .before .before .before .before .before .before .before .before .before .before .before .before .before .before .pre) .size)
+sub-add-isa c =
+    let start = c .before .before .before .before .before .before .before .before .before .before .before .before .before .before .before .before .before .before .before .before .before in
+    omega (arith, store-held _ _ (start .pre) .size)
 
 part-add-isa-start : tie.Need-part-add-isa-start
-part-add-isa-start c = omega (arith, store-held _ _ (c .before .before .before .before .before .before .before .before .before .before .before .before .before .before .before .before .before .before .before .before .before .pre) .size)
+part-add-isa-start c =
+    let start = c .before .before .before .before .before .before .before .before .before .before .before .before .before .before .before .before .before .before .before .before .before in
+    omega (arith, store-held _ _ (start .pre) .size)
 
 add-isa-requires : tie.Need-add-isa-requires
-add-isa-requires c κs = let a = c .before .before .before .before .before .before .before .before .before .before .before .before .before .before .before .before .before .before .before .before .before .before .before .before .args in
+add-isa-requires c κs =
+    let at-number-in = c .before in let at-if1 = at-number-in .before .before .before .before .before .before .before .before in
+    let at-isa-refusal = at-if1 .before in let at-find-name2 = at-isa-refusal .before .before .before in
+    let at-find-name = at-find-name2 .before .before .before in
+    let start = at-find-name .before .before .before .before .before .before .before .before in
+    let a = start .args in
     let s = a .state .now in
     let m = a .member .now in
     let r = a .role .now in
-    let f = found-part s m (c .before .before .before .before .before .before .before .before .before .before .before .before .before .before .before .before .find-name .ensures) in
-    let g = found-part s r (c .before .before .before .before .before .before .before .before .before .before .before .before .before .find-name2 .ensures) in
-    let p = passed (isaChecks (policyBytes s) (subjectNamed (policyIn s) m) (subjectNamed (policyIn s) r)) _ refl (isa-number s (c .before .before .before .before .before .before .before .before .before .before .isa-refusal .ensures) f g) (c .before .before .before .before .before .before .before .before .before .if1 .left) in
-    let h = store-held s (a .table .now) (c .before .before .before .before .before .before .before .before .before .before .before .before .before .before .before .before .before .before .before .before .before .before .before .before .pre) in
+    let f = found-part s m (at-find-name .find-name .ensures) in
+    let g = found-part s r (at-find-name2 .find-name2 .ensures) in
+    let p = passed (isaChecks (policyBytes s) (subjectNamed (policyIn s) m) (subjectNamed (policyIn s) r)) _ refl (isa-number s (at-isa-refusal .isa-refusal .ensures) f g) (at-if1 .if1 .left) in
+    let h = store-held s (a .table .now) (start .pre) in
     rw (rest-of s 8) (
       h .policy,
       omega (arith, leb-false 128 (isaCount (policyBytes s)) (p .1 .1 .1 .1 .0)),
-      omega (arith, c .before .number-in .ensures ∙ ap numberIn f, found-declared (policyBytes s) m (h .policy) (p .0)),
+      omega (arith, at-number-in .number-in .ensures ∙ ap numberIn f, found-declared (policyBytes s) m (h .policy) (p .0)),
       omega (arith, c .number-in2 .ensures ∙ ap numberIn g, found-declared (policyBytes s) r (h .policy) (p .1 .0)),
     )
 
 returns-3 : tie.Need-returns-3
-returns-3 c = let a = c .before .before .before .before .before .before .before .before .before .before .before .before .before .before .before .before .before .before .before .before .before .before .before .before .before .before .before .args in
+returns-3 c =
+    let at-add-isa = c .before .before in let at-number-in2 = at-add-isa .before in let at-number-in = at-number-in2 .before in
+    let at-if2 = at-number-in .before .before in let at-area-refusal = at-if2 .before in let at-answer-ok = at-area-refusal .before .before .before in
+    let at-if1 = at-answer-ok .before .before in let at-isa-refusal = at-if1 .before in let at-find-name2 = at-isa-refusal .before .before .before in
+    let at-find-name = at-find-name2 .before .before .before in
+    let start = at-find-name .before .before .before .before .before .before .before .before in
+    let a = start .args in
     let s = a .state .now in
     let m = a .member .now in
     let r = a .role .now in
-    let f = found-part s m (c .before .before .before .before .before .before .before .before .before .before .before .before .before .before .before .before .before .before .before .find-name .ensures) in
-    let g = found-part s r (c .before .before .before .before .before .before .before .before .before .before .before .before .before .before .before .before .find-name2 .ensures) in
+    let f = found-part s m (at-find-name .find-name .ensures) in
+    let g = found-part s r (at-find-name2 .find-name2 .ensures) in
     let n = numberIn (subjectNamed (policyIn s) m) in
-    performs-done _ _ _ (passed (isaChecks (policyBytes s) (subjectNamed (policyIn s) m) (subjectNamed (policyIn s) r)) _ refl (isa-number s (c .before .before .before .before .before .before .before .before .before .before .before .before .before .isa-refusal .ensures) f g) (c .before .before .before .before .before .before .before .before .before .before .before .before .if1 .left)) (c .before .before .before .before .before .before .before .before .before .before .answer-ok .ensures) (c .before .before .before .before .before .before .before .area-refusal .ensures) (c .before .before .before .before .before .before .if2 .left)
-    (put-kept s _ (λ x. withIsa x n (numberIn (subjectNamed (policyIn s) r))) (omega (arith, store-held s (a .table .now) (c .before .before .before .before .before .before .before .before .before .before .before .before .before .before .before .before .before .before .before .before .before .before .before .before .before .before .before .pre) .size)) (c .before .before .add-isa .ensures
-    ∙ ap (λ x. withIsa (take (length s - 8) (drop 8 s)) x (c .before .before .before .number-in2 .result)) (c .before .before .before .before .number-in .ensures ∙ ap numberIn f)
-    ∙ ap (λ x. withIsa (take (length s - 8) (drop 8 s)) n x) (c .before .before .before .number-in2 .ensures ∙ ap numberIn g))) refl
+    performs-done _ _ _ (passed (isaChecks (policyBytes s) (subjectNamed (policyIn s) m) (subjectNamed (policyIn s) r)) _ refl (isa-number s (at-isa-refusal .isa-refusal .ensures) f g) (at-if1 .if1 .left)) (at-answer-ok .answer-ok .ensures) (at-area-refusal .area-refusal .ensures) (at-if2 .if2 .left)
+    (put-kept s _ (λ x. withIsa x n (numberIn (subjectNamed (policyIn s) r))) (omega (arith, store-held s (a .table .now) (start .pre) .size)) (at-add-isa .add-isa .ensures
+    ∙ ap (λ x. withIsa (take (length s - 8) (drop 8 s)) x (at-number-in2 .number-in2 .result)) (at-number-in .number-in .ensures ∙ ap numberIn f)
+    ∙ ap (λ x. withIsa (take (length s - 8) (drop 8 s)) n x) (at-number-in2 .number-in2 .ensures ∙ ap numberIn g))) refl
 
 pub relate-spec : {M : Type 1} → statement M
 relate-spec =

@@ -16,46 +16,73 @@ use Rattle.lines.proofs.policy_lines.rule.Statement.{statement}
 use Rattle.lines.proofs.policy_lines.rule.Tie as tie
 
 sub-find-name : tie.Need-sub-find-name
-sub-find-name c = omega (arith, store-held _ _ (c .before .before .before .before .before .pre) .size)
+sub-find-name c =
+    let start = c .before .before .before .before .before in
+    omega (arith, store-held _ _ (start .pre) .size)
 
 part-find-name-start : tie.Need-part-find-name-start
-part-find-name-start c = omega (arith, store-held _ _ (c .before .before .before .before .before .before .pre) .size)
+part-find-name-start c =
+    let start = c .before .before .before .before .before .before in
+    omega (arith, store-held _ _ (start .pre) .size)
 
 find-name-requires : tie.Need-find-name-requires
-find-name-requires c κs = rw (rest-of (c .before .before .before .before .before .before .before .args .state .now) 8) (store-held _ _ (c .before .before .before .before .before .before .before .pre) .policy)
+find-name-requires c κs =
+    let start = c .before .before .before .before .before .before .before in
+    rw (rest-of (start .args .state .now) 8) (store-held _ _ (start .pre) .policy)
 
 sub-rule-refusal : tie.Need-sub-rule-refusal
-sub-rule-refusal c = omega (arith, store-held _ _ (c .before .before .before .before .before .before .before .before .pre) .size)
+sub-rule-refusal c =
+    let start = c .before .before .before .before .before .before .before .before in
+    omega (arith, store-held _ _ (start .pre) .size)
 
 part-rule-refusal-start : tie.Need-part-rule-refusal-start
-part-rule-refusal-start c = omega (arith, store-held _ _ (c .before .before .before .before .before .before .before .before .before .pre) .size)
+part-rule-refusal-start c =
+    let start = c .before .before .before .before .before .before .before .before .before in
+    omega (arith, store-held _ _ (start .pre) .size)
 
 rule-refusal-requires : tie.Need-rule-refusal-requires
-rule-refusal-requires c κs = rw (rest-of (c .before .before .before .before .before .before .before .before .before .before .args .state .now) 8) (store-held _ _ (c .before .before .before .before .before .before .before .before .before .before .pre) .policy)
+rule-refusal-requires c κs =
+    let start = c .before .before .before .before .before .before .before .before .before .before in
+    rw (rest-of (start .args .state .now) 8) (store-held _ _ (start .pre) .policy)
 
 returns : tie.Need-returns
-returns c = let a = c .before .before .before .before .before .before .before .before .before .before .before .before .args in
-    performs-refused _ _ _ (rule-number (a .state .now) (a .path .now) (c .before .rule-refusal .ensures) (found-part (a .state .now) (a .name .now) (c .before .before .before .before .find-name .ensures))) (c .if1 .taken)
+returns c =
+    let at-rule-refusal = c .before in let at-find-name = at-rule-refusal .before .before .before in
+    let start = at-find-name .before .before .before .before .before .before .before .before in
+    let a = start .args in
+    performs-refused _ _ _ (rule-number (a .state .now) (a .path .now) (at-rule-refusal .rule-refusal .ensures) (found-part (a .state .now) (a .name .now) (at-find-name .find-name .ensures))) (c .if1 .taken)
 
 returns-2 : tie.Need-returns-2
-returns-2 c = let a = c .before .before .before .before .before .before .before .before .before .before .before .before .before .before .before .before .before .before .args in
+returns-2 c =
+    let at-area-refusal = c .before in let at-answer-ok = at-area-refusal .before .before .before in let at-if1 = at-answer-ok .before .before in
+    let at-rule-refusal = at-if1 .before in let at-find-name = at-rule-refusal .before .before .before in
+    let start = at-find-name .before .before .before .before .before .before .before .before in
+    let a = start .args in
     let s = a .state .now in
-    performs-short _ _ _ (passed (ruleChecks (policyBytes s) (a .path .now) (subjectNamed (policyIn s) (a .name .now))) _ refl (rule-number s (a .path .now) (c .before .before .before .before .before .before .before .rule-refusal .ensures) (found-part s (a .name .now) (c .before .before .before .before .before .before .before .before .before .before .find-name .ensures))) (c .before .before .before .before .before .before .if1 .left)) (c .before .before .before .before .answer-ok .ensures) (c .before .area-refusal .ensures) (c .if2 .taken)
+    performs-short _ _ _ (passed (ruleChecks (policyBytes s) (a .path .now) (subjectNamed (policyIn s) (a .name .now))) _ refl (rule-number s (a .path .now) (at-rule-refusal .rule-refusal .ensures) (found-part s (a .name .now) (at-find-name .find-name .ensures))) (at-if1 .if1 .left)) (at-answer-ok .answer-ok .ensures) (at-area-refusal .area-refusal .ensures) (c .if2 .taken)
 
 sub-add-rule : tie.Need-sub-add-rule
-sub-add-rule c = omega (arith, store-held _ _ (c .before .before .before .before .before .before .before .before .before .before .before .before .before .before .before .before .before .before .pre) .size)
+sub-add-rule c =
+    let start = c .before .before .before .before .before .before .before .before .before .before .before .before .before .before .before .before .before .before in
+    omega (arith, store-held _ _ (start .pre) .size)
 
 part-add-rule-start : tie.Need-part-add-rule-start
-part-add-rule-start c = omega (arith, store-held _ _ (c .before .before .before .before .before .before .before .before .before .before .before .before .before .before .before .before .before .before .pre) .size)
+part-add-rule-start c =
+    let start = c .before .before .before .before .before .before .before .before .before .before .before .before .before .before .before .before .before .before in
+    omega (arith, store-held _ _ (start .pre) .size)
 
 add-rule-requires : tie.Need-add-rule-requires
-add-rule-requires c κs = let a = c .before .before .before .before .before .before .before .before .before .before .before .before .before .before .before .before .before .before .before .before .args in
+add-rule-requires c κs =
+    let at-if1 = c .before .before .before .before .before .before .before .before in let at-rule-refusal = at-if1 .before in
+    let at-find-name = at-rule-refusal .before .before .before in
+    let start = at-find-name .before .before .before .before .before .before .before .before in
+    let a = start .args in
     let s = a .state .now in
     let h = a .path .now in
     let n = a .name .now in
-    let f = found-part s n (c .before .before .before .before .before .before .before .before .before .before .before .before .find-name .ensures) in
-    let p = passed (ruleChecks (policyBytes s) h (subjectNamed (policyIn s) n)) _ refl (rule-number s h (c .before .before .before .before .before .before .before .before .before .rule-refusal .ensures) f) (c .before .before .before .before .before .before .before .before .if1 .left) in
-    let g = store-held s (a .table .now) (c .before .before .before .before .before .before .before .before .before .before .before .before .before .before .before .before .before .before .before .before .pre) in
+    let f = found-part s n (at-find-name .find-name .ensures) in
+    let p = passed (ruleChecks (policyBytes s) h (subjectNamed (policyIn s) n)) _ refl (rule-number s h (at-rule-refusal .rule-refusal .ensures) f) (at-if1 .if1 .left) in
+    let g = store-held s (a .table .now) (start .pre) in
     rw (rest-of s 8) (
       g .policy,
       omega (arith, leb-false 128 (ruleCount (policyBytes s)) (p .1 .1 .1 .0)),
@@ -64,17 +91,25 @@ add-rule-requires c κs = let a = c .before .before .before .before .before .bef
     )
 
 slice-write-state : tie.Need-slice-write-state
-slice-write-state c = put-room (c .before .before .before .before .before .before .before .before .before .before .before .before .before .before .before .before .before .before .before .before .before .before .before .args .state .now) (c .before .before .add-rule .last .0) (omega (arith, store-held _ _ (c .before .before .before .before .before .before .before .before .before .before .before .before .before .before .before .before .before .before .before .before .before .before .before .pre) .size))
+slice-write-state c =
+    let at-add-rule = c .before .before in
+    let start = at-add-rule .before .before .before .before .before .before .before .before .before .before .before .before .before .before .before .before .before .before .before .before .before in
+    put-room (start .args .state .now) (at-add-rule .add-rule .last .0) (omega (arith, store-held _ _ (start .pre) .size))
 
 returns-3 : tie.Need-returns-3
-returns-3 c = let a = c .before .before .before .before .before .before .before .before .before .before .before .before .before .before .before .before .before .before .before .before .before .before .before .args in
+returns-3 c =
+    let at-add-rule = c .before .before in let at-number-in = at-add-rule .before in let at-if2 = at-number-in .before .before in
+    let at-area-refusal = at-if2 .before in let at-answer-ok = at-area-refusal .before .before .before in let at-if1 = at-answer-ok .before .before in
+    let at-rule-refusal = at-if1 .before in let at-find-name = at-rule-refusal .before .before .before in
+    let start = at-find-name .before .before .before .before .before .before .before .before in
+    let a = start .args in
     let s = a .state .now in
     let h = a .path .now in
     let n = a .name .now in
-    let f = found-part s n (c .before .before .before .before .before .before .before .before .before .before .before .before .before .before .before .find-name .ensures) in
-    performs-done _ _ _ (passed (ruleChecks (policyBytes s) h (subjectNamed (policyIn s) n)) _ refl (rule-number s h (c .before .before .before .before .before .before .before .before .before .before .before .before .rule-refusal .ensures) f) (c .before .before .before .before .before .before .before .before .before .before .before .if1 .left)) (c .before .before .before .before .before .before .before .before .before .answer-ok .ensures) (c .before .before .before .before .before .before .area-refusal .ensures) (c .before .before .before .before .before .if2 .left)
-    (put-staged s _ (λ x. withRule x (a .accept) (a .right) (numberIn (subjectNamed (policyIn s) n)) (stepsIn h)) (omega (arith, store-held s (a .table .now) (c .before .before .before .before .before .before .before .before .before .before .before .before .before .before .before .before .before .before .before .before .before .before .before .pre) .size)) (c .before .before .add-rule .ensures
-    ∙ ap (λ x. withRule (take (length s - 8) (drop 8 s)) (a .accept) (a .right) x (stepsIn h)) (c .before .before .before .number-in .ensures ∙ ap numberIn f)) 1) refl
+    let f = found-part s n (at-find-name .find-name .ensures) in
+    performs-done _ _ _ (passed (ruleChecks (policyBytes s) h (subjectNamed (policyIn s) n)) _ refl (rule-number s h (at-rule-refusal .rule-refusal .ensures) f) (at-if1 .if1 .left)) (at-answer-ok .answer-ok .ensures) (at-area-refusal .area-refusal .ensures) (at-if2 .if2 .left)
+    (put-staged s _ (λ x. withRule x (a .accept) (a .right) (numberIn (subjectNamed (policyIn s) n)) (stepsIn h)) (omega (arith, store-held s (a .table .now) (start .pre) .size)) (at-add-rule .add-rule .ensures
+    ∙ ap (λ x. withRule (take (length s - 8) (drop 8 s)) (a .accept) (a .right) x (stepsIn h)) (at-number-in .number-in .ensures ∙ ap numberIn f)) 1) refl
 
 pub rule-spec : {M : Type 1} → statement M
 rule-spec =

@@ -15,38 +15,60 @@ returns : tie.Need-returns
 returns c = performs-refused _ _ _ (c .before .path-refusal .ensures) (c .if1 .taken)
 
 select-user-requires : tie.Need-select-user-requires
-select-user-requires c κs = let a = c .before .before .before .before .before .before .before .before .before .args in
-    ((c .before .before .before .before .before .before .before .before .before .pre), (passed (onView (a .path .now) (a .state .now)) _ refl (c .before .before .before .before .path-refusal .ensures) (c .before .before .before .if1 .left)), record { reading = refl; seeing = refl }, refl {a = 16384}, refl {a = 16384}, refl {a = 16384})
+select-user-requires c κs =
+    let at-if1 = c .before .before .before in let at-path-refusal = at-if1 .before in
+    let start = at-path-refusal .before .before .before .before .before in
+    let a = start .args in
+    ((start .pre), (passed (onView (a .path .now) (a .state .now)) _ refl (at-path-refusal .path-refusal .ensures) (at-if1 .if1 .left)), record { reading = refl; seeing = refl }, refl {a = 16384}, refl {a = 16384}, refl {a = 16384})
 
 part-answer-ask-end : tie.Need-part-answer-ask-end
-part-answer-ask-end c = let a = c .before .before .before .before .before .before .before .before .before .before .before .before .before .before .args in
-    let r = c .before .before .before .before .select-user .ensures .0 in
-    shown-long (a .state .now) (a .table .now) (c .before .before .before .before .before .before .before .before .before .before .before .before .before .before .pre) _ _ _ (r .size) (r .numbers)
+part-answer-ask-end c =
+    let at-select-user = c .before .before .before .before in
+    let start = at-select-user .before .before .before .before .before .before .before .before .before .before in
+    let a = start .args in
+    let r = at-select-user .select-user .ensures .0 in
+    shown-long (a .state .now) (a .table .now) (start .pre) _ _ _ (r .size) (r .numbers)
 
 part-answer-ask-end-2 : tie.Need-part-answer-ask-end-2
-part-answer-ask-end-2 c = let a = c .before .before .before .before .before .before .before .before .before .before .before .before .before .before .before .before .args in
-    let r = c .before .before .before .before .before .before .select-user .ensures .0 in
-    marks-long-enough (a .state .now) (a .table .now) (a .path .now) _ _ _ (c .before .before .before .before .before .before .before .before .before .before .before .before .before .before .before .before .pre) (r .size) (r .picked)
+part-answer-ask-end-2 c =
+    let at-select-user = c .before .before .before .before .before .before in
+    let start = at-select-user .before .before .before .before .before .before .before .before .before .before in
+    let a = start .args in
+    let r = at-select-user .select-user .ensures .0 in
+    marks-long-enough (a .state .now) (a .table .now) (a .path .now) _ _ _ (start .pre) (r .size) (r .picked)
 
 answer-ask-requires : tie.Need-answer-ask-requires
-answer-ask-requires c κs = let a = c .before .before .before .before .before .before .before .before .before .before .before .before .before .before .before .before .before .before .args in
-    let g = c .before .before .before .before .before .before .before .before .before .before .before .before .before .before .before .before .before .before .pre in
-    let r = c .before .before .before .before .before .before .before .before .select-user .ensures .0 in
+answer-ask-requires c κs =
+    let at-select-user = c .before .before .before .before .before .before .before .before in
+    let start = at-select-user .before .before .before .before .before .before .before .before .before .before in
+    let a = start .args in
+    let g = start .pre in
+    let r = at-select-user .select-user .ensures .0 in
     (shown-fits (a .state .now) (a .table .now) g _ _ _ (r .size) (r .numbers), marks-cover (a .state .now) (a .table .now) (a .path .now) _ _ _ _ _ g (r .size) (r .numbers) (r .picked))
 
 returns-2 : tie.Need-returns-2
-returns-2 c = let a = c .before .before .before .before .before .before .before .before .before .before .before .before .before .before .before .before .before .before .before .before .before .before .before .args in
-    let g = c .before .before .before .before .before .before .before .before .before .before .before .before .before .before .before .before .before .before .before .before .before .before .before .pre in
+returns-2 c =
+    let at-area-refusal = c .before in let at-answer-ask = at-area-refusal .before .before .before in
+    let at-select-user = at-answer-ask .before .before .before .before .before .before .before .before .before in
+    let at-if1 = at-select-user .before .before .before .before in let at-path-refusal = at-if1 .before in
+    let start = at-path-refusal .before .before .before .before .before in
+    let a = start .args in
+    let g = start .pre in
     let s = a .state .now in
-    let r = c .before .before .before .before .before .before .before .before .before .before .before .before .before .select-user .ensures .0 in
-    performs-short _ _ _ (passed (onView (a .path .now) s) _ refl (c .before .before .before .before .before .before .before .before .before .before .before .before .before .before .before .before .before .before .path-refusal .ensures) (c .before .before .before .before .before .before .before .before .before .before .before .before .before .before .before .before .before .if1 .left)) (rw ((shown-view s (a .table .now) g _ _ _ (r .size) (r .numbers)), (marks-part s (a .table .now) (a .path .now) _ _ _ g (r .size) (r .picked))) at (c .before .before .before .before .answer-ask .ensures)) (c .before .area-refusal .ensures) (c .if2 .taken)
+    let r = at-select-user .select-user .ensures .0 in
+    performs-short _ _ _ (passed (onView (a .path .now) s) _ refl (at-path-refusal .path-refusal .ensures) (at-if1 .if1 .left)) (rw ((shown-view s (a .table .now) g _ _ _ (r .size) (r .numbers)), (marks-part s (a .table .now) (a .path .now) _ _ _ g (r .size) (r .picked))) at (at-answer-ask .answer-ask .ensures)) (at-area-refusal .area-refusal .ensures) (c .if2 .taken)
 
 returns-3 : tie.Need-returns-3
-returns-3 c = let a = c .before .before .before .before .before .before .before .before .before .before .before .before .before .before .before .before .before .before .before .before .before .before .before .args in
-    let g = c .before .before .before .before .before .before .before .before .before .before .before .before .before .before .before .before .before .before .before .before .before .before .before .pre in
+returns-3 c =
+    let at-area-refusal = c .before in let at-answer-ask = at-area-refusal .before .before .before in
+    let at-select-user = at-answer-ask .before .before .before .before .before .before .before .before .before in
+    let at-if1 = at-select-user .before .before .before .before in let at-path-refusal = at-if1 .before in
+    let start = at-path-refusal .before .before .before .before .before in
+    let a = start .args in
+    let g = start .pre in
     let s = a .state .now in
-    let r = c .before .before .before .before .before .before .before .before .before .before .before .before .before .select-user .ensures .0 in
-    performs-done _ _ _ (passed (onView (a .path .now) s) _ refl (c .before .before .before .before .before .before .before .before .before .before .before .before .before .before .before .before .before .before .path-refusal .ensures) (c .before .before .before .before .before .before .before .before .before .before .before .before .before .before .before .before .before .if1 .left)) (rw ((shown-view s (a .table .now) g _ _ _ (r .size) (r .numbers)), (marks-part s (a .table .now) (a .path .now) _ _ _ g (r .size) (r .picked))) at (c .before .before .before .before .answer-ask .ensures)) (c .before .area-refusal .ensures) (c .if2 .left) refl refl
+    let r = at-select-user .select-user .ensures .0 in
+    performs-done _ _ _ (passed (onView (a .path .now) s) _ refl (at-path-refusal .path-refusal .ensures) (at-if1 .if1 .left)) (rw ((shown-view s (a .table .now) g _ _ _ (r .size) (r .numbers)), (marks-part s (a .table .now) (a .path .now) _ _ _ g (r .size) (r .picked))) at (at-answer-ask .answer-ask .ensures)) (at-area-refusal .area-refusal .ensures) (c .if2 .left) refl refl
 
 pub ask-path-spec : {M : Type 1} → statement M
 ask-path-spec =

@@ -6,10 +6,14 @@ use Rattle.lines.proofs.queries.path_refusal.Statement.{statement}
 use Rattle.lines.proofs.queries.path_refusal.Tie as tie
 
 returns : tie.Need-returns
-returns c = rw (not-path (pathOf (c .before .before .before .before .before .args .path .now)) (sym (c .before .before .check-path .ensures) ∙ c .enum-told2 .given .1))
+returns c =
+    let at-check-path = c .before .before in let start = at-check-path .before .before .before in
+    rw (not-path (pathOf (start .args .path .now)) (sym (at-check-path .check-path .ensures) ∙ c .enum-told2 .given .1))
 
 returns-2 : tie.Need-returns-2
-returns-2 c = rw (is-path (pathOf (c .before .before .before .before .before .before .args .path .now)) _ (sym (c .before .before .before .check-path .ensures) ∙ c .before .enum-told .given .1)) (c .view-refusal .ensures)
+returns-2 c =
+    let at-enum-told = c .before in let at-check-path = at-enum-told .before .before in let start = at-check-path .before .before .before in
+    rw (is-path (pathOf (start .args .path .now)) _ (sym (at-check-path .check-path .ensures) ∙ at-enum-told .enum-told .given .1)) (c .view-refusal .ensures)
 
 pub path-refusal-spec : {M : Type 1} → statement M
 path-refusal-spec =

@@ -13,33 +13,49 @@ use Rattle.lines.proofs.queries.show_user.Statement.{statement}
 use Rattle.lines.proofs.queries.show_user.Tie as tie
 
 shared-slice-read-wide : tie.Need-shared-slice-read-wide
-shared-slice-read-wide c = let g = c .before .before .before .before .before .pre in omega (arith, store-held _ _ (g .0) .size)
+shared-slice-read-wide c =
+    let start = c .before .before .before .before .before in
+    let g = start .pre in omega (arith, store-held _ _ (g .0) .size)
 
 sub-user : tie.Need-sub-user
-sub-user c = let g = c .before .before .before .before .before .before .pre in omega (arith, c .wide .ensures, user-some _ _ (g .0) (g .1 .0))
+sub-user c =
+    let start = c .before .before .before .before .before .before in
+    let g = start .pre in omega (arith, c .wide .ensures, user-some _ _ (g .0) (g .1 .0))
 
 sub-asked-on : tie.Need-sub-asked-on
-sub-asked-on c = let g = c .before .before .before .before .before .before .pre in omega (arith, store-held _ _ (g .0) .size)
+sub-asked-on c =
+    let start = c .before .before .before .before .before .before in
+    let g = start .pre in omega (arith, store-held _ _ (g .0) .size)
 
 part-asked-on-start : tie.Need-part-asked-on-start
-part-asked-on-start c = let g = c .before .before .before .before .before .before .pre in omega (arith, store-held _ _ (g .0) .size)
+part-asked-on-start c =
+    let start = c .before .before .before .before .before .before in
+    let g = start .pre in omega (arith, store-held _ _ (g .0) .size)
 
 asked-on-requires : tie.Need-asked-on-requires
-asked-on-requires c κs = let g = c .before .before .before .before .before .before .before .before .pre in rights-asks _ _ (g .0) (g .1 .0) _ _ (c .before .before .wide .ensures) (g .3)
+asked-on-requires c κs =
+    let at-wide = c .before .before in let start = at-wide .before .before .before .before .before .before in
+    let g = start .pre in rights-asks _ _ (g .0) (g .1 .0) _ _ (at-wide .wide .ensures) (g .3)
 
 show-requires : tie.Need-show-requires
-show-requires c κs = let g = c .before .before .before .before .before .before .before .before .before .before .before .before .before .pre in
-    let a = c .before .before .before .before .before .before .before .before .before .before .before .before .before .args in
+show-requires c κs =
+    let at-asked-on = c .before .before .before .before in let at-wide = at-asked-on .before .before .before in
+    let start = at-wide .before .before .before .before .before .before in
+    let g = start .pre in
+    let a = start .args in
     let h = store-held _ _ (g .0) in
-    (h .table, asked-cover (a .state .now) (a .table .now) _ (drop (count (a .table .now)) (a .rights .now)) _ (a .asked) (c .before .before .before .before .before .before .before .wide .ensures) (c .before .before .before .before .asked-on .ensures), omega (arith, table-few _ (h .table), g .4))
+    (h .table, asked-cover (a .state .now) (a .table .now) _ (drop (count (a .table .now)) (a .rights .now)) _ (a .asked) (at-wide .wide .ensures) (at-asked-on .asked-on .ensures), omega (arith, table-few _ (h .table), g .4))
 
 returns : tie.Need-returns
-returns c = let r = c .before .before .show .ensures in
-    let a = c .before .before .before .before .before .before .before .before .before .before .before .before .before .before .before .before .args in
-    let g = c .before .before .before .before .before .before .before .before .before .before .before .before .before .before .before .before .pre in
+returns c =
+    let at-show = c .before .before in let at-asked-on = at-show .before .before .before .before .before in
+    let at-wide = at-asked-on .before .before .before in let start = at-wide .before .before .before .before .before .before in
+    let r = at-show .show .ensures in
+    let a = start .args in
+    let g = start .pre in
     let more = drop (count (a .table .now)) (a .rights .now) in
-    let e = asked-shown (a .state .now) (a .table .now) _ more _ (a .asked) (c .before .before .before .before .before .before .before .before .before .before .wide .ensures) (c .before .before .before .before .before .before .before .asked-on .ensures) (g .2) in
-    (rw e at (r .0), rw e at (r .1), asked-held (a .state .now) (a .table .now) _ more _ (a .asked) (c .before .before .before .before .before .before .before .before .before .before .wide .ensures) (c .before .before .before .before .before .before .before .asked-on .ensures))
+    let e = asked-shown (a .state .now) (a .table .now) _ more _ (a .asked) (at-wide .wide .ensures) (at-asked-on .asked-on .ensures) (g .2) in
+    (rw e at (r .0), rw e at (r .1), asked-held (a .state .now) (a .table .now) _ more _ (a .asked) (at-wide .wide .ensures) (at-asked-on .asked-on .ensures))
 
 pub show-user-spec : {M : Type 1} → statement M
 show-user-spec =

@@ -15,24 +15,39 @@ returns : tie.Need-returns
 returns c = performs-refused _ _ _ (c .before .view-refusal .ensures) (c .if1 .taken)
 
 show-user-requires : tie.Need-show-user-requires
-show-user-requires c κs = let a = c .before .before .before .before .before .before .before .args in
-    ((c .before .before .before .before .before .before .before .pre), (passed (viewChecks (a .state .now)) _ refl (c .before .before .before .view-refusal .ensures) (c .before .before .if1 .left)), record { reading = refl; seeing = refl }, refl {a = 16384}, refl {a = 16384})
+show-user-requires c κs =
+    let at-if1 = c .before .before in let at-view-refusal = at-if1 .before in let start = at-view-refusal .before .before .before .before in
+    let a = start .args in
+    ((start .pre), (passed (viewChecks (a .state .now)) _ refl (at-view-refusal .view-refusal .ensures) (at-if1 .if1 .left)), record { reading = refl; seeing = refl }, refl {a = 16384}, refl {a = 16384})
 
 part-answer-view-end : tie.Need-part-answer-view-end
-part-answer-view-end c = let a = c .before .before .before .before .before .before .before .before .before .before .before .args in
-    shown-long (a .state .now) (a .table .now) (c .before .before .before .before .before .before .before .before .before .before .before .pre) _ _ _ (c .before .before .before .show-user .ensures .0) (c .before .before .before .show-user .ensures .1)
+part-answer-view-end c =
+    let at-show-user = c .before .before .before in let start = at-show-user .before .before .before .before .before .before .before .before in
+    let a = start .args in
+    shown-long (a .state .now) (a .table .now) (start .pre) _ _ _ (at-show-user .show-user .ensures .0) (at-show-user .show-user .ensures .1)
 
 answer-view-requires : tie.Need-answer-view-requires
-answer-view-requires c κs = let a = c .before .before .before .before .before .before .before .before .before .before .before .before .before .args in
-    shown-fits (a .state .now) (a .table .now) (c .before .before .before .before .before .before .before .before .before .before .before .before .before .pre) _ _ _ (c .before .before .before .before .before .show-user .ensures .0) (c .before .before .before .before .before .show-user .ensures .1)
+answer-view-requires c κs =
+    let at-show-user = c .before .before .before .before .before in
+    let start = at-show-user .before .before .before .before .before .before .before .before in
+    let a = start .args in
+    shown-fits (a .state .now) (a .table .now) (start .pre) _ _ _ (at-show-user .show-user .ensures .0) (at-show-user .show-user .ensures .1)
 
 returns-2 : tie.Need-returns-2
-returns-2 c = let a = c .before .before .before .before .before .before .before .before .before .before .before .before .before .before .before .before .before .before .args in
-    performs-short _ _ _ (passed (viewChecks (a .state .now)) _ refl (c .before .before .before .before .before .before .before .before .before .before .before .before .before .before .view-refusal .ensures) (c .before .before .before .before .before .before .before .before .before .before .before .before .before .if1 .left)) (rw (shown-view (a .state .now) (a .table .now) (c .before .before .before .before .before .before .before .before .before .before .before .before .before .before .before .before .before .before .pre) _ _ _ (c .before .before .before .before .before .before .before .before .before .before .show-user .ensures .0) (c .before .before .before .before .before .before .before .before .before .before .show-user .ensures .1)) at (c .before .before .before .before .answer-view .ensures)) (c .before .area-refusal .ensures) (c .if2 .taken)
+returns-2 c =
+    let at-area-refusal = c .before in let at-answer-view = at-area-refusal .before .before .before in
+    let at-show-user = at-answer-view .before .before .before .before .before .before in let at-if1 = at-show-user .before .before .before in
+    let at-view-refusal = at-if1 .before in let start = at-view-refusal .before .before .before .before in
+    let a = start .args in
+    performs-short _ _ _ (passed (viewChecks (a .state .now)) _ refl (at-view-refusal .view-refusal .ensures) (at-if1 .if1 .left)) (rw (shown-view (a .state .now) (a .table .now) (start .pre) _ _ _ (at-show-user .show-user .ensures .0) (at-show-user .show-user .ensures .1)) at (at-answer-view .answer-view .ensures)) (at-area-refusal .area-refusal .ensures) (c .if2 .taken)
 
 returns-3 : tie.Need-returns-3
-returns-3 c = let a = c .before .before .before .before .before .before .before .before .before .before .before .before .before .before .before .before .before .before .args in
-    performs-done _ _ _ (passed (viewChecks (a .state .now)) _ refl (c .before .before .before .before .before .before .before .before .before .before .before .before .before .before .view-refusal .ensures) (c .before .before .before .before .before .before .before .before .before .before .before .before .before .if1 .left)) (rw (shown-view (a .state .now) (a .table .now) (c .before .before .before .before .before .before .before .before .before .before .before .before .before .before .before .before .before .before .pre) _ _ _ (c .before .before .before .before .before .before .before .before .before .before .show-user .ensures .0) (c .before .before .before .before .before .before .before .before .before .before .show-user .ensures .1)) at (c .before .before .before .before .answer-view .ensures)) (c .before .area-refusal .ensures) (c .if2 .left) refl refl
+returns-3 c =
+    let at-area-refusal = c .before in let at-answer-view = at-area-refusal .before .before .before in
+    let at-show-user = at-answer-view .before .before .before .before .before .before in let at-if1 = at-show-user .before .before .before in
+    let at-view-refusal = at-if1 .before in let start = at-view-refusal .before .before .before .before in
+    let a = start .args in
+    performs-done _ _ _ (passed (viewChecks (a .state .now)) _ refl (at-view-refusal .view-refusal .ensures) (at-if1 .if1 .left)) (rw (shown-view (a .state .now) (a .table .now) (start .pre) _ _ _ (at-show-user .show-user .ensures .0) (at-show-user .show-user .ensures .1)) at (at-answer-view .answer-view .ensures)) (at-area-refusal .area-refusal .ensures) (c .if2 .left) refl refl
 
 pub view-spec : {M : Type 1} → statement M
 view-spec =

@@ -18,45 +18,70 @@ sub-find-name : tie.Need-sub-find-name
 sub-find-name c = omega (arith, store-held _ _ (c .before .before .before .before .pre) .size)
 
 part-find-name-start : tie.Need-part-find-name-start
-part-find-name-start c = omega (arith, store-held _ _ (c .before .before .before .before .before .pre) .size)
+part-find-name-start c =
+    let start = c .before .before .before .before .before in
+    omega (arith, store-held _ _ (start .pre) .size)
 
 find-name-requires : tie.Need-find-name-requires
-find-name-requires c κs = rw (rest-of (c .before .before .before .before .before .before .args .state .now) 8) (store-held _ _ (c .before .before .before .before .before .before .pre) .policy)
+find-name-requires c κs =
+    let start = c .before .before .before .before .before .before in
+    rw (rest-of (start .args .state .now) 8) (store-held _ _ (start .pre) .policy)
 
 returns : tie.Need-returns
-returns c = let a = c .before .before .before .before .before .before .before .before .before .args in
-    performs-refused _ _ _ (c .before .user-refusal .ensures ∙ ap (λ x. firstRefusal (userChecks x)) (found-part (a .state .now) (a .name .now) (c .before .before .find-name .ensures))) (c .if1 .taken)
+returns c =
+    let at-user-refusal = c .before in let at-find-name = at-user-refusal .before in
+    let start = at-find-name .before .before .before .before .before .before .before in
+    let a = start .args in
+    performs-refused _ _ _ (at-user-refusal .user-refusal .ensures ∙ ap (λ x. firstRefusal (userChecks x)) (found-part (a .state .now) (a .name .now) (at-find-name .find-name .ensures))) (c .if1 .taken)
 
 returns-2 : tie.Need-returns-2
-returns-2 c = let a = c .before .before .before .before .before .before .before .before .before .before .before .before .before .before .before .args in
-    performs-short _ _ _ (passed (userChecks (subjectNamed (policyIn (a .state .now)) (a .name .now))) _ refl (c .before .before .before .before .before .before .before .user-refusal .ensures ∙ ap (λ x. firstRefusal (userChecks x)) (found-part (a .state .now) (a .name .now) (c .before .before .before .before .before .before .before .before .find-name .ensures))) (c .before .before .before .before .before .before .if1 .left)) (c .before .before .before .before .answer-ok .ensures) (c .before .area-refusal .ensures) (c .if2 .taken)
+returns-2 c =
+    let at-area-refusal = c .before in let at-answer-ok = at-area-refusal .before .before .before in let at-if1 = at-answer-ok .before .before in
+    let at-user-refusal = at-if1 .before in let at-find-name = at-user-refusal .before in
+    let start = at-find-name .before .before .before .before .before .before .before in
+    let a = start .args in
+    performs-short _ _ _ (passed (userChecks (subjectNamed (policyIn (a .state .now)) (a .name .now))) _ refl (at-user-refusal .user-refusal .ensures ∙ ap (λ x. firstRefusal (userChecks x)) (found-part (a .state .now) (a .name .now) (at-find-name .find-name .ensures))) (at-if1 .if1 .left)) (at-answer-ok .answer-ok .ensures) (at-area-refusal .area-refusal .ensures) (c .if2 .taken)
 
 slice-write-state : tie.Need-slice-write-state
-slice-write-state c = omega (arith, store-held _ _ (c .before .before .before .before .before .before .before .before .before .before .before .before .before .before .before .pre) .size)
+slice-write-state c =
+    let start = c .before .before .before .before .before .before .before .before .before .before .before .before .before .before .before in
+    omega (arith, store-held _ _ (start .pre) .size)
 
 add-state : tie.Need-add-state
-add-state c = let a = c .before .before .before .before .before .before .before .before .before .before .before .before .before .before .before .before .args in
+add-state c =
+    let at-if1 = c .before .before .before .before .before .before .before in let at-user-refusal = at-if1 .before in
+    let at-find-name = at-user-refusal .before in let start = at-find-name .before .before .before .before .before .before .before in
+    let a = start .args in
     let s = a .state .now in
     let n = a .name .now in
-    let f = found-part s n (c .before .before .before .before .before .before .before .before .before .find-name .ensures) in
-    omega (arith, c .number-in .ensures ∙ ap numberIn f, found-small (policyBytes s) n (store-held s (a .table .now) (c .before .before .before .before .before .before .before .before .before .before .before .before .before .before .before .before .pre) .policy) ((passed (userChecks (subjectNamed (policyIn s) n)) _ refl (c .before .before .before .before .before .before .before .before .user-refusal .ensures ∙ ap (λ x. firstRefusal (userChecks x)) f) (c .before .before .before .before .before .before .before .if1 .left)) .0))
+    let f = found-part s n (at-find-name .find-name .ensures) in
+    omega (arith, c .number-in .ensures ∙ ap numberIn f, found-small (policyBytes s) n (store-held s (a .table .now) (start .pre) .policy) ((passed (userChecks (subjectNamed (policyIn s) n)) _ refl (at-user-refusal .user-refusal .ensures ∙ ap (λ x. firstRefusal (userChecks x)) f) (at-if1 .if1 .left)) .0))
 
 cast-state : tie.Need-cast-state
-cast-state c = let a = c .before .before .before .before .before .before .before .before .before .before .before .before .before .before .before .before .args in
+cast-state c =
+    let at-if1 = c .before .before .before .before .before .before .before in let at-user-refusal = at-if1 .before in
+    let at-find-name = at-user-refusal .before in let start = at-find-name .before .before .before .before .before .before .before in
+    let a = start .args in
     let s = a .state .now in
     let n = a .name .now in
-    let f = found-part s n (c .before .before .before .before .before .before .before .before .before .find-name .ensures) in
-    omega (arith, c .number-in .ensures ∙ ap numberIn f, found-small (policyBytes s) n (store-held s (a .table .now) (c .before .before .before .before .before .before .before .before .before .before .before .before .before .before .before .before .pre) .policy) ((passed (userChecks (subjectNamed (policyIn s) n)) _ refl (c .before .before .before .before .before .before .before .before .user-refusal .ensures ∙ ap (λ x. firstRefusal (userChecks x)) f) (c .before .before .before .before .before .before .before .if1 .left)) .0))
+    let f = found-part s n (at-find-name .find-name .ensures) in
+    omega (arith, c .number-in .ensures ∙ ap numberIn f, found-small (policyBytes s) n (store-held s (a .table .now) (start .pre) .policy) ((passed (userChecks (subjectNamed (policyIn s) n)) _ refl (at-user-refusal .user-refusal .ensures ∙ ap (λ x. firstRefusal (userChecks x)) f) (at-if1 .if1 .left)) .0))
 
 slice-write-state-2 : tie.Need-slice-write-state-2
-slice-write-state-2 c = simp length-set (omega (arith, store-held _ _ (c .before .before .before .before .before .before .before .before .before .before .before .before .before .before .before .before .pre) .size))
+slice-write-state-2 c =
+    let start = c .before .before .before .before .before .before .before .before .before .before .before .before .before .before .before .before in
+    simp length-set (omega (arith, store-held _ _ (start .pre) .size))
 
 returns-3 : tie.Need-returns-3
-returns-3 c = let a = c .before .before .before .before .before .before .before .before .before .before .before .before .before .before .before .before .args in
+returns-3 c =
+    let at-if2 = c .before in let at-area-refusal = at-if2 .before in let at-answer-ok = at-area-refusal .before .before .before in
+    let at-if1 = at-answer-ok .before .before in let at-user-refusal = at-if1 .before in let at-find-name = at-user-refusal .before in
+    let start = at-find-name .before .before .before .before .before .before .before in
+    let a = start .args in
     let s = a .state .now in
-    let f = found-part s (a .name .now) (c .before .before .before .before .before .before .before .before .before .find-name .ensures) in
-    performs-done _ _ _ (passed (userChecks (subjectNamed (policyIn s) (a .name .now))) _ refl (c .before .before .before .before .before .before .before .before .user-refusal .ensures ∙ ap (λ x. firstRefusal (userChecks x)) f) (c .before .before .before .before .before .before .before .if1 .left)) (c .before .before .before .before .before .answer-ok .ensures) (c .before .before .area-refusal .ensures) (c .before .if2 .left)
-    (session-put s 4 _ (omega (arith, store-held s (a .table .now) (c .before .before .before .before .before .before .before .before .before .before .before .before .before .before .before .before .pre) .size)) ∙ ap (λ u. withSession 4 (u + 1) s) (c .number-in .ensures ∙ ap numberIn f)) refl
+    let f = found-part s (a .name .now) (at-find-name .find-name .ensures) in
+    performs-done _ _ _ (passed (userChecks (subjectNamed (policyIn s) (a .name .now))) _ refl (at-user-refusal .user-refusal .ensures ∙ ap (λ x. firstRefusal (userChecks x)) f) (at-if1 .if1 .left)) (at-answer-ok .answer-ok .ensures) (at-area-refusal .area-refusal .ensures) (at-if2 .if2 .left)
+    (session-put s 4 _ (omega (arith, store-held s (a .table .now) (start .pre) .size)) ∙ ap (λ u. withSession 4 (u + 1) s) (c .number-in .ensures ∙ ap numberIn f)) refl
 
 pub log-in-spec : {M : Type 1} → statement M
 log-in-spec =

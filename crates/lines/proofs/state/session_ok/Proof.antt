@@ -19,8 +19,11 @@ returns-4 : tie.Need-returns-4
 returns-4 c = sym (no-rules _ (sym (c .before .rules-in-stage .ensures) ∙ not-true _ (c .if4 .taken)))
 
 returns-5 : tie.Need-returns-5
-returns-5 c = c .user-at-e .ensures
-    ∙ sym (session-yes (c .before .before .before .before .before .before .before .before .before .before .before .before .args .state .now) (omega arith) (omega arith) (sym (c .before .before .before .before .before .zeros-at .ensures) ∙ not-false _ (c .before .before .before .before .if3 .left)) (sym (c .before .before .rules-in-stage .ensures) ∙ not-false _ (c .before .if4 .left)))
+returns-5 c =
+    let at-if4 = c .before in let at-rules-in-stage = at-if4 .before in let at-if3 = at-rules-in-stage .before .before in
+    let at-zeros-at = at-if3 .before in let start = at-zeros-at .before .before .before .before .before .before .before in
+    c .user-at-e .ensures
+    ∙ sym (session-yes (start .args .state .now) (omega arith) (omega arith) (sym (at-zeros-at .zeros-at .ensures) ∙ not-false _ (at-if3 .if3 .left)) (sym (at-rules-in-stage .rules-in-stage .ensures) ∙ not-false _ (at-if4 .if4 .left)))
 
 pub session-ok-spec : {M : Type 1} → statement M
 session-ok-spec =

@@ -13,7 +13,9 @@ returns-2 : tie.Need-returns-2
 returns-2 c = sym (no-policy _ (simp rest-of at (sym (c .before .policy-ok .ensures) ∙ not-true _ (c .if2 .taken))))
 
 returns-3 : tie.Need-returns-3
-returns-3 c = c .session-ok .ensures ∙ sym (state-yes _ (c .before .before .before .before .if1 .left) (simp rest-of at (sym (c .before .before .policy-ok .ensures) ∙ not-false _ (c .before .if2 .left))))
+returns-3 c =
+    let at-if2 = c .before in let at-policy-ok = at-if2 .before in let at-if1 = at-policy-ok .before .before in
+    c .session-ok .ensures ∙ sym (state-yes _ (at-if1 .if1 .left) (simp rest-of at (sym (at-policy-ok .policy-ok .ensures) ∙ not-false _ (at-if2 .if2 .left))))
 
 pub state-ok-spec : {M : Type 1} → statement M
 state-ok-spec =

@@ -18,25 +18,35 @@ use Rattle.lines.proofs.tree_lines.child.Statement.{statement}
 use Rattle.lines.proofs.tree_lines.child.Tie as tie
 
 child-refusal-requires : tie.Need-child-refusal-requires
-child-refusal-requires c κs = let g = c .before .before .before .before .before .before .pre in
+child-refusal-requires c κs =
+    let start = c .before .before .before .before .before .before in
+    let g = start .pre in
     let h = store-held _ _ (g .0) .table in
     (h, table-few _ h, g .1, g .2)
 
 returns : tie.Need-returns
-returns c = let a = c .before .before .before .before .before .before .before .before .args in
-    performs-refused _ _ _ (c .before .child-refusal .ensures ∙ ap (λ k. firstRefusal (labelCheck (a .m) (a .tree .now) ∷ insertChecks Append k (a .m) (a .tree .now) (a .table .now))) root-marks) (c .if1 .taken)
+returns c =
+    let at-child-refusal = c .before in let start = at-child-refusal .before .before .before .before .before .before .before in
+    let a = start .args in
+    performs-refused _ _ _ (at-child-refusal .child-refusal .ensures ∙ ap (λ k. firstRefusal (labelCheck (a .m) (a .tree .now) ∷ insertChecks Append k (a .m) (a .tree .now) (a .table .now))) root-marks) (c .if1 .taken)
 
 returns-2 : tie.Need-returns-2
-returns-2 c = let a = c .before .before .before .before .before .before .before .before .before .before .before .before .before .before .args in
+returns-2 c =
+    let at-area-refusal = c .before in let at-answer-ok = at-area-refusal .before .before .before in let at-if1 = at-answer-ok .before .before in
+    let at-child-refusal = at-if1 .before in let start = at-child-refusal .before .before .before .before .before .before .before in
+    let a = start .args in
     let x = a .tree .now in
-    performs-short _ _ _ (passed (labelCheck (a .m) x ∷ insertChecks Append rootAlone (a .m) x (a .table .now)) _ refl (c .before .before .before .before .before .before .before .child-refusal .ensures ∙ ap (λ k. firstRefusal (labelCheck (a .m) x ∷ insertChecks Append k (a .m) x (a .table .now))) root-marks) (c .before .before .before .before .before .before .if1 .left)) (c .before .before .before .before .answer-ok .ensures) (c .before .area-refusal .ensures) (c .if2 .taken)
+    performs-short _ _ _ (passed (labelCheck (a .m) x ∷ insertChecks Append rootAlone (a .m) x (a .table .now)) _ refl (at-child-refusal .child-refusal .ensures ∙ ap (λ k. firstRefusal (labelCheck (a .m) x ∷ insertChecks Append k (a .m) x (a .table .now))) root-marks) (at-if1 .if1 .left)) (at-answer-ok .answer-ok .ensures) (at-area-refusal .area-refusal .ensures) (c .if2 .taken)
 
 insert-marked-requires : tie.Need-insert-marked-requires
-insert-marked-requires c κs = let a = c .before .before .before .before .before .before .before .before .before .before .before .before .before .before .before .before .args in
-    let g = c .before .before .before .before .before .before .before .before .before .before .before .before .before .before .before .before .pre in
+insert-marked-requires c κs =
+    let at-if1 = c .before .before .before .before .before .before .before .before in let at-child-refusal = at-if1 .before in
+    let start = at-child-refusal .before .before .before .before .before .before .before in
+    let a = start .args in
+    let g = start .pre in
     let t = a .table .now in
     let x = a .tree .now in
-    let p = passed (labelCheck (a .m) x ∷ insertChecks Append rootAlone (a .m) x t) _ refl (c .before .before .before .before .before .before .before .before .before .child-refusal .ensures ∙ ap (λ k. firstRefusal (labelCheck (a .m) x ∷ insertChecks Append k (a .m) x t)) root-marks) (c .before .before .before .before .before .before .before .before .if1 .left) in
+    let p = passed (labelCheck (a .m) x ∷ insertChecks Append rootAlone (a .m) x t) _ refl (at-child-refusal .child-refusal .ensures ∙ ap (λ k. firstRefusal (labelCheck (a .m) x ∷ insertChecks Append k (a .m) x t)) root-marks) (at-if1 .if1 .left) in
     let h = store-held (a .state .now) t (g .0) .table in (
       (h, table-few t h, g .1),
       (
@@ -46,15 +56,21 @@ insert-marked-requires c κs = let a = c .before .before .before .before .before
     )
 
 slice-write-state : tie.Need-slice-write-state
-slice-write-state c = omega (arith, store-held _ _ (c .before .before .before .before .before .before .before .before .before .before .before .before .before .before .before .before .before .before .before .pre .0) .size)
+slice-write-state c =
+    let start = c .before .before .before .before .before .before .before .before .before .before .before .before .before .before .before .before .before .before .before in
+    omega (arith, store-held _ _ (start .pre .0) .size)
 
 returns-3 : tie.Need-returns-3
-returns-3 c = let a = c .before .before .before .before .before .before .before .before .before .before .before .before .before .before .before .before .before .before .before .args in
+returns-3 c =
+    let at-insert-marked = c .before .before in let at-if2 = at-insert-marked .before .before .before in let at-area-refusal = at-if2 .before in
+    let at-answer-ok = at-area-refusal .before .before .before in let at-if1 = at-answer-ok .before .before in
+    let at-child-refusal = at-if1 .before in let start = at-child-refusal .before .before .before .before .before .before .before in
+    let a = start .args in
     let t = a .table .now in
     let x = a .tree .now in
-    performs-done _ _ _ (passed (labelCheck (a .m) x ∷ insertChecks Append rootAlone (a .m) x t) _ refl (c .before .before .before .before .before .before .before .before .before .before .before .before .child-refusal .ensures ∙ ap (λ k. firstRefusal (labelCheck (a .m) x ∷ insertChecks Append k (a .m) x t)) root-marks) (c .before .before .before .before .before .before .before .before .before .before .before .if1 .left)) (c .before .before .before .before .before .before .before .before .before .answer-ok .ensures) (c .before .before .before .before .before .before .area-refusal .ensures) (c .before .before .before .before .before .if2 .left)
-    (stage-put (a .state .now) 3 (omega (arith, store-held (a .state .now) t (c .before .before .before .before .before .before .before .before .before .before .before .before .before .before .before .before .before .before .before .pre .0) .size)))
-    (c .before .before .insert-marked .ensures ∙ ap (λ k. changed t (placed Append (a .m) x k (records t))) root-marks)
+    performs-done _ _ _ (passed (labelCheck (a .m) x ∷ insertChecks Append rootAlone (a .m) x t) _ refl (at-child-refusal .child-refusal .ensures ∙ ap (λ k. firstRefusal (labelCheck (a .m) x ∷ insertChecks Append k (a .m) x t)) root-marks) (at-if1 .if1 .left)) (at-answer-ok .answer-ok .ensures) (at-area-refusal .area-refusal .ensures) (at-if2 .if2 .left)
+    (stage-put (a .state .now) 3 (omega (arith, store-held (a .state .now) t (start .pre .0) .size)))
+    (at-insert-marked .insert-marked .ensures ∙ ap (λ k. changed t (placed Append (a .m) x k (records t))) root-marks)
 
 pub child-spec : {M : Type 1} → statement M
 child-spec =

@@ -7,13 +7,17 @@ use Rattle.lines.proofs.tree_lines.record_restricted.Statement.{stateme
 use Rattle.lines.proofs.tree_lines.record_restricted.Tie as tie
 
 returns : tie.Need-returns
-returns c = let a = c .before .before .before .before .args in
-    label-long (a .tree .now) (a .at) _ (c .before .before .before .before .pre) (c .before .wide .ensures) (c .if1 .taken)
+returns c =
+    let at-wide = c .before in let start = at-wide .before .before .before in
+    let a = start .args in
+    label-long (a .tree .now) (a .at) _ (start .pre) (at-wide .wide .ensures) (c .if1 .taken)
 
 returns-2 : tie.Need-returns-2
-returns-2 c = let a = c .before .before .before .before .before .args in
+returns-2 c =
+    let at-wide = c .before .before in let start = at-wide .before .before .before in
+    let a = start .args in
     c .is-restricted .ensures
-    ∙ ap (λ x. sameLabel x restricted) (label-part (a .tree .now) (a .at) _ (c .before .before .before .before .before .pre) (c .before .before .wide .ensures) (omega arith))
+    ∙ ap (λ x. sameLabel x restricted) (label-part (a .tree .now) (a .at) _ (start .pre) (at-wide .wide .ensures) (omega arith))
 
 pub record-restricted-spec : {M : Type 1} → statement M
 record-restricted-spec =

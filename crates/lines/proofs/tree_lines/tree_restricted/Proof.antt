@@ -18,18 +18,24 @@ loop-holds : tie.Need-loop-holds Inv-loop μ-loop
 loop-holds c = let a = c .before .args in (omega arith, restricted-first (a .m) (a .tree .now))
 
 returns : tie.Need-returns Inv-loop μ-loop
-returns c = let l = c .before .before .before .loop in
-    let a = c .before .before .before .before .before .args in
-    restricted-stop (a .m) (l .j) (a .tree .now) (omega arith) (sym (c .before .record-restricted .ensures) ∙ c .if1 .taken) ∙ sym (l .inv .1)
+returns c =
+    let at-record-restricted = c .before in let at-loop = at-record-restricted .before .before in let start = at-loop .before .before in
+    let l = at-loop .loop in
+    let a = start .args in
+    restricted-stop (a .m) (l .j) (a .tree .now) (omega arith) (sym (at-record-restricted .record-restricted .ensures) ∙ c .if1 .taken) ∙ sym (l .inv .1)
 
 loop-again : tie.Need-loop-again Inv-loop μ-loop
-loop-again c = let l = c .before .before .before .loop in
-    let a = c .before .before .before .before .before .args in
-    (omega arith, l .inv .1 ∙ restricted-step (a .m) (l .j) (a .tree .now) (omega arith) (sym (c .before .record-restricted .ensures) ∙ c .if1 .left))
+loop-again c =
+    let at-record-restricted = c .before in let at-loop = at-record-restricted .before .before in let start = at-loop .before .before in
+    let l = at-loop .loop in
+    let a = start .args in
+    (omega arith, l .inv .1 ∙ restricted-step (a .m) (l .j) (a .tree .now) (omega arith) (sym (at-record-restricted .record-restricted .ensures) ∙ c .if1 .left))
 
 returns-2 : tie.Need-returns-2 Inv-loop μ-loop
-returns-2 c = let l = c .before .loop in
-    let a = c .before .before .before .args in
+returns-2 c =
+    let at-loop = c .before in let start = at-loop .before .before in
+    let l = at-loop .loop in
+    let a = start .args in
     sym (l .inv .1 ∙ restricted-none (a .m) (l .j) (a .tree .now) (omega arith))
 
 pub tree-restricted-spec : {M : Type 1} → statement M

@@ -19,8 +19,9 @@ loop-holds c = (search needs, refl, paste-zero (c .args .d .now) (c .args .to) (
 
 loop-again : tie.Need-loop-again Inv-loop μ-loop
 loop-again c =
-    let l = c .before .before .loop in
-    let a = c .before .before .before .args in (
+    let at-loop = c .before .before in let start = at-loop .before in
+    let l = at-loop .loop in
+    let a = start .args in (
       omega arith,
       simp length-set (omega arith),
       copy-more (l .d) (a .d .now) (a .s .now) (a .to) (a .from) (l .j) (a .n) (omega arith) (omega arith) (omega arith) (l .inv .2),

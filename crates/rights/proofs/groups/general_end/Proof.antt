@@ -10,10 +10,14 @@ abbrev μ-loop : tie.MeasureT-loop
 μ-loop policy roles right count k₀ k = k
 
 is-general-requires : tie.Need-is-general-requires Inv-loop μ-loop
-is-general-requires c κs = (c .before .before .before .pre .0, omega (arith, c .before .before .before .pre .1))
+is-general-requires c κs =
+    let start = c .before .before .before in
+    (start .pre .0, omega (arith, start .pre .1))
 
 returns : tie.Need-returns Inv-loop μ-loop
-returns c = (c .before .before .before .loop .inv, λ h. c .before .is-general .ensures (c .if1 .taken))
+returns c =
+    let at-is-general = c .before in let at-loop = at-is-general .before .before in
+    (at-loop .loop .inv, λ h. at-is-general .is-general .ensures (c .if1 .taken))
 
 returns-2 : tie.Need-returns-2 Inv-loop μ-loop
 returns-2 c = (omega arith, λ h own. absurd (omega arith))

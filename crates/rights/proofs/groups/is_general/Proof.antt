@@ -20,15 +20,17 @@ returns-3 c = λ e own. absurd (false≢true e)
 
 returns-4 : tie.Need-returns-4
 returns-4 c =
-    let a = c .before .before .before .before .before .before .before .before .args in
-    let g = c .before .before .before .before .before .before .before .before .pre in
+    let at-if3 = c .before in let at-if2 = at-if3 .before .before in let at-if1 = at-if2 .before .before in
+    let start = at-if1 .before .before .before in
+    let a = start .args in
+    let g = start .pre in
     let p = a .policy .now in
-    let one : stepCount p (a .k) ≡ 1 = c .before .before .before .before .before .if1 .left in
+    let one : stepCount p (a .k) ≡ 1 = at-if1 .if1 .left in
     let z : stepsAt (a .k) + 0 * 32 ≡ stepsAt (a .k) = omega arith in
     let text = subst (Text p) z (g .0 .paths (a .k) (g .1) .texts 0 (omega (arith, one))) in
     λ e own. record {
       on = sym (c .counts .ensures) ∙ e;
-      all = general-path p own (a .k) one (c .before .before .before .if2 .left) (text-first p (stepsAt (a .k)) text ∙ c .before .if3 .left);
+      all = general-path p own (a .k) one (at-if2 .if2 .left) (text-first p (stepsAt (a .k)) text ∙ at-if3 .if3 .left);
     }
 
 pub is-general-spec : {M : Type 1} → statement M

@@ -21,46 +21,59 @@ abbrev μ-loop : tie.MeasureT-loop
 μ-loop policy own words n roles right from to rows₀ g₀ k₀ rows g k = to - k
 
 add-clear-rows : tie.Need-add-clear-rows Inv-loop μ-loop
-add-clear-rows c = omega (arith, c .before .before .before .before .before .pre .0 .sorted .words .few)
+add-clear-rows c =
+    let start-2 = c .before .before .before .before .before in
+    omega (arith, start-2 .pre .0 .sorted .words .few)
 
 clear-rows-requires : tie.Need-clear-rows-requires Inv-loop μ-loop
-clear-rows-requires c κs = omega (arith, c .before .before .before .before .before .pre .0 .sorted .words .few, c .before .before .before .before .before .pre .5)
+clear-rows-requires c κs =
+    let start-2 = c .before .before .before .before .before in
+    omega (arith, start-2 .pre .0 .sorted .words .few, start-2 .pre .5)
 
 loop-holds : tie.Need-loop-holds Inv-loop μ-loop
 loop-holds c =
-    let a = c .before .before .before .before .before .before .before .before .args in
-    let g = c .before .before .before .before .before .before .before .before .pre in
+    let at-clear-rows = c .before .before in let start-2 = at-clear-rows .before .before .before .before .before .before in
+    let a = start-2 .args in
+    let g = start-2 .pre in
     let p = a .policy .now in
-    let r = c .before .before .clear-rows .ensures in
+    let r = at-clear-rows .clear-rows .ensures in
     let z : a .from - a .from ≡ 0 = omega arith in
     (omega arith, omega arith, rw z (group-none (numberIn p (a .words .now) (a .n)) (laneAt p (a .own .now) (a .roles .now) (a .right)) (a .right) (a .from) _ (r .long ∙ g .5) (λ x. r .at _ (omega (arith, number-low (wordAt p (a .words .now)) (a .n) x)))))
 
 with-lane-requires : tie.Need-with-lane-requires Inv-loop μ-loop
 with-lane-requires c κs =
-    let a = c .before .before .before .before .before .before .before .before .before .before .before .args in
-    let g = c .before .before .before .before .before .before .before .before .before .before .before .pre in
-    let l = c .before .before .loop in
+    let at-loop = c .before .before in let start-2 = at-loop .before .before .before .before .before .before .before .before .before in
+    let a = start-2 .args in
+    let g = start-2 .pre in
+    let l = at-loop .loop in
     let p = a .policy .now in
     let q = laneAt p (a .own .now) (a .roles .now) (a .right) in
     (g .0, omega arith, g .3, omega (arith, l .inv .2 .used-is, size-more q (a .from) (l .k) (stepCount p (l .k)) (l .inv .0) (length-steps (nameAmong p (a .own .now)) p (stepsAt (l .k)) (stepCount p (l .k)) 0), size-within q (a .from) (l .k + 1) (a .to) (omega arith) (omega arith), g .4), l .inv .2 .packed .long)
 
 add-k : tie.Need-add-k Inv-loop μ-loop
-add-k c = omega (arith, c .before .before .before .before .before .before .before .before .before .before .before .before .before .before .pre .0 .sound .rules)
+add-k c =
+    let start-2 = c .before .before .before .before .before .before .before .before .before .before .before .before .before .before in
+    omega (arith, start-2 .pre .0 .sound .rules)
 
 loop-again : tie.Need-loop-again Inv-loop μ-loop
 loop-again c =
-    let a = c .before .before .before .before .before .before .before .before .before .before .before .before .before .before .args in
-    let l = c .before .before .before .before .before .loop in
+    let at-with-lane = c .before .before in let at-loop = at-with-lane .before .before .before in
+    let start-2 = at-loop .before .before .before .before .before .before .before .before .before in
+    let a = start-2 .args in
+    let l = at-loop .loop in
     let y : suc (l .k - a .from) ≡ l .k + 1 - a .from = omega arith in
-    (omega arith, omega arith, rw y at (c .before .before .with-lane .ensures .0 (a .from) (l .k - a .from) (omega arith) (l .inv .2)))
+    (omega arith, omega arith, rw y at (at-with-lane .with-lane .ensures .0 (a .from) (l .k - a .from) (omega arith) (l .inv .2)))
 
 same-length : tie.Need-same-length Inv-loop μ-loop
-same-length c = c .before .loop .inv .2 .packed .long ∙ sym (c .before .before .before .before .before .before .before .before .before .before .pre .5)
+same-length c =
+    let at-loop = c .before in let start-2 = at-loop .before .before .before .before .before .before .before .before .before in
+    at-loop .loop .inv .2 .packed .long ∙ sym (start-2 .pre .5)
 
 returns : tie.Need-returns Inv-loop μ-loop
 returns c =
-    let l = c .before .loop in
-    let e : l .k ≡ c .before .before .before .before .before .before .before .before .before .before .args .to = omega arith in
+    let at-loop = c .before in let start-2 = at-loop .before .before .before .before .before .before .before .before .before in
+    let l = at-loop .loop in
+    let e : l .k ≡ start-2 .args .to = omega arith in
     rw e at (l .inv .2)
 
 pub make-group-spec : {M : Type 1} → statement M

@@ -10,16 +10,19 @@ mul-rows : tie.Need-mul-rows
 mul-rows c = omega (arith, c .number-of .ensures .1, c .before .before .before .before .pre .0 .few)
 
 slice-read-rows : tie.Need-slice-read-rows
-slice-read-rows c = omega (arith, c .before .number-of .ensures .1, c .before .before .before .before .before .pre .0 .few, c .before .before .before .before .before .pre .4)
+slice-read-rows c =
+    let at-number-of = c .before in let start = at-number-of .before .before .before .before in
+    omega (arith, at-number-of .number-of .ensures .1, start .pre .0 .few, start .pre .4)
 
 returns : tie.Need-returns
 returns c =
-    let a = c .before .before .before .before .before .before .args in
-    let g = c .before .before .before .before .before .before .pre in
-    let h = c .before .before .number-of .result in
+    let at-number-of = c .before .before in let start = at-number-of .before .before .before .before in
+    let a = start .args in
+    let g = start .pre in
+    let h = at-number-of .number-of .result in
     rw (c .one-at .ensures)
     (noted-label (a .policy .now) (a .words .now) (a .n) (label (recAt (a .policy .now) (a .at))) (a .rows .now) h (a .j)
-    (omega (arith, c .before .before .number-of .ensures .1, g .0 .few, g .4)) (c .before .before .number-of .ensures .0) (g .2))
+    (omega (arith, at-number-of .number-of .ensures .1, g .0 .few, g .4)) (at-number-of .number-of .ensures .0) (g .2))
 
 pub note-label-spec : {M : Type 1} → statement M
 note-label-spec =

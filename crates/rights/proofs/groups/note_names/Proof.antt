@@ -25,36 +25,43 @@ loop-holds c =
 
 mul-note-label : tie.Need-mul-note-label Inv-loop μ-loop
 mul-note-label c =
-    let g = c .before .before .before .before .before .before .before .before .pre .0 in
-    omega (arith, c .wide .ensures, g .sound .subjects, g .subjects .at (c .before .before .before .loop .i) (c .before .before .loop-test .taken) .declared)
+    let at-test = c .before .before in let at-loop = at-test .before in let start = at-loop .before .before .before .before .before in
+    let g = start .pre .0 in
+    omega (arith, c .wide .ensures, g .sound .subjects, g .subjects .at (at-loop .loop .i) (at-test .loop-test .taken) .declared)
 
 add-note-label : tie.Need-add-note-label Inv-loop μ-loop
 add-note-label c =
-    let g = c .before .before .before .before .before .before .before .before .pre .0 in
-    omega (arith, c .wide .ensures, g .sound .subjects, g .subjects .at (c .before .before .before .loop .i) (c .before .before .loop-test .taken) .declared)
+    let at-test = c .before .before in let at-loop = at-test .before in let start = at-loop .before .before .before .before .before in
+    let g = start .pre .0 in
+    omega (arith, c .wide .ensures, g .sound .subjects, g .subjects .at (at-loop .loop .i) (at-test .loop-test .taken) .declared)
 
 note-label-requires : tie.Need-note-label-requires Inv-loop μ-loop
 note-label-requires c κs =
-    let a = c .before .before .before .before .before .before .before .before .before .args in
-    let g = c .before .before .before .before .before .before .before .before .before .pre in
-    let l = c .before .before .before .before .loop in
-    let h = c .before .before .before .loop-test .taken in
-    rw (c .before .wide .ensures) (g .0 .sorted .words, g .0 .subjects .at (l .i) h .name, sorted-name (a .policy .now) (a .own .now) (a .words .now) (a .n) (g .0 .sorted) (l .i) h, g .1, l .inv .1 .long ∙ g .2)
+    let at-wide = c .before in let at-test = at-wide .before .before in let at-loop = at-test .before in
+    let start = at-loop .before .before .before .before .before in
+    let a = start .args in
+    let g = start .pre in
+    let l = at-loop .loop in
+    let h = at-test .loop-test .taken in
+    rw (at-wide .wide .ensures) (g .0 .sorted .words, g .0 .subjects .at (l .i) h .name, sorted-name (a .policy .now) (a .own .now) (a .words .now) (a .n) (g .0 .sorted) (l .i) h, g .1, l .inv .1 .long ∙ g .2)
 
 loop-again : tie.Need-loop-again Inv-loop μ-loop
 loop-again c =
-    let a = c .before .before .before .before .before .before .before .before .before .before .before .before .args in
-    let l = c .before .before .before .before .before .before .before .loop in
+    let at-note-label = c .before .before in let at-wide = at-note-label .before .before in let at-test = at-wide .before .before in
+    let at-loop = at-test .before in let start = at-loop .before .before .before .before .before in
+    let a = start .args in
+    let l = at-loop .loop in
     let p = a .policy .now in
-    (omega arith, noted-then (numberIn p (a .words .now) (a .n)) (a .rows .now) (a .j) (l .rows) _ _ _ _ (λ x. names-more p (a .own .now) (l .i) x (c .before .before .before .before .before .before .loop-test .taken)) (l .inv .1) (rw (c .before .before .before .before .wide .ensures) at (c .before .before .note-label .ensures)))
+    (omega arith, noted-then (numberIn p (a .words .now) (a .n)) (a .rows .now) (a .j) (l .rows) _ _ _ _ (λ x. names-more p (a .own .now) (l .i) x (at-test .loop-test .taken)) (l .inv .1) (rw (at-wide .wide .ensures) at (at-note-label .note-label .ensures)))
 
 same-length : tie.Need-same-length Inv-loop μ-loop
 same-length c = c .before .loop .inv .1 .long
 
 returns : tie.Need-returns Inv-loop μ-loop
 returns c =
-    let a = c .before .before .before .before .before .before .args in
-    let l = c .before .loop in
+    let at-loop = c .before in let start = at-loop .before .before .before .before .before in
+    let a = start .args in
+    let l = at-loop .loop in
     noted-alike (numberIn (a .policy .now) (a .words .now) (a .n)) (a .rows .now) (a .j) (l .rows) _ _ (λ x. names-all (a .policy .now) (a .own .now) (l .i) x (omega arith)) (l .inv .1)
 
 pub note-names-spec : {M : Type 1} → statement M

@@ -23,8 +23,9 @@ loop-holds c = (omega arith, refl, refl, (λ q h. absurd (omega arith)), λ q h.
 
 loop-again : tie.Need-loop-again Inv-loop μ-loop
 loop-again c =
-    let a = c .before .before .before .before .before .args in
-    let l = c .before .before .before .loop in
+    let at-loop = c .before .before .before in let start = at-loop .before .before in
+    let a = start .args in
+    let l = at-loop .loop in
     let r = c .with-right .ensures in (
       omega arith,
       simp length-set (l .inv .1),
@@ -38,8 +39,9 @@ same-length c = c .before .loop .inv .1
 
 returns : tie.Need-returns Inv-loop μ-loop
 returns c =
-    let l = c .before .loop in
-    let e : l .i ≡ c .before .before .before .args .n = omega arith in
+    let at-loop = c .before in let start = at-loop .before .before in
+    let l = at-loop .loop in
+    let e : l .i ≡ start .args .n = omega arith in
     (record { long = l .inv .1; at = rw e at (l .inv .3); rest = rw e at (l .inv .2) }, rw e at (l .inv .4))
 
 pub rule-all-spec : {M : Type 1} → statement M

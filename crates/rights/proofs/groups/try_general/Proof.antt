@@ -15,11 +15,12 @@ returns c =
 
 returns-2 : tie.Need-returns-2
 returns-2 c =
-    let a = c .before .before .before .before .before .before .before .before .before .args in
-    let g = c .before .before .before .before .before .before .before .before .before .pre in
-    let r = c .before .before .rule-all .ensures in
+    let at-rule-all = c .before .before in let at-if1 = at-rule-all .before .before .before in let start = at-if1 .before .before .before .before in
+    let a = start .args in
+    let g = start .pre in
+    let r = at-rule-all .rule-all .ensures in
     λ own. let q = laneAt (a .policy .now) own (a .roles .now) (a .right) in
-    record { long = r .0 .long; at = λ i h. r .0 .at i h ∙ general-at (a .right) (g .1) q (a .t .now) i (a .k) (getD (a .out .now) i 0) (r .1 i h) (above-zero (a .k) (c .before .before .before .before .before .if1 .left)) (g .3 (above-zero (a .k) (c .before .before .before .before .before .if1 .left)) own); rest = r .0 .rest }
+    record { long = r .0 .long; at = λ i h. r .0 .at i h ∙ general-at (a .right) (g .1) q (a .t .now) i (a .k) (getD (a .out .now) i 0) (r .1 i h) (above-zero (a .k) (at-if1 .if1 .left)) (g .3 (above-zero (a .k) (at-if1 .if1 .left)) own); rest = r .0 .rest }
 
 pub try-general-spec : {M : Type 1} → statement M
 try-general-spec =

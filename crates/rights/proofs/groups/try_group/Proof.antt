@@ -31,105 +31,148 @@ abbrev μ-loop : tie.MeasureT-loop
 
 make-group-requires : tie.Need-make-group-requires Inv-loop μ-loop
 make-group-requires c κs =
-    let g = c .before .before .before .before .before .before .before .before .pre in
+    let start = c .before .before .before .before .before .before .before .before in
+    let g = start .pre in
     (g .0, g .1, g .2, g .3, g .4, g .5)
 
 same-length : tie.Need-same-length Inv-loop μ-loop
-same-length c = c .before .before .before .before .make-group .ensures .packed .long ∙ sym (c .before .before .before .before .before .before .before .before .before .before .before .before .before .pre .5)
+same-length c =
+    let at-make-group = c .before .before .before .before in
+    let start = at-make-group .before .before .before .before .before .before .before .before .before in
+    at-make-group .make-group .ensures .packed .long ∙ sym (start .pre .5)
 
 returns : tie.Need-returns Inv-loop μ-loop
 returns c =
-    let a = c .before .before .before .before .before .before .before .before .before .before .before .before .before .args in
+    let at-make-group = c .before .before .before .before in
+    let start = at-make-group .before .before .before .before .before .before .before .before .before in
+    let a = start .args in
     let q = laneAt (a .policy .now) (a .own .now) (a .roles .now) (a .right) in
-    let made = c .before .before .before .before .make-group .ensures in
+    let made = at-make-group .make-group .ensures in
     let z = sym (made .used-is) ∙ c .if1 .taken in
     (made .packed .long, record { long = refl; at = λ i h. ruled-none q (a .from) (a .right) (chainOf (a .t .now) i) (a .to - a .from) (getD (a .out .now) i 0) z; rest = refl })
 
 loop-holds : tie.Need-loop-holds Inv-loop μ-loop
 loop-holds c =
-    let a = c .before .before .before .before .before .before .before .before .before .before .before .before .before .args in
+    let at-make-group = c .before .before .before .before in
+    let start = at-make-group .before .before .before .before .before .before .before .before .before in
+    let a = start .args in
     let q = laneAt (a .policy .now) (a .own .now) (a .roles .now) (a .right) in
-    (omega arith, refl, refl, (λ j h. absurd (omega arith)), refl, levels-start (laid q (a .from) (a .to - a .from)) (firsts q (a .from) (a .to - a .from)) _ (a .t .now) (c .before .before .before .before .make-group .ensures .start-is))
+    (omega arith, refl, refl, (λ j h. absurd (omega arith)), refl, levels-start (laid q (a .from) (a .to - a .from)) (firsts q (a .from) (a .to - a .from)) _ (a .t .now) (at-make-group .make-group .ensures .start-is))
 
 mul-wide : tie.Need-mul-wide Inv-loop μ-loop
-mul-wide c = omega (arith, c .before .before .before .before .before .before .before .before .before .before .before .before .before .before .before .pre .6 .few)
+mul-wide c =
+    let start = c .before .before .before .before .before .before .before .before .before .before .before .before .before .before .before in
+    omega (arith, start .pre .6 .few)
 
 add-wide : tie.Need-add-wide Inv-loop μ-loop
-add-wide c = omega (arith, c .before .before .before .before .before .before .before .before .before .before .before .before .before .before .before .pre .6 .few)
+add-wide c =
+    let start = c .before .before .before .before .before .before .before .before .before .before .before .before .before .before .before in
+    omega (arith, start .pre .6 .few)
 
 shared-slice-read-wide : tie.Need-shared-slice-read-wide Inv-loop μ-loop
-shared-slice-read-wide c = omega (arith, c .before .before .before .before .before .before .before .before .before .before .before .before .before .before .before .before .pre .6 .room)
+shared-slice-read-wide c =
+    let start = c .before .before .before .before .before .before .before .before .before .before .before .before .before .before .before .before in
+    omega (arith, start .pre .6 .room)
 
 mul-wide-number : tie.Need-mul-wide-number Inv-loop μ-loop
-mul-wide-number c = omega (arith, c .before .before .before .before .before .before .before .before .before .before .before .before .before .before .before .before .before .pre .6 .few)
+mul-wide-number c =
+    let start = c .before .before .before .before .before .before .before .before .before .before .before .before .before .before .before .before .before in
+    omega (arith, start .pre .6 .few)
 
 shared-slice-read-wide-number : tie.Need-shared-slice-read-wide-number Inv-loop μ-loop
-shared-slice-read-wide-number c = omega (arith, c .before .before .before .before .before .before .before .before .before .before .before .before .before .before .before .before .before .before .pre .6 .long)
+shared-slice-read-wide-number c =
+    let start = c .before .before .before .before .before .before .before .before .before .before .before .before .before .before .before .before .before .before in
+    omega (arith, start .pre .6 .long)
 
 mul-next-states : tie.Need-mul-next-states Inv-loop μ-loop
 mul-next-states c =
-    let a = c .before .before .before .before .before .before .before .before .before .before .before .before .before .before .before .before .before .before .before .args in
-    let g = c .before .before .before .before .before .before .before .before .before .before .before .before .before .before .before .before .before .before .before .pre in
-    let i = c .before .before .before .before .before .loop .i in
-    omega (arith, c .wide-number .ensures, g .6 .at i (c .before .before .before .before .loop-test .taken), number-low (wordAt (a .policy .now) (a .words .now)) (a .count) (label (recordAt (a .t .now) i)), g .0 .sorted .words .few, c .before .before .before .before .before .before .before .before .before .before .make-group .ensures .packed .long)
+    let at-test = c .before .before .before .before in let at-loop = at-test .before in
+    let at-make-group = at-loop .before .before .before .before .before in
+    let start = at-make-group .before .before .before .before .before .before .before .before .before in
+    let a = start .args in
+    let g = start .pre in
+    let i = at-loop .loop .i in
+    omega (arith, c .wide-number .ensures, g .6 .at i (at-test .loop-test .taken), number-low (wordAt (a .policy .now) (a .words .now)) (a .count) (label (recordAt (a .t .now) i)), g .0 .sorted .words .few, at-make-group .make-group .ensures .packed .long)
 
 slice-read-next-states : tie.Need-slice-read-next-states Inv-loop μ-loop
 slice-read-next-states c =
-    let a = c .before .before .before .before .before .before .before .before .before .before .before .before .before .before .before .before .before .before .before .before .args in
-    let g = c .before .before .before .before .before .before .before .before .before .before .before .before .before .before .before .before .before .before .before .before .pre in
-    let i = c .before .before .before .before .before .before .loop .i in
-    omega (arith, c .before .wide-number .ensures, g .6 .at i (c .before .before .before .before .before .loop-test .taken), number-low (wordAt (a .policy .now) (a .words .now)) (a .count) (label (recordAt (a .t .now) i)), g .0 .sorted .words .few, c .before .before .before .before .before .before .before .before .before .before .before .make-group .ensures .packed .long)
+    let at-wide-number = c .before in let at-test = at-wide-number .before .before .before .before in let at-loop = at-test .before in
+    let at-make-group = at-loop .before .before .before .before .before in
+    let start = at-make-group .before .before .before .before .before .before .before .before .before in
+    let a = start .args in
+    let g = start .pre in
+    let i = at-loop .loop .i in
+    omega (arith, at-wide-number .wide-number .ensures, g .6 .at i (at-test .loop-test .taken), number-low (wordAt (a .policy .now) (a .words .now)) (a .count) (label (recordAt (a .t .now) i)), g .0 .sorted .words .few, at-make-group .make-group .ensures .packed .long)
 
 mul-next-states-2 : tie.Need-mul-next-states-2 Inv-loop μ-loop
 mul-next-states-2 c =
-    let a = c .before .before .before .before .before .before .before .before .before .before .before .before .before .before .before .before .before .before .before .before .args in
-    omega (arith, c .before .before .before .wide .ensures, low-byte (a .t .now) (a .n) (c .before .before .before .before .before .before .loop .i) (c .before .before .before .before .before .before .before .before .before .before .before .before .before .before .before .before .before .before .before .before .pre .6 .records) (c .before .before .before .before .before .loop-test .taken))
+    let at-wide = c .before .before .before in let at-test = at-wide .before .before in let at-loop = at-test .before in
+    let start = at-loop .before .before .before .before .before .before .before .before .before .before .before .before .before .before in
+    let a = start .args in
+    omega (arith, at-wide .wide .ensures, low-byte (a .t .now) (a .n) (at-loop .loop .i) (start .pre .6 .records) (at-test .loop-test .taken))
 
 array-read-next-states : tie.Need-array-read-next-states Inv-loop μ-loop
 array-read-next-states c =
-    let a = c .before .before .before .before .before .before .before .before .before .before .before .before .before .before .before .before .before .before .before .before .args in
-    omega (arith, c .before .before .before .wide .ensures, low-byte (a .t .now) (a .n) (c .before .before .before .before .before .before .loop .i) (c .before .before .before .before .before .before .before .before .before .before .before .before .before .before .before .before .before .before .before .before .pre .6 .records) (c .before .before .before .before .before .loop-test .taken))
+    let at-wide = c .before .before .before in let at-test = at-wide .before .before in let at-loop = at-test .before in
+    let start = at-loop .before .before .before .before .before .before .before .before .before .before .before .before .before .before in
+    let a = start .args in
+    omega (arith, at-wide .wide .ensures, low-byte (a .t .now) (a .n) (at-loop .loop .i) (start .pre .6 .records) (at-test .loop-test .taken))
 
 add-st : tie.Need-add-st Inv-loop μ-loop
 add-st c =
-    let a = c .before .before .before .before .before .before .before .before .before .before .before .before .before .before .before .before .before .before .before .before .before .args in
-    omega (arith, c .before .before .before .before .wide .ensures, low-byte (a .t .now) (a .n) (c .before .before .before .before .before .before .before .loop .i) (c .before .before .before .before .before .before .before .before .before .before .before .before .before .before .before .before .before .before .before .before .before .pre .6 .records) (c .before .before .before .before .before .before .loop-test .taken))
+    let at-wide = c .before .before .before .before in let at-test = at-wide .before .before in let at-loop = at-test .before in
+    let start = at-loop .before .before .before .before .before .before .before .before .before .before .before .before .before .before in
+    let a = start .args in
+    omega (arith, at-wide .wide .ensures, low-byte (a .t .now) (a .n) (at-loop .loop .i) (start .pre .6 .records) (at-test .loop-test .taken))
 
 mul-st : tie.Need-mul-st Inv-loop μ-loop
 mul-st c =
-    let a = c .before .before .before .before .before .before .before .before .before .before .before .before .before .before .before .before .before .before .before .before .before .args in
-    omega (arith, c .before .before .before .before .wide .ensures, low-byte (a .t .now) (a .n) (c .before .before .before .before .before .before .before .loop .i) (c .before .before .before .before .before .before .before .before .before .before .before .before .before .before .before .before .before .before .before .before .before .pre .6 .records) (c .before .before .before .before .before .before .loop-test .taken))
+    let at-wide = c .before .before .before .before in let at-test = at-wide .before .before in let at-loop = at-test .before in
+    let start = at-loop .before .before .before .before .before .before .before .before .before .before .before .before .before .before in
+    let a = start .args in
+    omega (arith, at-wide .wide .ensures, low-byte (a .t .now) (a .n) (at-loop .loop .i) (start .pre .6 .records) (at-test .loop-test .taken))
 
 array-write-st-2 : tie.Need-array-write-st-2 Inv-loop μ-loop
 array-write-st-2 c =
-    let a = c .before .before .before .before .before .before .before .before .before .before .before .before .before .before .before .before .before .before .before .before .before .args in
-    omega (arith, c .before .before .before .before .wide .ensures, low-byte (a .t .now) (a .n) (c .before .before .before .before .before .before .before .loop .i) (c .before .before .before .before .before .before .before .before .before .before .before .before .before .before .before .before .before .before .before .before .before .pre .6 .records) (c .before .before .before .before .before .before .loop-test .taken))
+    let at-wide = c .before .before .before .before in let at-test = at-wide .before .before in let at-loop = at-test .before in
+    let start = at-loop .before .before .before .before .before .before .before .before .before .before .before .before .before .before in
+    let a = start .args in
+    omega (arith, at-wide .wide .ensures, low-byte (a .t .now) (a .n) (at-loop .loop .i) (start .pre .6 .records) (at-test .loop-test .taken))
 
 slice-read-settle : tie.Need-slice-read-settle Inv-loop μ-loop
-slice-read-settle c = omega (arith, c .before .before .before .before .before .before .before .before .before .before .before .before .before .before .before .before .before .before .before .before .before .before .pre .7)
+slice-read-settle c =
+    let start = c .before .before .before .before .before .before .before .before .before .before .before .before .before .before .before .before .before .before .before .before .before .before in
+    omega (arith, start .pre .7)
 
 slice-write-out : tie.Need-slice-write-out Inv-loop μ-loop
-slice-write-out c = omega (arith, c .before .before .before .before .before .before .before .before .before .before .before .before .before .before .before .before .before .before .before .before .before .before .before .pre .7)
+slice-write-out c =
+    let start = c .before .before .before .before .before .before .before .before .before .before .before .before .before .before .before .before .before .before .before .before .before .before .before in
+    omega (arith, start .pre .7)
 
 add-i : tie.Need-add-i Inv-loop μ-loop
-add-i c = omega (arith, c .before .before .before .before .before .before .before .before .before .before .before .before .before .before .before .before .before .before .before .before .before .before .before .pre .6 .few)
+add-i c =
+    let start = c .before .before .before .before .before .before .before .before .before .before .before .before .before .before .before .before .before .before .before .before .before .before .before in
+    omega (arith, start .pre .6 .few)
 
 loop-again : tie.Need-loop-again Inv-loop μ-loop
 loop-again c =
-    let a = c .before .before .before .before .before .before .before .before .before .before .before .before .before .before .before .before .before .before .before .before .before .before .before .args in
-    let g = c .before .before .before .before .before .before .before .before .before .before .before .before .before .before .before .before .before .before .before .before .before .before .before .pre in
-    let l = c .before .before .before .before .before .before .before .before .before .loop in
-    let h = c .before .before .before .before .before .before .before .before .loop-test .taken in
-    let made = c .before .before .before .before .before .before .before .before .before .before .before .before .before .before .make-group .ensures in
+    let at-next-states = c .before .before in let at-wide-number = at-next-states .before .before in let at-wide = at-wide-number .before .before in
+    let at-test = at-wide .before .before in let at-loop = at-test .before in let at-make-group = at-loop .before .before .before .before .before in
+    let start = at-make-group .before .before .before .before .before .before .before .before .before in
+    let a = start .args in
+    let g = start .pre in
+    let l = at-loop .loop in
+    let h = at-test .loop-test .taken in
+    let made = at-make-group .make-group .ensures in
     let p = a .policy .now in
     let t = a .t .now in
     let q = laneAt p (a .own .now) (a .roles .now) (a .right) in
     let ss = laid q (a .from) (a .to - a .from) in
     let s = firsts q (a .from) (a .to - a .from) in
-    let m = c .before .before .next-states .result in
+    let m = at-next-states .next-states .result in
     let x = label (recordAt t (l .i)) in
-    let w = chain-step ss s t (l .i) (c .before .before .before .before .before .before .wide .result) m (l .st) (c .before .before .before .before .before .before .wide .ensures) (fit t (a .n) (l .i) (g .6 .records) h) (low-level t (a .n) (l .i) (g .6 .records) h) (l .inv .4) (l .inv .5)
-    (λ b e. c .before .before .next-states .ensures (numberIn p (a .words .now) (a .count)) ss b _ x (made .packed) (g .4) (row-at (made .packed) (c .before .before .before .before .wide-number .result) x (c .before .before .before .before .wide-number .ensures ∙ g .6 .at (l .i) h)) e) in
+    let w = chain-step ss s t (l .i) (at-wide .wide .result) m (l .st) (at-wide .wide .ensures) (fit t (a .n) (l .i) (g .6 .records) h) (low-level t (a .n) (l .i) (g .6 .records) h) (l .inv .4) (l .inv .5)
+    (λ b e. at-next-states .next-states .ensures (numberIn p (a .words .now) (a .count)) ss b _ x (made .packed) (g .4) (row-at (made .packed) (at-wide-number .wide-number .result) x (at-wide-number .wide-number .ensures ∙ g .6 .at (l .i) h)) e) in
     let v = c .settle .ensures .0 ∙ sym (made .says m (getD (l .out) (l .i) 0) (chainOf t (l .i)) (c .settle .ensures .1) (agree q (a .from) (a .to - a .from) m (chainOf t (l .i)) (w .0))) in (
       omega arith,
       simp length-set (l .inv .1),
@@ -140,16 +183,21 @@ loop-again c =
     )
 
 same-length-2 : tie.Need-same-length-2 Inv-loop μ-loop
-same-length-2 c = c .before .before .before .before .before .before .make-group .ensures .packed .long ∙ sym (c .before .before .before .before .before .before .before .before .before .before .before .before .before .before .before .pre .5)
+same-length-2 c =
+    let at-make-group = c .before .before .before .before .before .before in
+    let start = at-make-group .before .before .before .before .before .before .before .before .before in
+    at-make-group .make-group .ensures .packed .long ∙ sym (start .pre .5)
 
 same-length-3 : tie.Need-same-length-3 Inv-loop μ-loop
 same-length-3 c = c .before .loop .inv .1
 
 returns-2 : tie.Need-returns-2 Inv-loop μ-loop
 returns-2 c =
-    let l = c .before .loop in
-    let e : l .i ≡ c .before .before .before .before .before .before .before .before .before .before .before .before .before .before .before .args .n = omega arith in
-    (c .before .before .before .before .before .before .make-group .ensures .packed .long, record { long = l .inv .1; at = rw e at (l .inv .3); rest = rw e at (l .inv .2) })
+    let at-loop = c .before in let at-make-group = at-loop .before .before .before .before .before in
+    let start = at-make-group .before .before .before .before .before .before .before .before .before in
+    let l = at-loop .loop in
+    let e : l .i ≡ start .args .n = omega arith in
+    (at-make-group .make-group .ensures .packed .long, record { long = l .inv .1; at = rw e at (l .inv .3); rest = rw e at (l .inv .2) })
 
 pub try-group-spec : {M : Type 1} → statement M
 try-group-spec =

@@ -18,46 +18,65 @@ abbrev μ-loop : tie.MeasureT-loop
 μ-loop policy own words count roles right t n numbers rows₀ out₀ rules k₀ rows out k = rules - k
 
 shared-slice-read-wide : tie.Need-shared-slice-read-wide Inv-loop μ-loop
-shared-slice-read-wide c = omega (arith, c .before .before .before .before .before .before .before .before .pre .0 .sound .size)
+shared-slice-read-wide c =
+    let start = c .before .before .before .before .before .before .before .before in
+    omega (arith, start .pre .0 .sound .size)
 
 general-end-requires : tie.Need-general-end-requires Inv-loop μ-loop
-general-end-requires c κs = (c .before .before .before .before .before .before .before .before .before .pre .0 .sound, c .wide .ensures)
+general-end-requires c κs =
+    let start = c .before .before .before .before .before .before .before .before .before in
+    (start .pre .0 .sound, c .wide .ensures)
 
 try-general-requires : tie.Need-try-general-requires Inv-loop μ-loop
 try-general-requires c κs =
-    let g = c .before .before .before .before .before .before .before .before .before .before .before .pre in
-    let e = c .before .general-end .ensures in
-    (g .0 .sound, g .1, omega (arith, e .0, c .before .before .wide .ensures), e .1, g .4)
+    let at-general-end = c .before in let at-wide = at-general-end .before in
+    let start = at-wide .before .before .before .before .before .before .before .before .before in
+    let g = start .pre in
+    let e = at-general-end .general-end .ensures in
+    (g .0 .sound, g .1, omega (arith, e .0, at-wide .wide .ensures), e .1, g .4)
 
 loop-holds : tie.Need-loop-holds Inv-loop μ-loop
 loop-holds c =
-    let a = c .before .before .before .before .before .before .before .before .before .before .before .before .before .before .args in
+    let at-general-end = c .before .before .before .before in
+    let start = at-general-end .before .before .before .before .before .before .before .before .before .before in
+    let a = start .args in
     let q = laneAt (a .policy .now) (a .own .now) (a .roles .now) (a .right) in
-    let k = c .before .before .before .before .general-end .result in
-    (omega arith, c .before .before .before .before .general-end .ensures .0, c .before .before .before .before .before .before .before .before .before .before .before .before .before .before .pre .2, record { long = refl; at = λ i h. ruled-zero q (a .right) (chainOf (a .t .now) i) k (k - k) _ (omega arith); rest = refl })
+    let k = at-general-end .general-end .result in
+    (omega arith, at-general-end .general-end .ensures .0, start .pre .2, record { long = refl; at = λ i h. ruled-zero q (a .right) (chainOf (a .t .now) i) k (k - k) _ (omega arith); rest = refl })
 
 group-end-requires : tie.Need-group-end-requires Inv-loop μ-loop
-group-end-requires c κs = (c .before .before .before .before .before .before .before .before .before .before .before .before .before .before .before .before .pre .0 .sound, c .before .before .before .before .before .before .before .wide .ensures, omega arith)
+group-end-requires c κs =
+    let at-wide = c .before .before .before .before .before .before .before in
+    let start = at-wide .before .before .before .before .before .before .before .before .before in
+    (start .pre .0 .sound, at-wide .wide .ensures, omega arith)
 
 try-group-requires : tie.Need-try-group-requires Inv-loop μ-loop
 try-group-requires c κs =
-    let own = c .before .before .before .before .before .before .before .before .before .before .before .before .before .before .before .before .before .before .before .args .own .now in
-    let g = c .before .before .before .before .before .before .before .before .before .before .before .before .before .before .before .before .before .before .before .pre in
-    let l = c .before .before .before .before .loop in
-    let e = c .before .before .group-end .ensures in
-    (g .0, omega (arith, e .0), omega (arith, e .1, c .before .before .before .before .before .before .before .before .before .before .wide .ensures), g .1, e .2 own, l .inv .2, g .3, omega (arith, l .inv .3 .long, (c .before .before .before .before .before .before .before .try-general .ensures own) .long, g .4))
+    let at-group-end = c .before .before in let at-loop = at-group-end .before .before in let at-try-general = at-loop .before .before .before in
+    let at-wide = at-try-general .before .before .before in
+    let start = at-wide .before .before .before .before .before .before .before .before .before in
+    let own = start .args .own .now in
+    let g = start .pre in
+    let l = at-loop .loop in
+    let e = at-group-end .group-end .ensures in
+    (g .0, omega (arith, e .0), omega (arith, e .1, at-wide .wide .ensures), g .1, e .2 own, l .inv .2, g .3, omega (arith, l .inv .3 .long, (at-try-general .try-general .ensures own) .long, g .4))
 
 loop-less : tie.Need-loop-less Inv-loop μ-loop
-loop-less c = omega (arith, c .before .before .before .before .before .before .before .group-end .ensures .0, c .before .before .before .before .before .before .before .group-end .ensures .1)
+loop-less c =
+    let at-group-end = c .before .before .before .before .before .before .before in
+    omega (arith, at-group-end .group-end .ensures .0, at-group-end .group-end .ensures .1)
 
 loop-again : tie.Need-loop-again Inv-loop μ-loop
 loop-again c =
-    let a = c .before .before .before .before .before .before .before .before .before .before .before .before .before .before .before .before .before .before .before .before .before .before .before .before .args in
-    let l = c .before .before .before .before .before .before .before .before .before .loop in
-    let from = c .before .before .before .before .before .before .before .before .before .before .before .before .before .before .general-end .result in
-    let to = c .before .before .before .before .before .before .before .group-end .result in
-    let e = c .before .before .before .before .before .before .before .group-end .ensures in
-    let r = c .before .before .before .before .try-group .ensures in
+    let at-try-group = c .before .before .before .before in let at-group-end = at-try-group .before .before .before in
+    let at-loop = at-group-end .before .before in let at-general-end = at-loop .before .before .before .before .before in
+    let start = at-general-end .before .before .before .before .before .before .before .before .before .before in
+    let a = start .args in
+    let l = at-loop .loop in
+    let from = at-general-end .general-end .result in
+    let to = at-group-end .group-end .result in
+    let e = at-group-end .group-end .ensures in
+    let r = at-try-group .try-group .ensures in
     let q = laneAt (a .policy .now) (a .own .now) (a .roles .now) (a .right) in (
       omega (arith, e .0),
       omega (arith, e .1),
@@ -70,24 +89,32 @@ loop-again c =
     )
 
 same-length : tie.Need-same-length Inv-loop μ-loop
-same-length c = c .before .loop .inv .2 ∙ sym (c .before .before .before .before .before .before .before .before .before .before .before .before .before .before .before .before .pre .2)
+same-length c =
+    let at-loop = c .before in
+    let start = at-loop .before .before .before .before .before .before .before .before .before .before .before .before .before .before .before in
+    at-loop .loop .inv .2 ∙ sym (start .pre .2)
 
 same-length-2 : tie.Need-same-length-2 Inv-loop μ-loop
-same-length-2 c = c .before .loop .inv .3 .long ∙ (c .before .before .before .before .try-general .ensures (c .before .before .before .before .before .before .before .before .before .before .before .before .before .before .before .before .args .own .now)) .long
+same-length-2 c =
+    let at-loop = c .before in let at-try-general = at-loop .before .before .before in
+    let start = at-try-general .before .before .before .before .before .before .before .before .before .before .before .before in
+    at-loop .loop .inv .3 .long ∙ (at-try-general .try-general .ensures (start .args .own .now)) .long
 
 returns : tie.Need-returns Inv-loop μ-loop
 returns c =
-    let a = c .before .before .before .before .before .before .before .before .before .before .before .before .before .before .before .before .args in
-    let l = c .before .loop in
-    let from = c .before .before .before .before .before .before .general-end .result in
+    let at-loop = c .before in let at-try-general = at-loop .before .before .before in let at-general-end = at-try-general .before .before in
+    let at-wide = at-general-end .before in let start = at-wide .before .before .before .before .before .before .before .before .before in
+    let a = start .args in
+    let l = at-loop .loop in
+    let from = at-general-end .general-end .result in
     let q = laneAt (a .policy .now) (a .own .now) (a .roles .now) (a .right) in
-    let e : l .k ≡ ruleCount (a .policy .now) = omega (arith, c .before .before .before .before .before .before .before .wide .ensures) in (
+    let e : l .k ≡ ruleCount (a .policy .now) = omega (arith, at-wide .wide .ensures) in (
       l .inv .2,
       each-alike (a .n) _ _
           (λ (i x : ℕ). ruled q (a .right) (chainOf (a .t .now) i) from (l .k - from) (ruled q (a .right) (chainOf (a .t .now) i) 0 from x))
           (λ (i x : ℕ). ruled q (a .right) (chainOf (a .t .now) i) 0 (ruleCount (a .policy .now)) x)
           (λ i x. ruled-whole q (a .right) (chainOf (a .t .now) i) from (l .k) x (l .inv .0) ∙ ap (λ (m : ℕ). ruled q (a .right) (chainOf (a .t .now) i) 0 m x) e)
-          (each-then (a .n) _ _ _ _ _ ((c .before .before .before .before .try-general .ensures (a .own .now))) (l .inv .3)),
+          (each-then (a .n) _ _ _ _ _ ((at-try-general .try-general .ensures (a .own .now))) (l .inv .3)),
     )
 
 pub try-right-spec : {M : Type 1} → statement M

@@ -13,26 +13,30 @@ counts-requires c κs = search needs
 
 with-rule-requires : tie.Need-with-rule-requires
 with-rule-requires c κs =
-    let g = c .before .before .before .before .before .before .before .pre in
-    (g .0, g .1, omega (arith, rw (sym (c .before .before .counts .ensures) ∙ c .before .if1 .taken) at (g .3)), g .4)
+    let at-if1 = c .before in let at-counts = at-if1 .before in let start = at-counts .before .before .before .before .before in
+    let g = start .pre in
+    (g .0, g .1, omega (arith, rw (sym (at-counts .counts .ensures) ∙ at-if1 .if1 .taken) at (g .3)), g .4)
 
 same-length : tie.Need-same-length
 same-length c = search needs
 
 returns : tie.Need-returns
 returns c =
-    let a = c .before .before .before .before .before .before .before .before .before .before .args in
-    let r = c .before .before .with-rule .ensures in (
-      (λ i size z g. lane-added (numberIn (a .policy .now) (a .words .now) (a .n)) (a .policy .now) (a .own .now) (a .roles .now) (a .right) (c .before .before .before .before .before .before .before .before .before .before .pre .2) i size (a .k) z (sym (c .before .before .before .before .before .counts .ensures) ∙ c .before .before .before .before .if1 .taken) _ _ _ _ _ _ _ _ _ _ _ _ _ _ g (r .0) (r .1) (r .2) (r .3) (r .4)),
+    let at-with-rule = c .before .before in let at-if1 = at-with-rule .before .before in let at-counts = at-if1 .before in
+    let start = at-counts .before .before .before .before .before in
+    let a = start .args in
+    let r = at-with-rule .with-rule .ensures in (
+      (λ i size z g. lane-added (numberIn (a .policy .now) (a .words .now) (a .n)) (a .policy .now) (a .own .now) (a .roles .now) (a .right) (start .pre .2) i size (a .k) z (sym (at-counts .counts .ensures) ∙ at-if1 .if1 .taken) _ _ _ _ _ _ _ _ _ _ _ _ _ _ g (r .0) (r .1) (r .2) (r .3) (r .4)),
       r .5,
     )
 
 returns-2 : tie.Need-returns-2
 returns-2 c =
-    let a = c .before .before .before .before .before .before .args in
+    let at-counts = c .before in let start = at-counts .before .before .before .before .before in
+    let a = start .args in
     let q = laneAt (a .policy .now) (a .own .now) (a .roles .now) (a .right) in (
-      (λ i size z g. group-skip (numberIn (a .policy .now) (a .words .now) (a .n)) q (a .right) i size _ _ _ _ _ _ _ g (ap (λ (m : ℕ). q m .on) z ∙ sym (c .before .counts .ensures) ∙ c .if1 .left)),
-      c .before .before .before .before .before .before .pre .4,
+      (λ i size z g. group-skip (numberIn (a .policy .now) (a .words .now) (a .n)) q (a .right) i size _ _ _ _ _ _ _ g (ap (λ (m : ℕ). q m .on) z ∙ sym (at-counts .counts .ensures) ∙ c .if1 .left)),
+      start .pre .4,
     )
 
 pub with-lane-spec : {M : Type 1} → statement M

@@ -25,23 +25,30 @@ loop-holds : tie.Need-loop-holds Inv-loop μ-loop
 loop-holds c = (omega arith, c .before .before .before .before .pre .4, λ ss e k. unfold stepsFor in rw (append-nil ss) k)
 
 mul-with-step : tie.Need-mul-with-step Inv-loop μ-loop
-mul-with-step c = omega (arith, c .before .before .before .before .before .before .pre .1 .few)
+mul-with-step c =
+    let start = c .before .before .before .before .before .before in
+    omega (arith, start .pre .1 .few)
 
 add-with-step : tie.Need-add-with-step Inv-loop μ-loop
-add-with-step c = omega (arith, c .before .before .before .before .before .before .pre .1 .texts (c .before .loop .j) (c .loop-test .taken) .room)
+add-with-step c =
+    let at-loop = c .before in let start = at-loop .before .before .before .before .before in
+    omega (arith, start .pre .1 .texts (at-loop .loop .j) (c .loop-test .taken) .room)
 
 with-step-requires : tie.Need-with-step-requires Inv-loop μ-loop
 with-step-requires c κs =
-    let g = c .before .before .before .before .before .before .before .pre in
-    let l = c .before .before .loop in
-    let h = c .before .loop-test .taken in
+    let at-test = c .before in let at-loop = at-test .before in let start = at-loop .before .before .before .before .before in
+    let g = start .pre in
+    let l = at-loop .loop in
+    let h = at-test .loop-test .taken in
     (g .0, g .1 .texts (l .j) h, g .2 (l .j) h, omega arith, l .inv .1)
 
 loop-again : tie.Need-loop-again Inv-loop μ-loop
 loop-again c =
-    let a = c .before .before .before .before .before .before .before .before .before .before .args in
-    let l = c .before .before .before .before .before .loop in
-    let r = c .before .before .with-step .ensures in
+    let at-with-step = c .before .before in let at-loop = at-with-step .before .before .before in
+    let start = at-loop .before .before .before .before .before in
+    let a = start .args in
+    let l = at-loop .loop in
+    let r = at-with-step .with-step .ensures in
     let p = a .policy .now in
     let mine = nameAmong p (a .own .now) in (
       omega arith,
@@ -50,12 +57,15 @@ loop-again c =
     )
 
 same-length : tie.Need-same-length Inv-loop μ-loop
-same-length c = c .before .loop .inv .1 ∙ sym (c .before .before .before .before .before .before .pre .4)
+same-length c =
+    let at-loop = c .before in let start = at-loop .before .before .before .before .before in
+    at-loop .loop .inv .1 ∙ sym (start .pre .4)
 
 returns : tie.Need-returns Inv-loop μ-loop
 returns c =
-    let l = c .before .loop in
-    let z : l .j ≡ c .before .before .before .before .before .before .args .count = omega arith in
+    let at-loop = c .before in let start = at-loop .before .before .before .before .before in
+    let l = at-loop .loop in
+    let z : l .j ≡ start .args .count = omega arith in
     ((λ ss e k. rw z at (l .inv .2 ss e k)), l .inv .1)
 
 pub with-path-spec : {M : Type 1} → statement M

@@ -14,21 +14,25 @@ use Rattle.rights.proofs.groups.with_rule.Tie as tie
 
 with-path-requires : tie.Need-with-path-requires
 with-path-requires c κs =
-    let a = c .before .before .before .before .before .before .before .args in
-    let g = c .before .before .before .before .before .before .before .pre in
-    rw (c .before .wide .ensures) (g .0, g .0 .sound .paths (a .k) (g .1), (λ j h. sorted-step (a .policy .now) (a .own .now) (a .words .now) (a .n) (g .0 .sorted) (a .k) j (g .1) h), g .2, g .3)
+    let at-wide = c .before in let start-2 = at-wide .before .before .before .before .before .before in
+    let a = start-2 .args in
+    let g = start-2 .pre in
+    rw (at-wide .wide .ensures) (g .0, g .0 .sound .paths (a .k) (g .1), (λ j h. sorted-step (a .policy .now) (a .own .now) (a .words .now) (a .n) (g .0 .sorted) (a .k) j (g .1) h), g .2, g .3)
 
 returns : tie.Need-returns
 returns c =
-    let a = c .before .before .before .before .before .before .before .before .before .before .before .before .before .before .before .before .args in
+    let at-one-at = c .before in let at-mark-if2 = at-one-at .before in let at-mark-if = at-mark-if2 .before .before in
+    let at-with-path = at-mark-if .before .before .before .before in let at-wide = at-with-path .before .before in
+    let start-2 = at-wide .before .before .before .before .before .before in
+    let a = start-2 .args in
     let g = a .g in
     let p = a .policy .now in
-    let w = c .before .before .before .before .before .before .before .before .before .before .wide .ensures in
-    let r = c .before .before .before .before .before .before .before .before .with-path .ensures in (
+    let w = at-wide .wide .ensures in
+    let r = at-with-path .with-path .ensures in (
       (λ ss e k. rw w at (r .0 ss e k)),
-      ap (bitOr (g .start)) (c .before .one-at .ensures),
-      c .before .before .before .before .mark-if .ensures ∙ ap (λ (z : ℕ). cond (accepts p (a .k)) (bitOr (g .yes) (2 ^ (g .used + z))) (g .yes)) w,
-      c .before .before .mark-if2 .ensures ∙ ap₂ (λ (b : Bool) (z : ℕ). cond b (bitOr (g .noes) (2 ^ (g .used + z))) (g .noes)) (sym (not-not (eqb (getD p (ruleAt (a .k)) 0) 0))) w,
+      ap (bitOr (g .start)) (at-one-at .one-at .ensures),
+      at-mark-if .mark-if .ensures ∙ ap (λ (z : ℕ). cond (accepts p (a .k)) (bitOr (g .yes) (2 ^ (g .used + z))) (g .yes)) w,
+      at-mark-if2 .mark-if2 .ensures ∙ ap₂ (λ (b : Bool) (z : ℕ). cond b (bitOr (g .noes) (2 ^ (g .used + z))) (g .noes)) (sym (not-not (eqb (getD p (ruleAt (a .k)) 0) 0))) w,
       omega (arith, w),
       r .1,
     )

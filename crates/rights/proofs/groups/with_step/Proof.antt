@@ -12,53 +12,62 @@ use Rattle.rights.proofs.groups.with_step.Tie as tie
 
 returns : tie.Need-returns
 returns c =
-    let a = c .before .before .before .before .before .before .before .before .before .before .args in
-    let g = c .before .before .before .before .before .before .before .before .before .before .pre in
+    let at-one-at = c .before in let at-if1 = at-one-at .before in let at-mark-if = at-if1 .before .before in let at-is-deep = at-mark-if .before in
+    let start = at-is-deep .before .before .before .before .before in
+    let a = start .args in
+    let g = start .pre in
     let p = a .policy .now in
     let own = a .own .now in
     let s = stepFor (nameAmong p own) (stepOf (recAt p (a .step))) in
-    let d = c .before .before .before .before .before .is-deep .result in (
-      (λ ss e k. rw (c .before .before .before .before .mark-if .ensures, c .before .one-at .ensures)
-          (packed-every (numberIn p (a .words .now) (a .n)) ss (a .m .deep) (a .m .every) (a .rows .now) k s (a .j) e d (step-deep p own (a .step) d (c .before .before .before .before .before .is-deep .ensures))
-          (step-every p own (a .step) (text-first p (a .step) (g .1) ∙ c .before .before .if1 .taken)))),
+    let d = at-is-deep .is-deep .result in (
+      (λ ss e k. rw (at-mark-if .mark-if .ensures, at-one-at .one-at .ensures)
+          (packed-every (numberIn p (a .words .now) (a .n)) ss (a .m .deep) (a .m .every) (a .rows .now) k s (a .j) e d (step-deep p own (a .step) d (at-is-deep .is-deep .ensures))
+          (step-every p own (a .step) (text-first p (a .step) (g .1) ∙ at-if1 .if1 .taken)))),
       g .4,
     )
 
 returns-2 : tie.Need-returns-2
 returns-2 c =
-    let a = c .before .before .before .before .before .before .before .before .before .before .before .before .before .args in
-    let g = c .before .before .before .before .before .before .before .before .before .before .before .before .before .pre in
+    let at-note-names = c .before .before in let at-if2 = at-note-names .before .before in let at-if1 = at-if2 .before in
+    let at-mark-if = at-if1 .before .before in let at-is-deep = at-mark-if .before in
+    let start = at-is-deep .before .before .before .before .before in
+    let a = start .args in
+    let g = start .pre in
     let p = a .policy .now in
     let own = a .own .now in
     let s = stepFor (nameAmong p own) (stepOf (recAt p (a .step))) in
-    let d = c .before .before .before .before .before .before .before .before .is-deep .result in
+    let d = at-is-deep .is-deep .result in
     let first = text-first p (a .step) (g .1) in (
-      (λ ss e k. rw (c .before .before .before .before .before .before .before .mark-if .ensures)
-          (packed-noted (numberIn p (a .words .now) (a .n)) ss (a .m .deep) (a .m .every) (a .rows .now) k s (a .j) e _ _ (c .before .before .note-names .ensures)
-          (step-own p own (a .step) (λ q. c .before .before .before .before .before .if1 .left (sym first ∙ q)) (first ∙ c .before .before .before .before .if2 .taken)) d (step-deep p own (a .step) d (c .before .before .before .before .before .before .before .before .is-deep .ensures)))),
-      c .before .before .note-names .ensures .long ∙ g .4,
+      (λ ss e k. rw (at-mark-if .mark-if .ensures)
+          (packed-noted (numberIn p (a .words .now) (a .n)) ss (a .m .deep) (a .m .every) (a .rows .now) k s (a .j) e _ _ (at-note-names .note-names .ensures)
+          (step-own p own (a .step) (λ q. at-if1 .if1 .left (sym first ∙ q)) (first ∙ at-if2 .if2 .taken)) d (step-deep p own (a .step) d (at-is-deep .is-deep .ensures)))),
+      at-note-names .note-names .ensures .long ∙ g .4,
     )
 
 note-label-requires : tie.Need-note-label-requires
 note-label-requires c κs =
-    let a = c .before .before .before .before .before .before .before .before .before .before .args in
-    let g = c .before .before .before .before .before .before .before .before .before .before .pre in
+    let at-if2 = c .before in let at-if1 = at-if2 .before in let start = at-if1 .before .before .before .before .before .before .before .before in
+    let a = start .args in
+    let g = start .pre in
     let first = text-first (a .policy .now) (a .step) (g .1) in
-    (g .0 .sorted .words, g .1, g .2 (λ q. c .before .before .if1 .left (sym first ∙ q)) (λ q. c .before .if2 .left (sym first ∙ q)), g .3, g .4)
+    (g .0 .sorted .words, g .1, g .2 (λ q. at-if1 .if1 .left (sym first ∙ q)) (λ q. at-if2 .if2 .left (sym first ∙ q)), g .3, g .4)
 
 returns-3 : tie.Need-returns-3
 returns-3 c =
-    let a = c .before .before .before .before .before .before .before .before .before .before .before .before .before .args in
-    let g = c .before .before .before .before .before .before .before .before .before .before .before .before .before .pre in
+    let at-note-label = c .before .before in let at-if2 = at-note-label .before .before in let at-if1 = at-if2 .before in
+    let at-mark-if = at-if1 .before .before in let at-is-deep = at-mark-if .before in
+    let start = at-is-deep .before .before .before .before .before in
+    let a = start .args in
+    let g = start .pre in
     let p = a .policy .now in
     let own = a .own .now in
     let s = stepFor (nameAmong p own) (stepOf (recAt p (a .step))) in
-    let d = c .before .before .before .before .before .before .before .before .is-deep .result in
+    let d = at-is-deep .is-deep .result in
     let first = text-first p (a .step) (g .1) in (
-      (λ ss e k. rw (c .before .before .before .before .before .before .before .mark-if .ensures)
-          (packed-noted (numberIn p (a .words .now) (a .n)) ss (a .m .deep) (a .m .every) (a .rows .now) k s (a .j) e _ _ (c .before .before .note-label .ensures)
-          (step-label p own (a .step) (λ q. c .before .before .before .before .before .if1 .left (sym first ∙ q)) (λ q. c .before .before .before .before .if2 .left (sym first ∙ q))) d (step-deep p own (a .step) d (c .before .before .before .before .before .before .before .before .is-deep .ensures)))),
-      c .before .before .note-label .ensures .long ∙ g .4,
+      (λ ss e k. rw (at-mark-if .mark-if .ensures)
+          (packed-noted (numberIn p (a .words .now) (a .n)) ss (a .m .deep) (a .m .every) (a .rows .now) k s (a .j) e _ _ (at-note-label .note-label .ensures)
+          (step-label p own (a .step) (λ q. at-if1 .if1 .left (sym first ∙ q)) (λ q. at-if2 .if2 .left (sym first ∙ q))) d (step-deep p own (a .step) d (at-is-deep .is-deep .ensures)))),
+      at-note-label .note-label .ensures .long ∙ g .4,
     )
 
 pub with-step-spec : {M : Type 1} → statement M

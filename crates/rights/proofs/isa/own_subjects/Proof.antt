@@ -23,28 +23,36 @@ loop-holds : tie.Need-loop-holds Inv-loop μ-loop
 loop-holds c = (omega arith, omega arith, (unfold subjectsWhere in refl), c .before .before .before .pre .2)
 
 stands-for-requires : tie.Need-stands-for-requires Inv-loop μ-loop
-stands-for-requires c κs = omega (arith, c .before .before .wide .ensures, c .before .before .before .before .before .pre .0 .subjects)
+stands-for-requires c κs =
+    let at-wide = c .before .before in let start = at-wide .before .before .before in
+    omega (arith, at-wide .wide .ensures, start .pre .0 .subjects)
 
 put-subject-requires : tie.Need-put-subject-requires Inv-loop μ-loop
-put-subject-requires c κs = (omega (arith, c .before .before .before .before .wide .ensures, c .before .before .before .before .before .before .before .pre .0 .subjects), omega arith, c .before .before .before .loop .inv .3)
+put-subject-requires c κs =
+    let at-loop = c .before .before .before in let at-wide = at-loop .before in let start = at-wide .before .before .before in
+    (omega (arith, at-wide .wide .ensures, start .pre .0 .subjects), omega arith, at-loop .loop .inv .3)
 
 add-k : tie.Need-add-k Inv-loop μ-loop
-add-k c = omega (arith, c .before .before .before .before .before .wide .ensures, c .before .before .before .before .before .before .before .before .pre .0 .subjects)
+add-k c =
+    let at-wide = c .before .before .before .before .before in let start = at-wide .before .before .before in
+    omega (arith, at-wide .wide .ensures, start .pre .0 .subjects)
 
 loop-again : tie.Need-loop-again Inv-loop μ-loop
 unfolding subjectsWhere
 loop-again c =
-    let l = c .before .before .before .before .loop in
-    let g = c .before .before .before .before .before .before .before .before .pre in
+    let at-stands-for = c .before .before in let at-loop = at-stands-for .before .before in let start = at-loop .before .before .before .before in
+    let l = at-loop .loop in
+    let g = start .pre in
     let r = c .put-subject .ensures in
-    (omega arith, omega (arith, r .1), r .0 ∙ rw (c .before .before .stands-for .ensures _ (g .1), add-one, l .inv .2), r .2)
+    (omega arith, omega (arith, r .1), r .0 ∙ rw (at-stands-for .stands-for .ensures _ (g .1), add-one, l .inv .2), r .2)
 
 returns : tie.Need-returns Inv-loop μ-loop
 returns c =
-    let l = c .before .loop in
-    let a = c .before .before .before .before .before .args in
-    let e : l .k ≡ length (policyOf (a .policy .now) .names) = omega (arith, c .before .before .wide .ensures, names-length (a .policy .now)) in
-    record { few = omega (arith, l .inv .3, c .before .before .wide .ensures, c .before .before .before .before .before .pre .0 .subjects); are = l .inv .2 ∙ ap (subjectsWhere (standsFor (policyOf (a .policy .now)) (a .u))) e }
+    let at-loop = c .before in let at-wide = at-loop .before in let start = at-wide .before .before .before in
+    let l = at-loop .loop in
+    let a = start .args in
+    let e : l .k ≡ length (policyOf (a .policy .now) .names) = omega (arith, at-wide .wide .ensures, names-length (a .policy .now)) in
+    record { few = omega (arith, l .inv .3, at-wide .wide .ensures, start .pre .0 .subjects); are = l .inv .2 ∙ ap (subjectsWhere (standsFor (policyOf (a .policy .now)) (a .u))) e }
 
 pub own-subjects-spec : {M : Type 1} → statement M
 own-subjects-spec =

@@ -49,8 +49,9 @@ loop-again c =
 
 returns-4 : tie.Need-returns-4 Inv-loop μ-loop
 returns-4 c =
-    let a = c .before .before .before .before .before .before .args in
-    let l = c .before .loop in
+    let at-loop = c .before in let start = at-loop .before .before .before .before .before in
+    let a = start .args in
+    let l = at-loop .loop in
     sym (l .inv .2 ∙ rest-none (a .a .now) (a .b .now) (a .i) (a .j) (a .n) (l .k) (omega arith))
 
 pub compare-labels-spec : {M : Type 1} → statement M

@@ -16,8 +16,9 @@ abbrev μ-loop : tie.MeasureT-loop
 
 loop-again : tie.Need-loop-again Inv-loop μ-loop
 loop-again c =
-    let a = c .before .before .before .before .args in
-    let l = c .before .before .before .loop in (
+    let at-loop = c .before .before .before in let start = at-loop .before in
+    let a = start .args in
+    let l = at-loop .loop in (
       search needs,
       ⊎-elim (λ x. x .1 ∙ marked-more (a .marks .now) (l .i) (l .k) (omega arith) (l .inv .1) (x .0 .taken))
           (λ x. x .1 ∙ marked-same (a .marks .now) (l .i) (l .k) (omega arith) (l .inv .1) (x .0 .left)) (c .if1 .came),

@@ -4,10 +4,14 @@ use Rattle.rights.proofs.passes.mark_reached.Statement.{statement}
 use Rattle.rights.proofs.passes.mark_reached.Tie as tie
 
 returns : tie.Need-returns
-returns c = rw (c .before .before .before .before .if1 .taken) (λ f p. c .before .before .mark-start .ensures)
+returns c =
+    let at-mark-start = c .before .before in let at-if1 = at-mark-start .before .before in
+    rw (at-if1 .if1 .taken) (λ f p. at-mark-start .mark-start .ensures)
 
 returns-2 : tie.Need-returns-2
-returns-2 c = rw (c .before .before .before .before .if1 .left) (λ f p. c .before .before .mark-under .ensures f (p refl))
+returns-2 c =
+    let at-mark-under = c .before .before in let at-if1 = at-mark-under .before .before in
+    rw (at-if1 .if1 .left) (λ f p. at-mark-under .mark-under .ensures f (p refl))
 
 pub mark-reached-spec : {M : Type 1} → statement M
 mark-reached-spec =

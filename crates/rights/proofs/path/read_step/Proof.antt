@@ -8,9 +8,10 @@ use Rattle.rights.proofs.path.read_step.Tie as tie
 
 add-step-along : tie.Need-add-step-along
 add-step-along c =
-    let args = c .before .before .before .args in
-    let l = inside (args .s .now) (args .at) 47 (omega arith) (eqb-true _ _ (sym (c .before .byte-is .ensures) ∙ c .if1 .taken)) in
-    let g = c .before .before .before .good .0 in
+    let at-byte-is = c .before in let start = at-byte-is .before .before in
+    let args = start .args in
+    let l = inside (args .s .now) (args .at) 47 (omega arith) (eqb-true _ _ (sym (at-byte-is .byte-is .ensures) ∙ c .if1 .taken)) in
+    let g = start .good .0 in
     omega (arith, l)
 
 returns : tie.Need-returns

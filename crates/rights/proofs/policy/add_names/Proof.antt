@@ -24,28 +24,36 @@ shared-slice-read-wide c = omega (arith, c .before .before .before .pre .0 .size
 
 loop-holds : tie.Need-loop-holds Inv-loop μ-loop
 loop-holds c =
-    let a = c .before .before .before .before .args in
-    let g = c .before .before .before .before .pre in
+    let start = c .before .before .before .before in
+    let a = start .args in
+    let g = start .pre in
     (omega arith, omega arith, added-none (a .policy .now) (a .words .now) (a .n) _ (g .1) (λ x. unfold some namesFrom in refl))
 
 mul-add-word : tie.Need-mul-add-word Inv-loop μ-loop
-mul-add-word c = omega (arith, c .before .before .before .wide .ensures, c .before .before .before .before .before .before .before .pre .0 .subjects)
+mul-add-word c =
+    let at-wide = c .before .before .before in let start = at-wide .before .before .before .before in
+    omega (arith, at-wide .wide .ensures, start .pre .0 .subjects)
 
 add-add-word : tie.Need-add-add-word Inv-loop μ-loop
-add-add-word c = omega (arith, c .before .before .before .wide .ensures, c .before .before .before .before .before .before .before .pre .0 .subjects)
+add-add-word c =
+    let at-wide = c .before .before .before in let start = at-wide .before .before .before .before in
+    omega (arith, at-wide .wide .ensures, start .pre .0 .subjects)
 
 add-word-requires : tie.Need-add-word-requires Inv-loop μ-loop
 add-word-requires c κs =
-    let g = c .before .before .before .before .before .before .before .pre in
-    let l = c .before .before .loop in
-    let w = c .before .before .before .wide .ensures in
+    let at-loop = c .before .before in let at-wide = at-loop .before in let start = at-wide .before .before .before .before in
+    let g = start .pre in
+    let l = at-loop .loop in
+    let w = at-wide .wide .ensures in
     (l .inv .2 .words, omega (arith, w, g .0 .subjects, g .2), g .0 .names (l .u) (omega (arith, w)), omega (arith, w, g .0 .subjects))
 
 loop-again : tie.Need-loop-again Inv-loop μ-loop
 loop-again c =
-    let a = c .before .before .before .before .before .before .before .before .before .before .args in
-    let l = c .before .before .before .before .before .loop in
-    let r = c .before .before .add-word .ensures in
+    let at-add-word = c .before .before in let at-loop = at-add-word .before .before .before in
+    let start = at-loop .before .before .before .before .before in
+    let a = start .args in
+    let l = at-loop .loop in
+    let r = at-add-word .add-word .ensures in
     let p = a .policy .now in (
       omega arith,
       omega (arith, r .1),
@@ -53,12 +61,15 @@ loop-again c =
     )
 
 same-length : tie.Need-same-length Inv-loop μ-loop
-same-length c = c .before .loop .inv .2 .words .long ∙ sym (c .before .before .before .before .before .before .pre .1 .long)
+same-length c =
+    let at-loop = c .before in let start = at-loop .before .before .before .before .before in
+    at-loop .loop .inv .2 .words .long ∙ sym (start .pre .1 .long)
 
 returns : tie.Need-returns Inv-loop μ-loop
 returns c =
-    let l = c .before .loop in
-    let e : l .u ≡ subjectCount (c .before .before .before .before .before .before .args .policy .now) = omega (arith, c .before .before .wide .ensures) in
+    let at-loop = c .before in let at-wide = at-loop .before in let start = at-wide .before .before .before .before in
+    let l = at-loop .loop in
+    let e : l .u ≡ subjectCount (start .args .policy .now) = omega (arith, at-wide .wide .ensures) in
     rw e at (l .inv .2)
 
 pub add-names-spec : {M : Type 1} → statement M

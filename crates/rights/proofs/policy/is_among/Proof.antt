@@ -5,7 +5,9 @@ use Rattle.rights.proofs.policy.is_among.Statement.{statement}
 use Rattle.rights.proofs.policy.is_among.Tie as tie
 
 number-of-requires : tie.Need-number-of-requires
-number-of-requires c κs = (c .before .before .before .pre .0 .words, c .before .before .before .pre .1)
+number-of-requires c κs =
+    let start = c .before .before .before in
+    (start .pre .0 .words, start .pre .1)
 
 returns : tie.Need-returns
 returns c = ap (λ (k : ℕ). ltb 0 k) (c .number-of .ensures .0) ∙ c .before .before .before .before .pre .0 .holds _

@@ -14,41 +14,55 @@ use Rattle.rights.proofs.policy.sort_policy_words.Statement.{statement}
 use Rattle.rights.proofs.policy.sort_policy_words.Tie as tie
 
 add-rules-requires : tie.Need-add-rules-requires
-add-rules-requires c κs = (policy-sound _ (c .before .before .before .pre .0), words-none _ _ (c .before .before .before .pre .1), omega arith)
+add-rules-requires c κs =
+    let start = c .before .before .before in
+    (policy-sound _ (start .pre .0), words-none _ _ (start .pre .1), omega arith)
 
 rules-use-requires : tie.Need-rules-use-requires
-rules-use-requires c κs = (policy-sound _ (c .before .before .before .before .before .before .pre .0), omega arith)
+rules-use-requires c κs =
+    let start = c .before .before .before .before .before .before in
+    (policy-sound _ (start .pre .0), omega arith)
 
 add-names-requires : tie.Need-add-names-requires
 add-names-requires c κs =
-    let r = c .before .before .before .before .before .add-rules .ensures in
-    (policy-sound _ (c .before .before .before .before .before .before .before .before .before .pre .0), r .0 .words, omega (arith, r .1))
+    let at-add-rules = c .before .before .before .before .before in let start = at-add-rules .before .before .before .before in
+    let r = at-add-rules .add-rules .ensures in
+    (policy-sound _ (start .pre .0), r .0 .words, omega (arith, r .1))
 
 same-length : tie.Need-same-length
-same-length c = c .before .before .add-names .ensures .words .long ∙ sym (c .before .before .before .before .before .before .before .before .before .before .before .before .pre .1)
+same-length c =
+    let at-add-names = c .before .before in
+    let start = at-add-names .before .before .before .before .before .before .before .before .before .before in
+    at-add-names .add-names .ensures .words .long ∙ sym (start .pre .1)
 
 returns : tie.Need-returns
 returns c =
-    let a = c .before .before .before .before .before .before .before .before .before .before .before .before .args in
+    let at-add-names = c .before .before in let at-if1 = at-add-names .before .before in let at-rules-use = at-if1 .before in
+    let at-add-rules = at-rules-use .before .before .before in let start = at-add-rules .before .before .before .before in
+    let a = start .args in
     let p = a .policy .now in
-    let named-all = c .before .before .before .before .before .before .before .before .add-rules .ensures .0 in
-    let all = c .before .before .add-names .ensures in
+    let named-all = at-add-rules .add-rules .ensures .0 in
+    let all = at-add-names .add-names .ensures in
     record {
       words = all .words;
       holds = λ x. all .holds x
           ∙ ap (λ (b : Bool). b || some (sameLabel x) (namesFrom p (subjectCount p) 0)) (named-all .holds x ∙ ap (λ (b : Bool). b || named p x) (none-word p (a .words .now) x))
-          ∙ words-with-names p x [] (sym (c .before .before .before .before .before .rules-use .ensures) ∙ c .before .before .before .before .if1 .taken);
+          ∙ words-with-names p x [] (sym (at-rules-use .rules-use .ensures) ∙ at-if1 .if1 .taken);
     }
 
 same-length-2 : tie.Need-same-length-2
-same-length-2 c = c .before .before .before .before .add-rules .ensures .0 .words .long ∙ sym (c .before .before .before .before .before .before .before .before .pre .1)
+same-length-2 c =
+    let at-add-rules = c .before .before .before .before in let start = at-add-rules .before .before .before .before in
+    at-add-rules .add-rules .ensures .0 .words .long ∙ sym (start .pre .1)
 
 returns-2 : tie.Need-returns-2
 returns-2 c =
-    let a = c .before .before .before .before .before .before .before .before .args in
+    let at-rules-use = c .before in let at-add-rules = at-rules-use .before .before .before in
+    let start = at-add-rules .before .before .before .before in
+    let a = start .args in
     let p = a .policy .now in
-    let all = c .before .before .before .before .add-rules .ensures .0 in
-    record { words = all .words; holds = λ x. all .holds x ∙ ap (λ (b : Bool). b || named p x) (none-word p (a .words .now) x) ∙ words-alone p x [] (sym (c .before .rules-use .ensures) ∙ c .if1 .left) }
+    let all = at-add-rules .add-rules .ensures .0 in
+    record { words = all .words; holds = λ x. all .holds x ∙ ap (λ (b : Bool). b || named p x) (none-word p (a .words .now) x) ∙ words-alone p x [] (sym (at-rules-use .rules-use .ensures) ∙ c .if1 .left) }
 
 pub sort-policy-words-spec : {M : Type 1} → statement M
 sort-policy-words-spec =

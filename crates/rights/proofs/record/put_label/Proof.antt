@@ -27,12 +27,15 @@ loop-holds c =
     (omega arith, refl, paste-zero (set (a .out .now) (a .at + 1) (a .n)) (a .at + 2) (padded (take (a .n) (drop (a .a) (a .s .now)))))
 
 slice-write-out-2 : tie.Need-slice-write-out-2 Inv-loop μ-loop
-slice-write-out-2 c = let a = c .before .before .before .before .before .args in omega (arith, length-set (a .out .now) (a .at + 1) (a .n))
+slice-write-out-2 c =
+    let start = c .before .before .before .before .before in
+    let a = start .args in omega (arith, length-set (a .out .now) (a .at + 1) (a .n))
 
 loop-again : tie.Need-loop-again Inv-loop μ-loop
 loop-again c =
-    let a = c .before .before .before .before .before .args in
-    let l = c .before .before .loop in
+    let at-loop = c .before .before in let start = at-loop .before .before .before in
+    let a = start .args in
+    let l = at-loop .loop in
     let d : List ℕ = set (a .out .now) (a .at + 1) (a .n) in
     let x : List ℕ = padded (take (a .n) (drop (a .a) (a .s .now))) in
     let len : length x ≡ 24 = padded-length (a .s .now) (a .a) (a .n) (omega arith) (omega arith) in
@@ -40,18 +43,21 @@ loop-again c =
     (omega arith, simp length-set (omega (arith, l .inv .1, room)), ap (λ (z : List ℕ). set z (a .at + 2 + l .k) (c .padded-byte .result)) (l .inv .2) ∙ rw (c .padded-byte .ensures, add-one (l .k)) (paste-suc d (a .at + 2) x (l .k) 0 (omega arith) (omega arith)))
 
 same-length : tie.Need-same-length Inv-loop μ-loop
-same-length c = let a = c .before .before .before .before .args in c .before .loop .inv .1 ∙ length-set (a .out .now) (a .at + 1) (a .n)
+same-length c =
+    let at-loop = c .before in let start = at-loop .before .before .before in
+    let a = start .args in at-loop .loop .inv .1 ∙ length-set (a .out .now) (a .at + 1) (a .n)
 
 returns : tie.Need-returns Inv-loop μ-loop
 returns c =
-    let a = c .before .before .before .before .args in
+    let at-loop = c .before in let start = at-loop .before .before .before in
+    let a = start .args in
     let x : List ℕ = take (a .n) (drop (a .a) (a .s .now)) in
     let d : List ℕ = set (a .out .now) (a .at + 1) (a .n) in
     let len : length (padded x) ≡ 24 = padded-length (a .s .now) (a .a) (a .n) (omega arith) (omega arith) in
-    let k : c .before .loop .k ≡ 24 = omega arith in
+    let k : at-loop .loop .k ≡ 24 = omega arith in
     let z : a .at + 2 ≡ a .at + 1 + 1 = omega arith in
     let n : a .n ≡ length x = sym (label-length (a .s .now) (a .a) (a .n) (omega arith)) in
-    c .before .loop .inv .2 ∙ paste-all d (padded x) (a .at + 2) (c .before .loop .k) (len ∙ sym k)
+    at-loop .loop .inv .2 ∙ paste-all d (padded x) (a .at + 2) (at-loop .loop .k) (len ∙ sym k)
     ∙ ap (λ (i : ℕ). pasted d i (padded x)) z ∙ pasted-behind (a .out .now) (a .at + 1) (a .n) (padded x) (omega arith)
     ∙ ap (λ (i : ℕ). pasted (a .out .now) (a .at + 1) (i ∷ padded x)) n
 

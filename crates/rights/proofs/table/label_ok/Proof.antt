@@ -39,10 +39,11 @@ add-labels c = omega (arith, c .label-bit .ensures .1)
 
 loop-again : tie.Need-loop-again Inv-loop μ-loop
 loop-again c =
-    let at = c .before .before .before .before .loop in
-    let r = c .before .before .before .before .before .before .args .field .now in
-    let e = c .before .before .before .before .before .before .args .n in
-    let bit = c .before .label-bit .ensures in (
+    let at-label-bit = c .before in let at-loop = at-label-bit .before .before .before in let start = at-loop .before .before in
+    let at = at-loop .loop in
+    let r = start .args .field .now in
+    let e = start .args .n in
+    let bit = at-label-bit .label-bit .ensures in (
       omega arith,
       omega arith,
       omega (arith, bit .1),
@@ -60,24 +61,28 @@ banned-told r n m v e h = h ∙ ap (λ k. sameLabel (take k r) restricted) e
 
 returns : tie.Need-returns Inv-loop μ-loop
 returns c =
-    let at = c .before .before .loop in
-    let a = c .before .before .before .before .args in
+    let at-loop = c .before .before in let start = at-loop .before .before in
+    let at = at-loop .loop in
+    let a = start .args in
     let zero = sym (zeros-told (a .field .now) (a .n) (at .i) (at .bits) (omega arith) (at .inv .4)) ∙ ne-eqb (at .bits) 0 (c .if1 .taken) in
     simp (zero, and-false)
 
 returns-2 : tie.Need-returns-2 Inv-loop μ-loop
 returns-2 c =
-    let a = c .before .before .before .before .before .before .before .args in
-    let same = sym (banned-told (a .field .now) (a .n) (c .before .before .wide .result) (c .before .is-restricted .result) (omega arith) (c .before .is-restricted .ensures)) ∙ c .if2 .taken in
+    let at-is-restricted = c .before in let at-wide = at-is-restricted .before in let start = at-wide .before .before .before .before .before in
+    let a = start .args in
+    let same = sym (banned-told (a .field .now) (a .n) (at-wide .wide .result) (at-is-restricted .is-restricted .result) (omega arith) (at-is-restricted .is-restricted .ensures)) ∙ c .if2 .taken in
     simp (same, and-false)
 
 returns-3 : tie.Need-returns-3 Inv-loop μ-loop
 returns-3 c =
-    let at = c .before .before .before .before .before .loop in
-    let a = c .before .before .before .before .before .before .before .args in
+    let at-is-restricted = c .before in let at-wide = at-is-restricted .before in let at-if1 = at-wide .before in
+    let at-loop = at-if1 .before .before in let start = at-loop .before .before in
+    let at = at-loop .loop in
+    let a = start .args in
     let r = a .field .now in
-    let zero = sym (zeros-told r (a .n) (at .i) (at .bits) (omega arith) (at .inv .4)) ∙ eq-eqb (at .bits) 0 (c .before .before .before .if1 .left) in
-    let same = sym (banned-told r (a .n) (c .before .before .wide .result) (c .before .is-restricted .result) (omega arith) (c .before .is-restricted .ensures)) ∙ c .if2 .left in
+    let zero = sym (zeros-told r (a .n) (at .i) (at .bits) (omega arith) (at .inv .4)) ∙ eq-eqb (at .bits) 0 (at-if1 .if1 .left) in
+    let same = sym (banned-told r (a .n) (at-wide .wide .result) (at-is-restricted .is-restricted .result) (omega arith) (at-is-restricted .is-restricted .ensures)) ∙ c .if2 .left in
     let labels : labelCount r ≡ at .labels = at .inv .3 ∙ rw (count-end r (at .i) (omega arith)) (omega arith) in
     rw (zero, same, ← count-label r (a .n) (omega arith) zero, labels) (sym (and-true _))
 

@@ -33,7 +33,8 @@ returns-2 c = simp (lt-leb _ _ (c .if2 .taken), and-false)
 
 returns-3 : tie.Need-returns-3
 returns-3 c =
-    let r = c .before .before .before .before .before .before .before .args .r .now in
+    let start = c .before .before .before .before .before .before .before in
+    let r = start .args .r .now in
     by-field r (getD r 1 0) (c .label-ok .result) refl (omega arith) (omega arith) (c .label-ok .ensures)
 
 pub label-part-ok-spec : {M : Type 1} → statement M

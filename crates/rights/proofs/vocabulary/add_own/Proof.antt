@@ -18,46 +18,58 @@ abbrev μ-loop : tie.MeasureT-loop
 
 loop-holds : tie.Need-loop-holds Inv-loop μ-loop
 loop-holds c =
-    let a = c .before .before .before .args in
-    let g = c .before .before .before .pre in
+    let start = c .before .before .before in
+    let a = start .args in
+    let g = start .pre in
     (omega arith, omega arith, added-none (a .policy .now) (a .words .now) (a .n) _ (g .2) (names-none (a .policy .now) (a .own .now)))
 
 mul-add-word : tie.Need-mul-add-word Inv-loop μ-loop
 mul-add-word c =
-    let g = c .before .before .before .before .before .before .before .before .pre in
-    omega (arith, c .before .wide .ensures, g .0 .subjects, g .1 .at (c .before .before .before .before .loop .i) (c .before .before .before .loop-test .taken) .declared)
+    let at-wide = c .before in let at-test = at-wide .before .before in let at-loop = at-test .before in
+    let start = at-loop .before .before .before .before in
+    let g = start .pre in
+    omega (arith, at-wide .wide .ensures, g .0 .subjects, g .1 .at (at-loop .loop .i) (at-test .loop-test .taken) .declared)
 
 add-add-word : tie.Need-add-add-word Inv-loop μ-loop
 add-add-word c =
-    let g = c .before .before .before .before .before .before .before .before .pre in
-    omega (arith, c .before .wide .ensures, g .0 .subjects, g .1 .at (c .before .before .before .before .loop .i) (c .before .before .before .loop-test .taken) .declared)
+    let at-wide = c .before in let at-test = at-wide .before .before in let at-loop = at-test .before in
+    let start = at-loop .before .before .before .before in
+    let g = start .pre in
+    omega (arith, at-wide .wide .ensures, g .0 .subjects, g .1 .at (at-loop .loop .i) (at-test .loop-test .taken) .declared)
 
 add-word-requires : tie.Need-add-word-requires Inv-loop μ-loop
 add-word-requires c κs =
-    let g = c .before .before .before .before .before .before .before .before .pre in
-    let l = c .before .before .before .before .loop in
-    let s = g .1 .at (l .i) (c .before .before .before .loop-test .taken) in
-    (l .inv .2 .words, omega (arith, g .1 .few, g .3), rw (c .before .wide .ensures) (s .name), omega (arith, c .before .wide .ensures, g .0 .subjects, s .declared))
+    let at-wide = c .before in let at-test = at-wide .before .before in let at-loop = at-test .before in
+    let start = at-loop .before .before .before .before in
+    let g = start .pre in
+    let l = at-loop .loop in
+    let s = g .1 .at (l .i) (at-test .loop-test .taken) in
+    (l .inv .2 .words, omega (arith, g .1 .few, g .3), rw (at-wide .wide .ensures) (s .name), omega (arith, at-wide .wide .ensures, g .0 .subjects, s .declared))
 
 loop-again : tie.Need-loop-again Inv-loop μ-loop
 loop-again c =
-    let a = c .before .before .before .before .before .before .before .before .before .before .before .args in
-    let l = c .before .before .before .before .before .before .before .loop in
-    let r = rw (c .before .before .before .before .wide .ensures) at (c .before .before .add-word .ensures) in
+    let at-add-word = c .before .before in let at-wide = at-add-word .before .before in let at-test = at-wide .before .before in
+    let at-loop = at-test .before in let start = at-loop .before .before .before .before in
+    let a = start .args in
+    let l = at-loop .loop in
+    let r = rw (at-wide .wide .ensures) at (at-add-word .add-word .ensures) in
     let p = a .policy .now in (
       omega arith,
       omega (arith, r .1),
-      added-then p (a .words .now) (a .n) (l .words) (l .next) _ _ _ _ _ (λ x. names-more p (a .own .now) (l .i) x (c .before .before .before .before .before .before .loop-test .taken)) (l .inv .2) (r .0),
+      added-then p (a .words .now) (a .n) (l .words) (l .next) _ _ _ _ _ (λ x. names-more p (a .own .now) (l .i) x (at-test .loop-test .taken)) (l .inv .2) (r .0),
     )
 
 same-length : tie.Need-same-length Inv-loop μ-loop
-same-length c = c .before .loop .inv .2 .words .long ∙ sym (c .before .before .before .before .before .pre .2 .long)
+same-length c =
+    let at-loop = c .before in let start = at-loop .before .before .before .before in
+    at-loop .loop .inv .2 .words .long ∙ sym (start .pre .2 .long)
 
 returns : tie.Need-returns Inv-loop μ-loop
 returns c =
-    let l = c .before .loop in
-    let a = c .before .before .before .before .before .args in
-    let g = c .before .before .before .before .before .pre in
+    let at-loop = c .before in let start = at-loop .before .before .before .before in
+    let l = at-loop .loop in
+    let a = start .args in
+    let g = start .pre in
     (added-alike (a .policy .now) (a .words .now) (a .n) _ _ _ _ (λ x. names-all (a .policy .now) (a .own .now) (l .i) x (omega arith)) (l .inv .2), omega (arith, g .1 .few))
 
 pub add-own-spec : {M : Type 1} → statement M

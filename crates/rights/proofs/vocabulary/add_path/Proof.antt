@@ -26,22 +26,28 @@ loop-holds c =
     (omega arith, omega arith, added-none (a .policy .now) (a .words .now) (a .n) _ (g .1) (λ x. unfold some stepsFrom in refl))
 
 mul-add-step : tie.Need-mul-add-step Inv-loop μ-loop
-mul-add-step c = omega (arith, c .before .before .before .before .before .pre .0 .few)
+mul-add-step c =
+    let start = c .before .before .before .before .before in
+    omega (arith, start .pre .0 .few)
 
 add-add-step : tie.Need-add-add-step Inv-loop μ-loop
-add-add-step c = omega (arith, c .before .before .before .before .before .pre .0 .few, c .before .before .before .before .before .pre .3)
+add-add-step c =
+    let start = c .before .before .before .before .before in
+    omega (arith, start .pre .0 .few, start .pre .3)
 
 add-step-requires : tie.Need-add-step-requires Inv-loop μ-loop
 add-step-requires c κs =
-    let g = c .before .before .before .before .before .pre in
-    let l = c .before .before .loop in
-    (l .inv .2 .words, omega (arith, g .2), g .0 .texts (l .j) (c .before .loop-test .taken), omega (arith, g .0 .few, g .3))
+    let at-test = c .before in let at-loop = at-test .before in let start = at-loop .before .before .before in
+    let g = start .pre in
+    let l = at-loop .loop in
+    (l .inv .2 .words, omega (arith, g .2), g .0 .texts (l .j) (at-test .loop-test .taken), omega (arith, g .0 .few, g .3))
 
 loop-again : tie.Need-loop-again Inv-loop μ-loop
 loop-again c =
-    let a = c .before .before .before .before .before .before .before .before .args in
-    let l = c .before .before .before .before .before .loop in
-    let r = c .before .before .add-step .ensures in
+    let at-add-step = c .before .before in let at-loop = at-add-step .before .before .before in let start = at-loop .before .before .before in
+    let a = start .args in
+    let l = at-loop .loop in
+    let r = at-add-step .add-step .ensures in
     let p = a .policy .now in (
       omega arith,
       omega (arith, r .1),
@@ -49,12 +55,15 @@ loop-again c =
     )
 
 same-length : tie.Need-same-length Inv-loop μ-loop
-same-length c = c .before .loop .inv .2 .words .long ∙ sym (c .before .before .before .before .pre .1 .long)
+same-length c =
+    let at-loop = c .before in let start = at-loop .before .before .before in
+    at-loop .loop .inv .2 .words .long ∙ sym (start .pre .1 .long)
 
 returns : tie.Need-returns Inv-loop μ-loop
 returns c =
-    let l = c .before .loop in
-    let e : l .j ≡ c .before .before .before .before .args .count = omega arith in
+    let at-loop = c .before in let start = at-loop .before .before .before in
+    let l = at-loop .loop in
+    let e : l .j ≡ start .args .count = omega arith in
     (rw e at (l .inv .2), omega arith)
 
 pub add-path-spec : {M : Type 1} → statement M

@@ -24,21 +24,25 @@ shared-slice-read-wide c = omega (arith, c .before .before .before .pre .0 .size
 
 loop-holds : tie.Need-loop-holds Inv-loop μ-loop
 loop-holds c =
-    let a = c .before .before .before .before .args in
-    let g = c .before .before .before .before .pre in
+    let start = c .before .before .before .before in
+    let a = start .args in
+    let g = start .pre in
     (omega arith, omega arith, added-none (a .policy .now) (a .words .now) (a .n) _ (g .1) (λ x. unfold some rulesFrom in refl))
 
 add-rule-requires : tie.Need-add-rule-requires Inv-loop μ-loop
 add-rule-requires c κs =
-    let g = c .before .before .before .before .before .before .before .pre in
-    let l = c .before .before .loop in
-    (g .0, omega (arith, c .before .before .before .wide .ensures), l .inv .2 .words, omega (arith, c .before .before .before .wide .ensures, g .0 .rules, g .2, l .inv .1))
+    let at-loop = c .before .before in let at-wide = at-loop .before in let start = at-wide .before .before .before .before in
+    let g = start .pre in
+    let l = at-loop .loop in
+    (g .0, omega (arith, at-wide .wide .ensures), l .inv .2 .words, omega (arith, at-wide .wide .ensures, g .0 .rules, g .2, l .inv .1))
 
 loop-again : tie.Need-loop-again Inv-loop μ-loop
 loop-again c =
-    let a = c .before .before .before .before .before .before .before .before .before .before .args in
-    let l = c .before .before .before .before .before .loop in
-    let r = c .before .before .add-rule .ensures in
+    let at-add-rule = c .before .before in let at-loop = at-add-rule .before .before .before in
+    let start = at-loop .before .before .before .before .before in
+    let a = start .args in
+    let l = at-loop .loop in
+    let r = at-add-rule .add-rule .ensures in
     let p = a .policy .now in (
       omega arith,
       omega (arith, r .1),
@@ -46,13 +50,16 @@ loop-again c =
     )
 
 same-length : tie.Need-same-length Inv-loop μ-loop
-same-length c = c .before .loop .inv .2 .words .long ∙ sym (c .before .before .before .before .before .before .pre .1 .long)
+same-length c =
+    let at-loop = c .before in let start = at-loop .before .before .before .before .before in
+    at-loop .loop .inv .2 .words .long ∙ sym (start .pre .1 .long)
 
 returns : tie.Need-returns Inv-loop μ-loop
 returns c =
-    let l = c .before .loop in
-    let e : l .k ≡ ruleCount (c .before .before .before .before .before .before .args .policy .now) = omega (arith, c .before .before .wide .ensures) in
-    (rw e at (l .inv .2), omega (arith, c .before .before .wide .ensures, c .before .before .before .before .before .before .pre .0 .rules))
+    let at-loop = c .before in let at-wide = at-loop .before in let start = at-wide .before .before .before .before in
+    let l = at-loop .loop in
+    let e : l .k ≡ ruleCount (start .args .policy .now) = omega (arith, at-wide .wide .ensures) in
+    (rw e at (l .inv .2), omega (arith, at-wide .wide .ensures, start .pre .0 .rules))
 
 pub add-rules-spec : {M : Type 1} → statement M
 add-rules-spec =

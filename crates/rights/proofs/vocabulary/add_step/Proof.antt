@@ -16,31 +16,39 @@ shared-slice-read-first c = omega (arith, c .before .before .before .pre .2 .roo
 
 returns : tie.Need-returns
 returns c =
-    let a = c .before .before .before .before .args in
-    let g = c .before .before .before .before .pre in
+    let start = c .before .before .before .before in
+    let a = start .args in
+    let g = start .pre in
     let p = a .policy .now in
     (added-none p (a .words .now) (a .n) _ (g .0) (λ x. uses-any x (recAt p (a .at)) false (text-first p (a .at) (g .2) ∙ c .if1 .taken)), omega arith)
 
 returns-2 : tie.Need-returns-2
 returns-2 c =
-    let a = c .before .before .before .before .before .args in
-    let g = c .before .before .before .before .before .pre in
+    let at-if1 = c .before in let start = at-if1 .before .before .before .before in
+    let a = start .args in
+    let g = start .pre in
     let p = a .policy .now in
-    (added-none p (a .words .now) (a .n) _ (g .0) (λ x. uses-own x (recAt p (a .at)) false (λ e. c .before .if1 .left (sym (text-first p (a .at) (g .2)) ∙ e)) (text-first p (a .at) (g .2) ∙ c .if2 .taken)), omega arith)
+    (added-none p (a .words .now) (a .n) _ (g .0) (λ x. uses-own x (recAt p (a .at)) false (λ e. at-if1 .if1 .left (sym (text-first p (a .at) (g .2)) ∙ e)) (text-first p (a .at) (g .2) ∙ c .if2 .taken)), omega arith)
 
 add-word-requires : tie.Need-add-word-requires
-add-word-requires c κs = c .before .before .before .before .before .before .pre
+add-word-requires c κs =
+    let start = c .before .before .before .before .before .before in
+    start .pre
 
 same-length : tie.Need-same-length
-same-length c = c .before .before .add-word .ensures .0 .words .long ∙ sym (c .before .before .before .before .before .before .before .before .before .pre .0 .long)
+same-length c =
+    let at-add-word = c .before .before in let start = at-add-word .before .before .before .before .before .before .before in
+    at-add-word .add-word .ensures .0 .words .long ∙ sym (start .pre .0 .long)
 
 returns-3 : tie.Need-returns-3
 returns-3 c =
-    let a = c .before .before .before .before .before .before .before .before .before .args in
-    let g = c .before .before .before .before .before .before .before .before .before .pre in
+    let at-add-word = c .before .before in let at-if2 = at-add-word .before .before in let at-if1 = at-if2 .before in
+    let start = at-if1 .before .before .before .before in
+    let a = start .args in
+    let g = start .pre in
     let p = a .policy .now in
-    let r = c .before .before .add-word .ensures in
-    (added-alike p (a .words .now) (a .n) _ _ _ _ (λ x. sym (uses-label x (recAt p (a .at)) false (λ e. c .before .before .before .before .before .if1 .left (sym (text-first p (a .at) (g .2)) ∙ e)) (λ e. c .before .before .before .before .if2 .left (sym (text-first p (a .at) (g .2)) ∙ e)) refl)) (r .0), r .1)
+    let r = at-add-word .add-word .ensures in
+    (added-alike p (a .words .now) (a .n) _ _ _ _ (λ x. sym (uses-label x (recAt p (a .at)) false (λ e. at-if1 .if1 .left (sym (text-first p (a .at) (g .2)) ∙ e)) (λ e. at-if2 .if2 .left (sym (text-first p (a .at) (g .2)) ∙ e)) refl)) (r .0), r .1)
 
 pub add-step-spec : {M : Type 1} → statement M
 add-step-spec =

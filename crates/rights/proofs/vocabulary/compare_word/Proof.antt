@@ -12,24 +12,28 @@ use Rattle.rights.proofs.vocabulary.compare_word.Tie as tie
 
 compare-labels-requires : tie.Need-compare-labels-requires
 compare-labels-requires c κs =
-    let a = c .before .before .before .before .before .before .before .before .before .args in
-    let g = c .before .before .before .before .before .before .before .before .before .pre in
+    let at-wide = c .before .before in let at-wide-place = at-wide .before .before in
+    let start = at-wide-place .before .before .before .before .before in
+    let a = start .args in
+    let g = start .pre in
     let p = a .policy .now in
-    let at = c .before .before .before .before .wide-place .result in
-    let x : Text p at = subst (Text p) (sym (c .before .before .before .before .wide-place .ensures)) (g .1) in
-    let m : c .before .before .wide .result ≡ getD p (at + 1) 0 = c .before .before .wide .ensures in
+    let at = at-wide-place .wide-place .result in
+    let x : Text p at = subst (Text p) (sym (at-wide-place .wide-place .ensures)) (g .1) in
+    let m : at-wide .wide .result ≡ getD p (at + 1) 0 = at-wide .wide .ensures in
     (omega (arith, m, x .room, x .short), omega (arith, c .wide2 .ensures, g .2 .room, g .2 .short))
 
 returns : tie.Need-returns
 returns c =
-    let a = c .before .before .before .before .before .before .before .before .before .before .args in
-    let g = c .before .before .before .before .before .before .before .before .before .before .pre in
+    let at-wide2 = c .before in let at-wide = at-wide2 .before .before in let at-wide-place = at-wide .before .before in
+    let start = at-wide-place .before .before .before .before .before in
+    let a = start .args in
+    let g = start .pre in
     let p = a .policy .now in
-    let e = c .before .before .before .before .before .wide-place .ensures in
-    let at = c .before .before .before .before .before .wide-place .result in
+    let e = at-wide-place .wide-place .ensures in
+    let at = at-wide-place .wide-place .result in
     let x : Text p at = subst (Text p) (sym e) (g .1) in
     c .compare-labels .ensures
-    ∙ ap₂ labelOrder (text-eq p at x _ (c .before .before .before .wide .ensures) ∙ ap (λ (k : ℕ). label (recAt p k)) e) (text-eq _ _ (g .2) _ (c .before .wide2 .ensures))
+    ∙ ap₂ labelOrder (text-eq p at x _ (at-wide .wide .ensures) ∙ ap (λ (k : ℕ). label (recAt p k)) e) (text-eq _ _ (g .2) _ (at-wide2 .wide2 .ensures))
 
 pub compare-word-spec : {M : Type 1} → statement M
 compare-word-spec =

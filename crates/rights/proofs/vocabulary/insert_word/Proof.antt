@@ -30,8 +30,9 @@ slice-write-words c = omega (arith, c .before .before .loop .inv .2 .same)
 
 loop-again : tie.Need-loop-again Inv-loop μ-loop
 loop-again c =
-    let a = c .before .before .before .args in
-    let l = c .before .before .loop in
+    let at-loop = c .before .before in let start = at-loop .before in
+    let a = start .args in
+    let l = at-loop .loop in
     (omega arith, omega arith, moved-more (a .words .now) (l .words) (a .n) (l .k) (l .inv .2) (omega arith) (omega arith))
 
 slice-write-words-2 : tie.Need-slice-write-words-2 Inv-loop μ-loop

@@ -25,22 +25,26 @@ loop-holds c = (omega arith, refl, refl, λ q h. absurd (omega arith))
 
 number-of-requires : tie.Need-number-of-requires Inv-loop μ-loop
 number-of-requires c κs =
-    let a = c .before .before .before .before .before .before .args in
-    let g = c .before .before .before .before .before .before .pre in
-    (g .0, record-text (a .t .now) (a .n) (c .before .loop .i) (g .2) (c .loop-test .taken) (g .1))
+    let at-loop = c .before in let start = at-loop .before .before .before .before .before in
+    let a = start .args in
+    let g = start .pre in
+    (g .0, record-text (a .t .now) (a .n) (at-loop .loop .i) (g .2) (c .loop-test .taken) (g .1))
 
 narrow-requires : tie.Need-narrow-requires Inv-loop μ-loop
-narrow-requires c κs = omega (arith, c .number-of .ensures .1, c .before .before .before .before .before .before .before .pre .0 .few)
+narrow-requires c κs =
+    let start = c .before .before .before .before .before .before .before in
+    omega (arith, c .number-of .ensures .1, start .pre .0 .few)
 
 loop-again : tie.Need-loop-again Inv-loop μ-loop
 loop-again c =
-    let a = c .before .before .before .before .before .before .before .before .args in
-    let l = c .before .before .before .loop in (
+    let at-number-of = c .before in let at-loop = at-number-of .before .before in let start = at-loop .before .before .before .before .before in
+    let a = start .args in
+    let l = at-loop .loop in (
       omega arith,
       simp length-set (l .inv .1),
       drop-more (a .numbers .now) (l .numbers) (l .i) (l .inv .2) _,
       done-more (a .numbers .now) (l .numbers) (l .i) (l .inv .2) (λ (q x : ℕ). numberIn (a .policy .now) (a .words .now) (a .count) (label (recordAt (a .t .now) q))) _ (omega arith) (l .inv .3)
-          (c .narrow .ensures ∙ c .before .number-of .ensures .0),
+          (c .narrow .ensures ∙ at-number-of .number-of .ensures .0),
     )
 
 same-length : tie.Need-same-length Inv-loop μ-loop
@@ -48,8 +52,9 @@ same-length c = c .before .loop .inv .1
 
 returns : tie.Need-returns Inv-loop μ-loop
 returns c =
-    let l = c .before .loop in
-    let e : l .i ≡ c .before .before .before .before .before .before .args .n = omega arith in
+    let at-loop = c .before in let start = at-loop .before .before .before .before .before in
+    let l = at-loop .loop in
+    let e : l .i ≡ start .args .n = omega arith in
     record { long = l .inv .1; at = rw e at (l .inv .3); rest = rw e at (l .inv .2) }
 
 pub number-nodes-spec : {M : Type 1} → statement M

@@ -11,27 +11,30 @@ use Rattle.rights.proofs.vocabulary.number_of.Tie as tie
 
 returns : tie.Need-returns
 returns c =
-    let a = c .before .before .before .before .before .before .args in
-    let g = c .before .before .before .before .before .before .pre in
+    let at-search = c .before .before in let start = at-search .before .before .before .before in
+    let a = start .args in
+    let g = start .pre in
     let f = wordAt (a .policy .now) (a .words .now) in
     let x = label (recAt (a .s .now) (a .at)) in
-    let s = subst (Stands f (a .n) x) (c .enum-told .given .1) (c .before .before .search .ensures) in
+    let s = subst (Stands f (a .n) x) (c .enum-told .given .1) (at-search .search .ensures) in
     (sym (number-missing f (a .n) (g .0 .sorted) x _ (s .1) (s .2)), omega arith)
 
 add-result : tie.Need-add-result
 add-result c =
-    let a = c .before .before .before .before .before .before .before .args in
-    let g = c .before .before .before .before .before .before .before .pre in
-    let s = subst (Stands (wordAt (a .policy .now) (a .words .now)) (a .n) (label (recAt (a .s .now) (a .at)))) (c .before .i .given .1) (c .before .before .before .search .ensures) in
+    let at-i = c .before in let at-search = at-i .before .before in let start = at-search .before .before .before .before in
+    let a = start .args in
+    let g = start .pre in
+    let s = subst (Stands (wordAt (a .policy .now) (a .words .now)) (a .n) (label (recAt (a .s .now) (a .at)))) (at-i .i .given .1) (at-search .search .ensures) in
     omega (arith, s .0, g .0 .few)
 
 returns-2 : tie.Need-returns-2
 returns-2 c =
-    let a = c .before .before .before .before .before .before .before .args in
-    let g = c .before .before .before .before .before .before .before .pre in
+    let at-i = c .before in let at-search = at-i .before .before in let start = at-search .before .before .before .before in
+    let a = start .args in
+    let g = start .pre in
     let f = wordAt (a .policy .now) (a .words .now) in
     let x = label (recAt (a .s .now) (a .at)) in
-    let s = subst (Stands f (a .n) x) (c .before .i .given .1) (c .before .before .before .search .ensures) in
+    let s = subst (Stands f (a .n) x) (at-i .i .given .1) (at-search .search .ensures) in
     (add-one _ ∙ sym (number-found f (a .n) (g .0 .sorted) x _ (s .0) (s .1)), omega (arith, s .0))
 
 pub number-of-spec : {M : Type 1} → statement M

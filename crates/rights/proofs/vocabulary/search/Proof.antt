@@ -22,12 +22,15 @@ loop-holds : tie.Need-loop-holds Inv-loop μ-loop
 loop-holds c = (omega arith, omega arith, (λ j h. absurd (omega arith)), λ j h l. absurd (omega arith))
 
 add-middle : tie.Need-add-middle Inv-loop μ-loop
-add-middle c = omega (arith, c .before .before .before .before .before .pre .0 .few)
+add-middle c =
+    let start = c .before .before .before .before .before in
+    omega (arith, start .pre .0 .few)
 
 compare-word-requires : tie.Need-compare-word-requires Inv-loop μ-loop
 compare-word-requires c κs =
-    let g = c .before .before .before .before .before .pre in
-    let l = c .before .loop in
+    let at-loop = c .before in let start = at-loop .before .before .before .before in
+    let g = start .pre in
+    let l = at-loop .loop in
     (omega (arith, g .0 .few, g .0 .long), g .0 .texts (l .low + (l .high - l .low) / 2) (omega arith), g .1)
 
 returns : tie.Need-returns Inv-loop μ-loop
@@ -35,28 +38,33 @@ returns c =
     (omega arith, sym (c .before .compare-word .ensures) ∙ c .if1 .taken)
 
 raised-requires : tie.Need-raised-requires Inv-loop μ-loop
-raised-requires c κs = omega (arith, c .before .before .before .before .before .before .before .pre .0 .few)
+raised-requires c κs =
+    let start = c .before .before .before .before .before .before .before in
+    omega (arith, start .pre .0 .few)
 
 loop-less : tie.Need-loop-less Inv-loop μ-loop
 loop-less c =
-    let l = c .before .before .before .before .before .loop in
-    halved (c .before .before .before .compare-word .result) (l .low) (l .high) _ _ (omega arith) (c .before .raised .ensures) (c .lowered .ensures) .1
+    let at-raised = c .before in let at-compare-word = at-raised .before .before in let at-loop = at-compare-word .before .before in
+    let l = at-loop .loop in
+    halved (at-compare-word .compare-word .result) (l .low) (l .high) _ _ (omega arith) (at-raised .raised .ensures) (c .lowered .ensures) .1
 
 loop-again : tie.Need-loop-again Inv-loop μ-loop
 loop-again c =
-    let a = c .before .before .before .before .before .before .before .before .before .args in
-    let g = c .before .before .before .before .before .before .before .before .before .pre in
-    let l = c .before .before .before .before .before .loop in
+    let at-raised = c .before in let at-if1 = at-raised .before in let at-compare-word = at-if1 .before in
+    let at-loop = at-compare-word .before .before in let start = at-loop .before .before .before .before in
+    let a = start .args in
+    let g = start .pre in
+    let l = at-loop .loop in
     let f = wordAt (a .policy .now) (a .words .now) in
     let x = label (recAt (a .s .now) (a .at)) in
-    let o = c .before .before .before .compare-word .result in
-    let e = c .before .before .before .compare-word .ensures in
+    let o = at-compare-word .compare-word .result in
+    let e = at-compare-word .compare-word .ensures in
     let middle = l .low + (l .high - l .low) / 2 in
-    let half = halved o (l .low) (l .high) _ _ (omega arith) (c .before .raised .ensures) (c .lowered .ensures) in (
+    let half = halved o (l .low) (l .high) _ _ (omega arith) (at-raised .raised .ensures) (c .lowered .ensures) in (
       half .0,
       omega (arith, half .2),
-      rw (c .before .raised .ensures) (low-raised f (a .n) (g .0 .sorted) x o (l .low) middle (omega arith) e (l .inv .2)),
-      rw (c .lowered .ensures) (high-lowered f (a .n) (g .0 .sorted) x o (l .high) middle (omega arith) e (c .before .before .if1 .left) (rw e (order-most _ _)) (l .inv .3)),
+      rw (at-raised .raised .ensures) (low-raised f (a .n) (g .0 .sorted) x o (l .low) middle (omega arith) e (l .inv .2)),
+      rw (c .lowered .ensures) (high-lowered f (a .n) (g .0 .sorted) x o (l .high) middle (omega arith) e (at-if1 .if1 .left) (rw e (order-most _ _)) (l .inv .3)),
     )
 
 returns-2 : tie.Need-returns-2 Inv-loop μ-loop

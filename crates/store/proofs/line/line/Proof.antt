@@ -14,23 +14,31 @@ read-form-requires c κs = form-room _ (text-passed _ _ _ (c .before .before .te
 
 slice-read-form-refusal : tie.Need-slice-read-form-refusal
 slice-read-form-refusal c =
-    omega (arith, store-held _ _ (text-passed _ _ _ (c .before .before .before .before .before .text-refusal .ensures) (c .before .before .before .before .if1 .left) .0) .size)
+    let at-if1 = c .before .before .before .before in let at-text-refusal = at-if1 .before in
+    omega (arith, store-held _ _ (text-passed _ _ _ (at-text-refusal .text-refusal .ensures) (at-if1 .if1 .left) .0) .size)
 
 returns-2 : tie.Need-returns-2
 returns-2 c =
-    form-refused _ _ _ _ (c .before .before .before .before .before .before .before .text-refusal .ensures) (c .before .before .before .before .before .before .if1 .left)
-    (c .before .before .before .before .read-form .ensures .0) (c .before .form-refusal .ensures) (c .if2 .taken)
+    let at-form-refusal = c .before in let at-read-form = at-form-refusal .before .before .before in let at-if1 = at-read-form .before .before in
+    let at-text-refusal = at-if1 .before in
+    form-refused _ _ _ _ (at-text-refusal .text-refusal .ensures) (at-if1 .if1 .left)
+    (at-read-form .read-form .ensures .0) (at-form-refusal .form-refusal .ensures) (c .if2 .taken)
 
 run-requires : tie.Need-run-requires
 run-requires c κs =
-    let p = run-asks _ _ _ (c .before .before .before .before .before .before .before .before .before .before .before .text-refusal .ensures) (c .before .before .before .before .before .before .before .before .before .before .if1 .left)
-    (c .before .before .before .before .before .before .before .before .read-form .ensures .0) (c .before .before .before .before .before .form-refusal .ensures) (c .before .before .before .before .if2 .left) in
-    (p .0, p .1, p .2, p .3, c .before .before .before .before .before .before .before .before .read-form .ensures .1)
+    let at-if2 = c .before .before .before .before in let at-form-refusal = at-if2 .before in
+    let at-read-form = at-form-refusal .before .before .before in let at-if1 = at-read-form .before .before in let at-text-refusal = at-if1 .before in
+    let p = run-asks _ _ _ (at-text-refusal .text-refusal .ensures) (at-if1 .if1 .left)
+    (at-read-form .read-form .ensures .0) (at-form-refusal .form-refusal .ensures) (at-if2 .if2 .left) in
+    (p .0, p .1, p .2, p .3, at-read-form .read-form .ensures .1)
 
 returns-3 : tie.Need-returns-3
 returns-3 c =
-    line-run _ _ _ _ (c .before .before .before .before .before .before .before .before .before .before .before .before .before .before .before .before .before .before .text-refusal .ensures) (c .before .before .before .before .before .before .before .before .before .before .before .before .before .before .before .before .before .if1 .left)
-    (c .before .before .before .before .before .before .before .before .before .before .before .before .before .before .before .read-form .ensures .0) (c .before .before .before .before .before .before .before .before .before .before .before .before .form-refusal .ensures) (c .before .before .before .before .before .before .before .before .before .before .before .if2 .left) (c .before .before .before .before .before .before .run .ensures)
+    let at-run = c .before .before .before .before .before .before in let at-if2 = at-run .before .before .before .before .before in
+    let at-form-refusal = at-if2 .before in let at-read-form = at-form-refusal .before .before .before in let at-if1 = at-read-form .before .before in
+    let at-text-refusal = at-if1 .before in
+    line-run _ _ _ _ (at-text-refusal .text-refusal .ensures) (at-if1 .if1 .left)
+    (at-read-form .read-form .ensures .0) (at-form-refusal .form-refusal .ensures) (at-if2 .if2 .left) (at-run .run .ensures)
 
 pub line-spec : {M : Type 1} → statement M
 line-spec =

@@ -10,13 +10,15 @@ returns c = at-store _ _ _ (sym (c .before .store-ok .ensures) ∙ not-true _ (c
 
 returns-2 : tie.Need-returns-2
 returns-2 c =
-    at-line _ _ _ (sym (c .before .before .before .store-ok .ensures) ∙ not-false _ (c .before .before .if1 .left))
-    (sym (c .before .line-ok .ensures) ∙ not-true _ (c .if2 .taken))
+    let at-line-ok = c .before in let at-if1 = at-line-ok .before in let at-store-ok = at-if1 .before in
+    at-line _ _ _ (sym (at-store-ok .store-ok .ensures) ∙ not-false _ (at-if1 .if1 .left))
+    (sym (at-line-ok .line-ok .ensures) ∙ not-true _ (c .if2 .taken))
 
 returns-3 : tie.Need-returns-3
 returns-3 c =
-    at-text _ _ _ (sym (c .before .before .before .store-ok .ensures) ∙ not-false _ (c .before .before .if1 .left))
-    (sym (c .before .line-ok .ensures) ∙ not-false _ (c .if2 .left))
+    let at-line-ok = c .before in let at-if1 = at-line-ok .before in let at-store-ok = at-if1 .before in
+    at-text _ _ _ (sym (at-store-ok .store-ok .ensures) ∙ not-false _ (at-if1 .if1 .left))
+    (sym (at-line-ok .line-ok .ensures) ∙ not-false _ (c .if2 .left))
 
 pub text-refusal-spec : {M : Type 1} → statement M
 text-refusal-spec = tie.close (tie.spec (λ c κs. search needs) returns (λ c κs. search needs) returns-2 returns-3)

@@ -19,7 +19,9 @@ returns-5 : tie.Need-returns-5
 returns-5 c = rw (c .before .before .enum-told5 .given .1, ← c .before .is-inner2 .ensures) (c .both4 .ensures)
 
 returns-6 : tie.Need-returns-6
-returns-6 c = rw (c .before .before .before .enum-told6 .given .1, ← c .before .before .holds-right2 .ensures, ← c .before .is-inner3 .ensures) (c .both5 .ensures)
+returns-6 c =
+    let at-is-inner3 = c .before in let at-holds-right2 = at-is-inner3 .before in let at-enum-told6 = at-holds-right2 .before in
+    rw (at-enum-told6 .enum-told6 .given .1, ← at-holds-right2 .holds-right2 .ensures, ← at-is-inner3 .is-inner3 .ensures) (c .both5 .ensures)
 
 pub is-done-spec : {M : Type 1} → statement M
 is-done-spec =

@@ -11,7 +11,9 @@ returns c =
     rw (List·getD-eq-default (a .marks .now) 0 (c .if1 .taken), and-false (a .stands)) refl
 
 returns-2 : tie.Need-returns-2
-returns-2 c = rw (c .before .before .before .if2 .taken, ← c .before .is-set .ensures) (c .mark-of .ensures)
+returns-2 c =
+    let at-is-set = c .before in let at-if2 = at-is-set .before .before in
+    rw (at-if2 .if2 .taken, ← at-is-set .is-set .ensures) (c .mark-of .ensures)
 
 pub mark-at-spec : {M : Type 1} → statement M
 mark-at-spec =

@@ -28,23 +28,26 @@ loop-holds c = (omega arith, omega arith, refl, refl, rw (sub-zero (c .before .b
 
 loop-again : tie.Need-loop-again Inv-loop μ-loop
 loop-again c =
-    let a = c .before .before .before .before .before .before .before .before .args in
-    let l = c .before .before .before .before .loop in
-    let x = put-next (l .selected) (l .j) 0 (c .before .before .stands-at .result) in (
+    let at-mark-at = c .before in let at-stands-at = at-mark-at .before in let at-loop = at-stands-at .before .before in
+    let start = at-loop .before .before .before .before in
+    let a = start .args in
+    let l = at-loop .loop in
+    let x = put-next (l .selected) (l .j) 0 (at-stands-at .stands-at .result) in (
       omega arith,
       omega (arith, c .next-of .ensures),
       simp length-set (l .inv .2),
       push-drop (l .selected) (l .i) _ (a .selected .now) (l .inv .3),
       sym
           (push-take (l .selected) (l .i) _ (omega arith)
-          (left-step (a .shown .now) (a .k) (a .marks .now) (a .n) (l .j) (l .i) _ _ (c .before .before .stands-at .result) (omega arith) (omega arith) (c .before .before .stands-at .ensures) (c .before .mark-at .ensures) (c .next-of .ensures)))
+          (left-step (a .shown .now) (a .k) (a .marks .now) (a .n) (l .j) (l .i) _ _ (at-stands-at .stands-at .result) (omega arith) (omega arith) (at-stands-at .stands-at .ensures) (at-mark-at .mark-at .ensures) (c .next-of .ensures)))
           ∙ l .inv .4,
     )
 
 returns : tie.Need-returns Inv-loop μ-loop
 returns c =
-    let a = c .before .before .before .before .before .args in
-    let l = c .before .loop in
+    let at-loop = c .before in let start = at-loop .before .before .before .before in
+    let a = start .args in
+    let l = at-loop .loop in
     let e : l .i ≡ a .n = omega arith in
     filled (l .selected) (a .selected .now) _ (a .n) (simp (e, left-end (a .shown .now) (a .k) (a .marks .now) (a .n) (l .j) (a .n) (omega arith)) at (l .inv .4)) (simp e at (l .inv .3))
 

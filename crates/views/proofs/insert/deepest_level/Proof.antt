@@ -19,14 +19,16 @@ loop-holds c = let a = c .before .args in (omega arith, omega arith, deepest-non
 
 loop-again : tie.Need-loop-again Inv-loop μ-loop
 loop-again c =
-    let l = c .before .before .before .loop in
-    let a = c .before .before .before .before .before .args in
+    let at-loop = c .before .before .before in let start = at-loop .before .before in
+    let l = at-loop .loop in
+    let a = start .args in
     (omega arith, c .deeper .ensures .1, c .deeper .ensures .0 ∙ deepest-more (a .m) (l .j - 1) (l .j) (l .deep) _ (a .tree .now) (omega arith) (omega arith) (l .inv .2) refl)
 
 returns : tie.Need-returns Inv-loop μ-loop
 returns c =
-    let l = c .before .loop in
-    let a = c .before .before .before .args in
+    let at-loop = c .before in let start = at-loop .before .before in
+    let l = at-loop .loop in
+    let a = start .args in
     let z : l .j ≡ 0 = omega arith in
     let y : a .m - 0 ≡ a .m = omega arith in
     (rw (z, y) at (l .inv .2), l .inv .1)

@@ -25,8 +25,9 @@ same-length c = search needs
 
 returns : tie.Need-returns
 returns c =
-    let a = c .before .before .before .before .before .before .before .args in
-    let e = ap (λ (l : List ℕ). set l (a .to) (a .k + getD (a .tree .now) (a .from) 0)) (c .before .before .before .copy .ensures) in (
+    let at-copy = c .before .before .before in let start = at-copy .before .before .before .before in
+    let a = start .args in
+    let e = ap (λ (l : List ℕ). set l (a .to) (a .k + getD (a .tree .now) (a .from) 0)) (at-copy .copy .ensures) in (
       put-front (a .t .now) _ (a .tree .now) (a .to) (a .from) (a .k) (omega arith) (omega arith) e,
       put-back (a .t .now) _ (a .tree .now) (a .to) (a .from) (a .k) (omega arith) (omega arith) e,
     )

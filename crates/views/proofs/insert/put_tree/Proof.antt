@@ -27,14 +27,16 @@ loop-holds c =
 
 put-raised-requires : tie.Need-put-raised-requires Inv-loop μ-loop
 put-raised-requires c κs =
-    let s = c .before .before .before .before .before in
-    (search needs, search needs, s .pre .2 (c .before .before .loop .j) (omega arith))
+    let at-loop = c .before .before in let at-before = at-loop .before .before in
+    let s = at-before .before in
+    (search needs, search needs, s .pre .2 (at-loop .loop .j) (omega arith))
 
 loop-again : tie.Need-loop-again Inv-loop μ-loop
 loop-again c =
-    let a = c .before .before .before .before .before .before .before .before .args in
-    let l = c .before .before .before .before .before .loop in
-    let p = c .before .before .put-raised in (
+    let at-put-raised = c .before .before in let at-loop = at-put-raised .before .before .before in let start = at-loop .before .before .before in
+    let a = start .args in
+    let l = at-loop .loop in
+    let p = at-put-raised .put-raised in (
       search needs,
       search needs,
       tree-more (a .w) (a .k) (l .j) (a .t .now) (l .t) (p .last .0) (a .tree .now) (omega arith) (l .inv .2) (p .ensures .0),
@@ -44,8 +46,9 @@ loop-again c =
 
 returns : tie.Need-returns Inv-loop μ-loop
 returns c =
-    let l = c .before .loop in
-    let e : l .j ≡ c .before .before .before .before .args .m = omega arith in
+    let at-loop = c .before in let start = at-loop .before .before .before in
+    let l = at-loop .loop in
+    let e : l .j ≡ start .args .m = omega arith in
     (rw e at (l .inv .2), rw e at (l .inv .3))
 
 pub put-tree-spec : {M : Type 1} → statement M

@@ -21,20 +21,23 @@ loop-holds c = let a = c .before .before .args in (omega arith, deep-first (a .d
 
 returns : tie.Need-returns Inv-loop μ-loop
 returns c =
-    let l = c .before .before .before .before .before .loop in
-    let a = c .before .before .before .before .before .before .before .before .args in
-    deep-stop (a .deep) (a .n) (l .i) (a .t .now) (a .marks .now) (omega arith) (omega arith) (sym (c .before .is-too-deep .ensures) ∙ c .if1 .taken) ∙ sym (l .inv .1)
+    let at-is-too-deep = c .before in let at-loop = at-is-too-deep .before .before .before .before in let start = at-loop .before .before .before in
+    let l = at-loop .loop in
+    let a = start .args in
+    deep-stop (a .deep) (a .n) (l .i) (a .t .now) (a .marks .now) (omega arith) (omega arith) (sym (at-is-too-deep .is-too-deep .ensures) ∙ c .if1 .taken) ∙ sym (l .inv .1)
 
 loop-again : tie.Need-loop-again Inv-loop μ-loop
 loop-again c =
-    let l = c .before .before .before .before .before .loop in
-    let a = c .before .before .before .before .before .before .before .before .args in
-    (omega arith, l .inv .1 ∙ deep-step (a .deep) (a .n) (l .i) (a .t .now) (a .marks .now) (omega arith) (omega arith) (sym (c .before .is-too-deep .ensures) ∙ c .if1 .left))
+    let at-is-too-deep = c .before in let at-loop = at-is-too-deep .before .before .before .before in let start = at-loop .before .before .before in
+    let l = at-loop .loop in
+    let a = start .args in
+    (omega arith, l .inv .1 ∙ deep-step (a .deep) (a .n) (l .i) (a .t .now) (a .marks .now) (omega arith) (omega arith) (sym (at-is-too-deep .is-too-deep .ensures) ∙ c .if1 .left))
 
 returns-2 : tie.Need-returns-2 Inv-loop μ-loop
 returns-2 c =
-    let l = c .before .loop in
-    let a = c .before .before .before .before .args in
+    let at-loop = c .before in let start = at-loop .before .before .before in
+    let l = at-loop .loop in
+    let a = start .args in
     sym (l .inv .1 ∙ deep-none (a .deep) (a .n) (l .i) (a .t .now) (a .marks .now) (omega arith))
 
 pub some-too-deep-spec : {M : Type 1} → statement M

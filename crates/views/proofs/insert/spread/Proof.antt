@@ -34,24 +34,27 @@ add-loop c =
 
 turn-requires : tie.Need-turn-requires Inv-loop μ-loop
 turn-requires c κs =
-    let s = c .before .before .before .before .before .before .before in
+    let at-loop = c .before .before .before in let at-before = at-loop .before .before .before in
+    let s = at-before .before in
     let a = s .args in
-    let l = c .before .before .before .loop in (
+    let l = at-loop .loop in (
       (fixed-same (a .n) (a .gap) (a .m) (a .t .now) (l .t) (a .marks .now) (a .tree .now) (l .inv .1) (s .pre .0 .0), s .pre .0 .1),
       (l .inv .0, (search needs, ap length (l .inv .2) ∙ s .pre .1 .2)),
     )
 
 loop-again : tie.Need-loop-again Inv-loop μ-loop
 loop-again c =
-    let l = c .before .before .before .before .before .before .before .loop in
-    let f = c .before .before .before .turn in
+    let at-turn = c .before .before .before in let at-loop = at-turn .before .before .before .before in
+    let l = at-loop .loop in
+    let f = at-turn .turn in
     (f .ensures .0, search needs, f .ensures .1 .1 ∙ l .inv .2)
 
 returns : tie.Need-returns Inv-loop μ-loop
 returns c =
-    let s = c .before .before .before .before .before in
+    let at-loop = c .before in let at-before = at-loop .before .before .before in
+    let s = at-before .before in
     let a = s .args in
-    let l = c .before .loop in
+    let l = at-loop .loop in
     ends (a .n) (a .gap) (a .up) (a .m) (a .tree .now) (a .marks .now) (l .t) (l .st) (l .i) (l .w) (l .d) _ (l .inv .0 .place) (omega arith) (l .inv .2) (s .pre .1 .2)
 
 pub spread-spec : {M : Type 1} → statement M

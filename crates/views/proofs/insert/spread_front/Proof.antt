@@ -26,24 +26,27 @@ loop-holds c =
 
 step-front-requires : tie.Need-step-front-requires Inv-loop μ-loop
 step-front-requires c κs =
-    let s = c .before .before .before .before .before .before in
+    let at-loop = c .before .before in let at-before = at-loop .before .before .before in
+    let s = at-before .before in
     let a = s .args in
-    let l = c .before .before .loop in (
+    let l = at-loop .loop in (
       fixed-same (a .n) (a .gap) (a .m) (a .t .now) (l .t) (a .marks .now) (a .tree .now) (l .inv .2) (s .pre .0),
       (search needs, l .inv .1, ap length (l .inv .3) ∙ s .pre .1 .1),
     )
 
 loop-again : tie.Need-loop-again Inv-loop μ-loop
 loop-again c =
-    let l = c .before .before .before .before .before .loop in
-    let f = c .before .before .step-front in
+    let at-step-front = c .before .before in let at-loop = at-step-front .before .before .before in
+    let l = at-loop .loop in
+    let f = at-step-front .step-front in
     (search needs, f .ensures .0, search needs, f .ensures .1 ∙ l .inv .3)
 
 returns : tie.Need-returns Inv-loop μ-loop
 returns c =
-    let s = c .before .before .before .before .before in
+    let at-loop = c .before in let at-before = at-loop .before .before .before in
+    let s = at-before .before in
     let a = s .args in
-    let l = c .before .loop in
+    let l = at-loop .loop in
     ends-front (a .n) (a .gap) (a .m) (a .tree .now) (a .marks .now) (l .t) (l .i) (l .w) _ (omega arith) (l .inv .3) (s .pre .1 .1)
 
 pub spread-front-spec : {M : Type 1} → statement M

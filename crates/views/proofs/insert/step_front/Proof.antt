@@ -12,10 +12,12 @@ tree-in-front-requires c κs =
 
 returns : tie.Need-returns
 returns c =
-    let s = c .before .before .before .before .before .before .before .before .before .before .before .before in
+    let at-move-record = c .before .before in let at-tree-in-front = at-move-record .before .before .before .before in
+    let at-before = at-tree-in-front .before .before .before .before .before in
+    let s = at-before .before in
     let a = s .args in
-    let f = c .before .before .before .before .before .before .tree-in-front in
-    let g = c .before .before .move-record in (
+    let f = at-tree-in-front .tree-in-front in
+    let g = at-move-record .move-record in (
       front-done (a .n) (a .gap) (a .m) (a .i) (a .w) (a .t .now) (a .marks .now) (a .tree .now) (s .pre .0) (s .pre .1 .0) (s .pre .1 .1) (s .pre .1 .2)
           (f .result) (f .last .0) (g .last .0) (search needs) (f .ensures .0) (f .ensures .1) (f .ensures .2) (g .ensures .0) (g .ensures .1),
       front-same (a .n) (a .gap) (a .m) (a .i) (a .w) (a .t .now) (a .marks .now) (a .tree .now) (s .pre .0) (s .pre .1 .0) (s .pre .1 .1) (s .pre .1 .2)

@@ -8,14 +8,16 @@ use Rattle.views.proofs.insert.take_record.Tie as tie
 
 returns : tie.Need-returns
 returns c =
-    let a = c .before .before .before .before .before .before .before .before .before .args in
-    let e = c .before .before .before .before .move-record .ensures in
+    let at-move-record = c .before .before .before .before in let start = at-move-record .before .before .before .before .before in
+    let a = start .args in
+    let e = at-move-record .move-record .ensures in
     ((refl, refl, omega arith, push-marked (getD (a .marks .now) (a .i) 0) (a .l) (a .d) (a .st .now) (c .if1 .taken) (omega arith)), e)
 
 returns-2 : tie.Need-returns-2
 returns-2 c =
-    let a = c .before .before .before .before .before .before .before .before .before .args in
-    let e = c .before .before .before .before .move-record .ensures in
+    let at-move-record = c .before .before .before .before in let start = at-move-record .before .before .before .before .before in
+    let a = start .args in
+    let e = at-move-record .move-record .ensures in
     ((refl, refl, omega arith, push-plain (getD (a .marks .now) (a .i) 0) (a .l) (a .d) (a .st .now) (search needs)), e)
 
 pub take-record-spec : {M : Type 1} → statement M

@@ -7,19 +7,24 @@ use Rattle.views.proofs.insert.too_deep.Statement.{statement}
 use Rattle.views.proofs.insert.too_deep.Tie as tie
 
 count-of-requires : tie.Need-count-of-requires
-count-of-requires c κs = omega (arith, facts (c .before .before .before .args .t .now) (c .before .before .before .pre .0) .head)
+count-of-requires c κs =
+    let start = c .before .before .before in
+    omega (arith, facts (start .args .t .now) (start .pre .0) .head)
 
 some-too-deep-requires : tie.Need-some-too-deep-requires
 some-too-deep-requires c κs =
-    let s = c .before .before .before .before .before .before in
+    let at-levels-down = c .before in let at-count-of = at-levels-down .before in let at-before = at-count-of .before .before .before in
+    let s = at-before .before in
     let f = facts (s .args .t .now) (s .pre .0) in
-    let n = c .before .before .count-of .ensures in
-    (omega (arith, n, f .size), omega (arith, n, s .pre .1), omega (arith, c .before .levels-down .ensures .1, c .deepest-level .ensures .1))
+    let n = at-count-of .count-of .ensures in
+    (omega (arith, n, f .size), omega (arith, n, s .pre .1), omega (arith, at-levels-down .levels-down .ensures .1, c .deepest-level .ensures .1))
 
 returns : tie.Need-returns
 returns c =
-    let a = c .before .before .before .before .before .before .before .args in
-    c .some-too-deep .ensures ∙ rw (c .before .before .before .count-of .ensures, ← all-chunks (a .t .now), c .before .before .levels-down .ensures .0, c .before .deepest-level .ensures .0)
+    let at-deepest-level = c .before in let at-levels-down = at-deepest-level .before in let at-count-of = at-levels-down .before in
+    let start = at-count-of .before .before .before .before in
+    let a = start .args in
+    c .some-too-deep .ensures ∙ rw (at-count-of .count-of .ensures, ← all-chunks (a .t .now), at-levels-down .levels-down .ensures .0, at-deepest-level .deepest-level .ensures .0)
 
 pub too-deep-spec : {M : Type 1} → statement M
 too-deep-spec =

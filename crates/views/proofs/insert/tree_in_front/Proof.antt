@@ -13,9 +13,10 @@ shared-slice-read-if1 c = search needs
 
 put-tree-requires : tie.Need-put-tree-requires
 put-tree-requires c κs =
-    let s = c .before .before .before .before .before .before in
-    let r = s .pre .1 .0 (c .before .if1 .taken) in
-    (omega (arith, r), search needs, λ j h. omega (arith, s .pre .1 .1 (c .before .if1 .taken) j h))
+    let at-if1 = c .before in let at-before = at-if1 .before .before .before .before in
+    let s = at-before .before in
+    let r = s .pre .1 .0 (at-if1 .if1 .taken) in
+    (omega (arith, r), search needs, λ j h. omega (arith, s .pre .1 .1 (at-if1 .if1 .taken) j h))
 
 add-result : tie.Need-add-result
 add-result c = search needs
@@ -25,10 +26,11 @@ same-length c = search needs
 
 returns : tie.Need-returns
 returns c =
-    let s = c .before .before .before .before .before .before .before .before .before in
+    let at-put-tree = c .before .before in let at-if1 = at-put-tree .before .before in let at-before = at-if1 .before .before .before .before in
+    let s = at-before .before in
     let a = s .args in
-    let f = c .before .before .put-tree in
-    let z = c .before .before .before .before .if1 .taken in
+    let f = at-put-tree .put-tree in
+    let z = at-if1 .if1 .taken in
     let r = s .pre .1 .0 z in (
       r,
       with-tree (getD (a .marks .now) (a .i) 0) (a .l) (a .w) (a .m) (a .t .now) (f .last .0) (a .tree .now) z (f .ensures .0),
@@ -37,7 +39,8 @@ returns c =
 
 returns-2 : tie.Need-returns-2
 returns-2 c =
-    let a = c .before .before .before .before .before .args in
+    let start = c .before .before .before .before .before in
+    let a = start .args in
     (search needs, no-tree (getD (a .marks .now) (a .i) 0) (a .l) (a .w) (a .m) (a .t .now) (a .tree .now) (c .if1 .left), refl)
 
 pub tree-in-front-spec : {M : Type 1} → statement M

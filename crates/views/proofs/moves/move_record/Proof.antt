@@ -20,8 +20,9 @@ loop-holds c = (search needs, refl, move-none (c .args .t .now) (c .args .to), r
 
 loop-again : tie.Need-loop-again Inv-loop μ-loop
 loop-again c =
-    let l = c .before .before .loop in
-    let a = c .before .before .before .args in (
+    let at-loop = c .before .before in let start = at-loop .before in
+    let l = at-loop .loop in
+    let a = start .args in (
       omega arith,
       simp length-set (omega arith),
       move-front (l .t) (a .t .now) (a .from) (a .to) (l .j) (omega arith) (omega arith) (omega arith) (l .inv .2) (l .inv .3),

@@ -19,8 +19,9 @@ loop-holds c = (search needs, search needs, refl, shift-none (c .args .t .now) (
 
 loop-again : tie.Need-loop-again Inv-loop μ-loop
 loop-again c =
-    let l = c .before .before .loop in
-    let a = c .before .before .before .args in (
+    let at-loop = c .before .before in let start = at-loop .before in
+    let l = at-loop .loop in
+    let a = start .args in (
       omega arith,
       omega arith,
       simp length-set (omega arith),

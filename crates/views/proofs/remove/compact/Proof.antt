@@ -24,12 +24,15 @@ loop-holds c =
     (search needs, search needs, refl, rw z (c .before .before .pre .2), none-yet (a .n) (a .t .now) (a .marks .now) (c .before .before .pre .2))
 
 loop-again : tie.Need-loop-again Inv-loop μ-loop
-loop-again c = (search needs, search needs, search needs, c .before .before .step .ensures .1, c .before .before .step .ensures .2 ∙ c .before .before .before .before .before .loop .inv .4)
+loop-again c =
+    let at-step = c .before .before in let at-loop = at-step .before .before .before in
+    (search needs, search needs, search needs, at-step .step .ensures .1, at-step .step .ensures .2 ∙ at-loop .loop .inv .4)
 
 returns : tie.Need-returns Inv-loop μ-loop
 returns c =
-    let a = c .before .before .before .before .args in
-    let l = c .before .loop in
+    let at-loop = c .before in let start = at-loop .before .before .before in
+    let a = start .args in
+    let l = at-loop .loop in
     (search needs, sym (done-all (a .n) (l .w) (l .cut) (l .t) (a .marks .now) (l .i) (omega arith)) ∙ l .inv .4)
 
 pub compact-spec : {M : Type 1} → statement M

@@ -9,43 +9,55 @@ use Rattle.views.proofs.remove.remove_marked.Statement.{statement}
 use Rattle.views.proofs.remove.remove_marked.Tie as tie
 
 count-of-requires : tie.Need-count-of-requires
-count-of-requires c κs = omega (arith, facts (c .before .before .before .args .t .now) (c .before .before .before .pre .0) .head)
+count-of-requires c κs =
+    let start = c .before .before .before in
+    omega (arith, facts (start .args .t .now) (start .pre .0) .head)
 
 compact-requires : tie.Need-compact-requires
 compact-requires c κs =
-    let s = c .before .before .before .before .before in
+    let at-count-of = c .before in let at-before = at-count-of .before .before .before in
+    let s = at-before .before in
     let f = facts (s .args .t .now) (s .pre .0) in
-    let e = c .before .count-of .ensures in
+    let e = at-count-of .count-of .ensures in
     (omega (arith, e, f .size), omega (arith, e, s .pre .1), rw e (f .low))
 
 mul-clear-from : tie.Need-mul-clear-from
 mul-clear-from c =
-    let s = c .before .before .before .before .before .before .before .before .before in
-    record { fits = omega (arith, c .before .before .before .compact .ensures .0, c .before .before .before .before .before .count-of .ensures, facts (s .args .t .now) (s .pre .0) .few) }
+    let at-compact = c .before .before .before in let at-count-of = at-compact .before .before in
+    let at-before = at-count-of .before .before .before in
+    let s = at-before .before in
+    record { fits = omega (arith, at-compact .compact .ensures .0, at-count-of .count-of .ensures, facts (s .args .t .now) (s .pre .0) .few) }
 
 add-clear-from : tie.Need-add-clear-from
 add-clear-from c =
-    let s = c .before .before .before .before .before .before .before .before .before in
-    record { fits = omega (arith, c .before .before .before .compact .ensures .0, c .before .before .before .before .before .count-of .ensures, facts (s .args .t .now) (s .pre .0) .few) }
+    let at-compact = c .before .before .before in let at-count-of = at-compact .before .before in
+    let at-before = at-count-of .before .before .before in
+    let s = at-before .before in
+    record { fits = omega (arith, at-compact .compact .ensures .0, at-count-of .count-of .ensures, facts (s .args .t .now) (s .pre .0) .few) }
 
 clear-from-requires : tie.Need-clear-from-requires
 clear-from-requires c κs =
-    let s = c .before .before .before .before .before .before .before .before .before in
-    omega (arith, c .before .before .before .compact .ensures .0, c .before .before .before .before .before .count-of .ensures, facts (s .args .t .now) (s .pre .0) .size)
+    let at-compact = c .before .before .before in let at-count-of = at-compact .before .before in
+    let at-before = at-count-of .before .before .before in
+    let s = at-before .before in
+    omega (arith, at-compact .compact .ensures .0, at-count-of .count-of .ensures, facts (s .args .t .now) (s .pre .0) .size)
 
 put-count-requires : tie.Need-put-count-requires
 put-count-requires c κs =
-    let k = c .before .before .before .before .before .before .before in
+    let at-before = c .before .before .before .before .before .before in
+    let k = at-before .before in
     let s = k .before .before .before .before .before .before in
     let f = facts (s .args .t .now) (s .pre .0) in
     (omega (arith, f .head), omega (arith, k .compact .ensures .0, k .before .before .count-of .ensures, f .few))
 
 returns : tie.Need-returns
 returns c =
-    let k = c .before .before .before .before .before .before .before .before .before .before in
+    let at-put-count = c .before .before in let at-clear-from = at-put-count .before .before .before .before in
+    let at-before = at-clear-from .before .before .before in
+    let k = at-before .before in
     let a = k .before .before .before .before .before .before .args in
-    let clear = c .before .before .before .before .before .before .clear-from in
-    let put = c .before .before .put-count in
+    let clear = at-clear-from .clear-from in
+    let put = at-put-count .put-count in
     let f = facts (a .t .now) (k .before .before .before .before .before .before .pre .0) in
     let n = k .before .before .count-of .ensures in
     is-changed (k .compact .result) (a .t .now) (k .compact .last .0) (clear .last .0) (put .last .0) (removed (a .marks .now) (records (a .t .now))) (omega arith) (omega (arith, n, f .size))

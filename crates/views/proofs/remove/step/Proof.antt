@@ -6,22 +6,25 @@ use Rattle.views.proofs.remove.step.Tie as tie
 
 returns : tie.Need-returns
 returns c =
-    let a = c .before .before .before .before .args in
-    let r = step-below (a .n) (a .i) (a .cut) (a .w) (a .t .now) (a .marks .now) (omega arith) (omega arith) (omega arith) (c .before .before .before .before .pre .4) in
+    let start = c .before .before .before .before in
+    let a = start .args in
+    let r = step-below (a .n) (a .i) (a .cut) (a .w) (a .t .now) (a .marks .now) (omega arith) (omega arith) (omega arith) (start .pre .4) in
     (search needs, r .0, r .1)
 
 returns-2 : tie.Need-returns-2
 returns-2 c =
-    let a = c .before .before .before .before .before .before .args in
-    let r = step-marked (a .n) (a .i) (a .cut) (a .w) (a .t .now) (a .marks .now) (omega arith) (omega arith) (omega arith) (c .if2 .taken) (c .before .before .before .before .before .before .pre .4) in
+    let start = c .before .before .before .before .before .before in
+    let a = start .args in
+    let r = step-marked (a .n) (a .i) (a .cut) (a .w) (a .t .now) (a .marks .now) (omega arith) (omega arith) (omega arith) (c .if2 .taken) (start .pre .4) in
     (search needs, r .0, r .1)
 
 returns-3 : tie.Need-returns-3
 returns-3 c =
-    let a = c .before .before .before .before .before .before .before .before .before .before .args in
-    let m = c .before .before .move-record in
+    let at-move-record = c .before .before in let start = at-move-record .before .before .before .before .before .before .before .before in
+    let a = start .args in
+    let m = at-move-record .move-record in
     let r = step-kept (a .n) (a .i) (a .cut) (a .w) (a .t .now) (a .marks .now) (omega arith) (omega arith) (m .last .0) (omega arith) (omega arith) (m .ensures .0) (m .ensures .1) (omega arith) (search needs)
-    (c .before .before .before .before .before .before .before .before .before .before .pre .4) in
+    (start .pre .4) in
     (search needs, r .0, r .1)
 
 pub step-spec : {M : Type 1} → statement M

@@ -23,9 +23,11 @@ loop-holds c =
 
 loop-again : tie.Need-loop-again Inv-loop μ-loop
 loop-again c =
-    let a = c .before .before .before .before .before .before .before .before .before .args in
-    let l = c .before .before .before .before .before .loop in
-    let f = c .before .before .rename-one in (
+    let at-rename-one = c .before .before in let at-loop = at-rename-one .before .before .before in
+    let start = at-loop .before .before .before .before in
+    let a = start .args in
+    let l = at-loop .loop in
+    let f = at-rename-one .rename-one in (
       search needs,
       search needs,
       naming-more (a .n) (take (a .to - a .from) (drop (a .from) (a .s .now))) (a .marks .now) (l .i) (l .t) (f .last .0) (omega arith) (omega arith) (omega arith) (f .ensures .0) (f .ensures .1) ∙ l .inv .2,
@@ -35,8 +37,9 @@ loop-again c =
 
 returns : tie.Need-returns Inv-loop μ-loop
 returns c =
-    let a = c .before .before .before .before .before .args in
-    let l = c .before .loop in
+    let at-loop = c .before in let start = at-loop .before .before .before .before in
+    let a = start .args in
+    let l = at-loop .loop in
     let e : l .i ≡ a .n = omega arith in
     let g = sym (naming-all (a .n) (take (a .to - a .from) (drop (a .from) (a .s .now))) (a .marks .now) (l .i) (l .t) (omega arith)) ∙ l .inv .2 in
     (rw e at g, l .inv .3, l .inv .4)

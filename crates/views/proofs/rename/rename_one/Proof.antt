@@ -11,19 +11,21 @@ use Rattle.views.proofs.rename.rename_one.Tie as tie
 
 returns : tie.Need-returns
 returns c =
-    let a = c .before .before .before .before .before .before .before .before .before .args in
-    let e = c .before .before .put-label in
+    let at-put-label = c .before .before in let at-if1 = at-put-label .before .before in let start = at-if1 .before .before .before .before .before in
+    let a = start .args in
+    let e = at-put-label .put-label in
     let lab = take (a .to - a .from) (drop (a .from) (a .s .now)) in
     let l = label-length (a .s .now) (a .from) (a .to - a .from) (omega arith) in (
       new-label (getD (a .marks .now) (a .i) 0) (take (4 + a .i * 32 + 32) (e .last .0)) (take (4 + a .i * 32) (a .t .now))
-          (relabel lab (take 32 (drop (4 + a .i * 32) (a .t .now)))) (take 32 (drop (4 + a .i * 32) (a .t .now))) (c .before .before .before .before .if1 .taken)
+          (relabel lab (take 32 (drop (4 + a .i * 32) (a .t .now)))) (take 32 (drop (4 + a .i * 32) (a .t .now))) (at-if1 .if1 .taken)
           (label-front (a .t .now) (e .last .0) lab (4 + a .i * 32) (omega arith) (omega (arith, l)) (e .ensures)),
       label-back (a .t .now) (e .last .0) lab (4 + a .i * 32) (omega arith) (omega (arith, l)) (e .ensures),
     )
 
 returns-2 : tie.Need-returns-2
 returns-2 c =
-    let a = c .before .before .before .before .before .args in
+    let start = c .before .before .before .before .before in
+    let a = start .args in
     (old-label (getD (a .marks .now) (a .i) 0) (a .i) (a .t .now) (relabel (take (a .to - a .from) (drop (a .from) (a .s .now))) (take 32 (drop (4 + a .i * 32) (a .t .now)))) (c .if1 .left), refl)
 
 pub rename-one-spec : {M : Type 1} → statement M

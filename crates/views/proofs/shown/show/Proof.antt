@@ -10,8 +10,9 @@ count-of-requires c κs = facts _ (c .before .before .before .pre .0) .head
 
 show-first-requires : tie.Need-show-first-requires
 show-first-requires c κs =
-    let g = facts _ (c .before .before .before .before .before .pre .0) in
-    let e = c .before .count-of .ensures in
+    let at-count-of = c .before in let start = at-count-of .before .before .before .before in
+    let g = facts _ (start .pre .0) in
+    let e = at-count-of .count-of .ensures in
     (omega arith, omega arith, omega arith, omega arith)
 
 same-length : tie.Need-same-length
@@ -19,8 +20,10 @@ same-length c = search needs
 
 returns : tie.Need-returns
 returns c =
-    let a = c .before .before .before .before .before .before .before .before .args in
-    show-gives (a .table .now) (a .rights .now) _ (a .shown .now) _ _ (c .before .before .before .before .before .before .before .before .pre .0) (c .before .before .before .before .count-of .ensures) (c .before .before .show-first .ensures)
+    let at-show-first = c .before .before in let at-count-of = at-show-first .before .before in
+    let start = at-count-of .before .before .before .before in
+    let a = start .args in
+    show-gives (a .table .now) (a .rights .now) _ (a .shown .now) _ _ (start .pre .0) (at-count-of .count-of .ensures) (at-show-first .show-first .ensures)
 
 pub show-spec : {M : Type 1} → statement M
 show-spec = tie.close (tie.spec count-of-requires show-first-requires same-length returns)

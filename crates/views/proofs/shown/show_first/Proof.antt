@@ -19,14 +19,17 @@ loop-holds c = (omega arith, omega arith, refl, refl, refl)
 
 loop-again : tie.Need-loop-again Inv-loop μ-loop
 loop-again c =
-    let a = c .before .before .before .before .before .before .before .before .before .before .before .before .before .before .args in
-    let l = c .before .before .before .before .before .before .before .before .before .before .loop in
-    showing-more (a .table .now) (a .rights .now) (a .shown .now) (a .n) (l .shown) _ (l .depth) (l .k) (l .i) _ _ (c .before .before .before .before .before .number-of .result) (c .before .before .before .before .before .before .is-shown .result) (omega arith) (omega arith) (omega arith) (l .inv) (c .before .before .before .before .before .before .is-shown .ensures) (c .before .before .before .before .before .number-of .ensures) (c .before .before .before .put .ensures .0) (c .before .before .before .put .ensures .1) (c .depth-after .ensures)
+    let at-put = c .before .before .before in let at-number-of = at-put .before .before in let at-is-shown = at-number-of .before in
+    let at-loop = at-is-shown .before .before .before .before in let start = at-loop .before .before .before .before in
+    let a = start .args in
+    let l = at-loop .loop in
+    showing-more (a .table .now) (a .rights .now) (a .shown .now) (a .n) (l .shown) _ (l .depth) (l .k) (l .i) _ _ (at-number-of .number-of .result) (at-is-shown .is-shown .result) (omega arith) (omega arith) (omega arith) (l .inv) (at-is-shown .is-shown .ensures) (at-number-of .number-of .ensures) (at-put .put .ensures .0) (at-put .put .ensures .1) (c .depth-after .ensures)
 
 returns : tie.Need-returns Inv-loop μ-loop
 returns c =
-    let a = c .before .before .before .before .before .args in
-    let l = c .before .loop in
+    let at-loop = c .before in let start = at-loop .before .before .before .before in
+    let a = start .args in
+    let l = at-loop .loop in
     showing-end (a .table .now) (a .rights .now) (a .shown .now) (a .n) (l .shown) (l .depth) (l .k) (l .i) (omega arith) (omega arith) (l .inv)
 
 pub show-first-spec : {M : Type 1} → statement M
