@@ -115,7 +115,7 @@ module _ (s : List ℕ) (a : ℕ) where
   said-fits word.Rule (b, (r, (p, (n, tt)))) g h t = (
     h .1 .1 .0 .stands,
     label-part s _ n (h .1 .1 .1 .0 .stands) (h .1 .1 .1 .0 .holds) (g .1 .1 .1 .0),
-    (r, right-reads s _ r _ (h .1 .0 .follows) (values-stop _ (p, (n, tt)) .no-label) .1),
+    (r, right-reads s _ r _ (h .1 .0 .follows) (values-stop (kind.Path ∷ kind.Label ∷ []) (p, (n, tt)) .no-label) .1),
   )
   said-fits word.Root (l, tt) g h t = label-part s _ l (h .0 .stands) (h .0 .holds) (g .0)
   said-fits word.Child (u, tt) g h t = tree-part s u _ (g .0) t refl (h .0)
