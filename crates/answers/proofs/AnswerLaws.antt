@@ -9,7 +9,7 @@ use lib.ListN.{length, take, drop, length-append, length-take, take-append-drop}
 use lib.Seq.{paste, length-take-le, take-at, drop-at, drop-drop, take-length}
 use borrow.Author.Tests.{lt-ltb, le-ltb, le-leb, lt-leb, leb-true}
 use Rattle.rights.specs.PathText.{decimal}
-use Rattle.answers.specs.AnswerArea.{Puts, Answered, textMost}
+use Rattle.answers.specs.How.AnswerArea.{Puts, Answered, textMost}
 
 -- nothing put
 pub puts-none : (at : ℕ) (a : List ℕ) → Puts [] at a a at

@@ -4,10 +4,10 @@ use mathlib.Core.Path.{_≡_, refl, sym, ap, _∙_}
 use mathlib.Core.Bool.{Bool, true, false, cond}
 use mathlib.Core.List.{List, [], _∷_, _++_, append-assoc}
 use native.Mathlib.Omega.{arith}
-use native.Mathlib.Nat.{zero-add, not-suc-le-zero}
+use native.Mathlib.Nat.{not-suc-le-zero}
 use native.Mathlib.Numerals.{add-one}
 use lib.Dec.{eqb}
-use lib.ListN.{length, getD, take, drop, replicate, drop-of-length-le}
+use lib.ListN.{length, getD, drop, replicate, drop-of-length-le}
 use lib.Seq.{drop-cons}
 use borrow.Author.Tests.{eq-eqb, ne-eqb}
 use Rattle.rights.specs.Nodes.{Node, node, levelOf, labelOf, levelAt, labelAt}
@@ -16,7 +16,7 @@ use Rattle.answers.specs.AnswerChoice.First.{chosen-first}
 use Rattle.answers.specs.Answer.{noneLine, hitLine, hitsOf, hitLines, childLines, viewText, nextLevel, opening, rootLine, endLine}
 use Rattle.rights.specs.Marks.{marked}
 use Rattle.rights.proofs.Lists.{byCase}
-use Rattle.answers.specs.AnswerParts.{nodeAt, hitLineAt, nodeText}
+use Rattle.answers.specs.How.AnswerParts.{nodeAt, hitLineAt, nodeText}
 
 -- Hits
 

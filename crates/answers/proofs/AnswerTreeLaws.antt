@@ -10,16 +10,18 @@ use lib.ListN.{length, replicate, length-replicate}
 use borrow.Author.Tests.{ne-eqb}
 use Rattle.rights.specs.Nodes.{Node, node, levelAt, Nested}
 use Rattle.answers.specs.Answer.{opening, closing, nextLevel, childLines, viewText}
-use Rattle.answers.specs.AnswerTree.{Tree, tree, Trees, none, more, writeTree, writeTrees, nodesOf, nodesIn, linesOf, treeText}
+use Rattle.rights.specs.Bytes.{bytes}
+use Rattle.rights.specs.Tree.{Tree, tree, Trees, none, more, writeTree, writeTrees, nodesOf, nodesIn}
+use Rattle.answers.specs.AnswerTree.{linesOf, treeText}
 
 -- what stands before a tree of level l
 abbrev start : ℕ → List ℕ
-start l = cond (eqb l 1) (40 ∷ 99 ∷ 104 ∷ 105 ∷ 108 ∷ 100 ∷ 32 ∷ []) (32 ∷ [])
+start l = cond (eqb l 1) (bytes "(child ") (32 ∷ [])
 
 opening-start : (l : ℕ) → opening l ≡ start l ++ (40 ∷ [])
 opening-start l = go (eqb l 1)
   where
-    go : (b : Bool) → cond {A = List ℕ} b (40 ∷ 99 ∷ 104 ∷ 105 ∷ 108 ∷ 100 ∷ 32 ∷ 40 ∷ []) (32 ∷ 40 ∷ []) ≡ cond {A = List ℕ} b (40 ∷ 99 ∷ 104 ∷ 105 ∷ 108 ∷ 100 ∷ 32 ∷ []) (32 ∷ []) ++ (40 ∷ [])
+    go : (b : Bool) → cond {A = List ℕ} b (bytes "(child (") (32 ∷ 40 ∷ []) ≡ cond {A = List ℕ} b (bytes "(child ") (32 ∷ []) ++ (40 ∷ [])
     go true = refl
     go false = refl
 
@@ -42,8 +44,9 @@ mutual
       → childLines (nodesOf l t ++ rest) ≡ start l ++ (writeTree t ++ (closing l (nextLevel rest) ++ childLines rest))
   tree-lines l (tree s ts) rest g h =
       rw (opening-start l, trees-lines (suc l) ts rest (omega arith) (omega arith), closing-more l (nextLevel rest) h)
-      (append-assoc (start l) (40 ∷ []) _
-      ∙ ap (λ (x : List ℕ). start l ++ (40 ∷ x)) (sym (append-assoc s _ _ ∙ ap (s ++_) (append-assoc (writeTrees ts) (41 ∷ []) _))))
+      (let x : List ℕ = closing l (nextLevel rest) ++ childLines rest in
+      append-assoc (start l) (40 ∷ []) (s ++ (writeTrees ts ++ (41 ∷ x)))
+      ∙ ap (λ (y : List ℕ). start l ++ (40 ∷ y)) (sym (append-assoc (s ++ writeTrees ts) (41 ∷ []) x ∙ append-assoc s (writeTrees ts) (41 ∷ x))))
 
   -- inside a line: the ends of trees, and the next ones
   trees-lines : (l : ℕ) (ts : Trees) (rest : List Node) → 1 < l → nextLevel rest ≤ l

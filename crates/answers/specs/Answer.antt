@@ -4,6 +4,7 @@ use mathlib.Core.Bool.{cond}
 use mathlib.Core.List.{List, [], _∷_, _++_}
 use lib.Dec.{eqb}
 use lib.ListN.{length, replicate}
+use Rattle.rights.specs.Bytes.{bytes}
 use Rattle.rights.specs.PathText.{decimal}
 use Rattle.rights.specs.Nodes.{Node, levelOf, labelOf}
 
@@ -13,31 +14,31 @@ number n = decimal 20 n
 
 -- `)` and a line feed
 abbrev pub closed : List ℕ
-closed = 41 ∷ 10 ∷ []
+closed = bytes ")\n"
 
 -- "A to D and `user`: `(ok)`."
 abbrev pub okText : List ℕ
-okText = 40 ∷ 111 ∷ 107 ∷ closed
+okText = bytes "(ok)\n"
 
 -- "The answer is `(done S D)`"
 abbrev pub doneText : ℕ → ℕ → List ℕ
-doneText s d = (40 ∷ 100 ∷ 111 ∷ 110 ∷ 101 ∷ 32 ∷ []) ++ (number s ++ ((32 ∷ []) ++ (number d ++ closed)))
+doneText s d = bytes "(done " ++ (number s ++ (bytes " " ++ (number d ++ closed)))
 
 -- `(refused N)`, which the program prints for a refusal
 abbrev pub refusedText : ℕ → List ℕ
-refusedText n = (40 ∷ 114 ∷ 101 ∷ 102 ∷ 117 ∷ 115 ∷ 101 ∷ 100 ∷ 32 ∷ []) ++ (number n ++ closed)
+refusedText n = bytes "(refused " ++ (number n ++ closed)
 
 -- `(end K)`
 abbrev pub endLine : ℕ → List ℕ
-endLine k = (40 ∷ 101 ∷ 110 ∷ 100 ∷ 32 ∷ []) ++ (number k ++ closed)
+endLine k = bytes "(end " ++ (number k ++ closed)
 
 -- `(hit LEVEL L)`
 abbrev pub hitLine : Node → List ℕ
-hitLine n = (40 ∷ 104 ∷ 105 ∷ 116 ∷ 32 ∷ []) ++ (number (levelOf n) ++ ((32 ∷ []) ++ (labelOf n ++ closed)))
+hitLine n = bytes "(hit " ++ (number (levelOf n) ++ (bytes " " ++ (labelOf n ++ closed)))
 
 -- `(none)`
 abbrev pub noneLine : List ℕ
-noneLine = 40 ∷ 110 ∷ 111 ∷ 110 ∷ 101 ∷ closed
+noneLine = bytes "(none)\n"
 
 -- the nodes that are marked, in document order: the hits of a path, where the marks are its selection
 unfoldable pub hitsOf : List ℕ → List Node → List Node
@@ -55,13 +56,13 @@ queryText hits = hitLines hits ++ endLine (length hits)
 
 -- `(root L)`
 abbrev pub rootLine : List ℕ → List ℕ
-rootLine l = (40 ∷ 114 ∷ 111 ∷ 111 ∷ 116 ∷ 32 ∷ []) ++ (l ++ closed)
+rootLine l = bytes "(root " ++ (l ++ closed)
 
 -- A view is printed node by node. AnswerTree has the same text by nested trees, and proofs/AnswerTreeLaws that they are equal.
 
 -- before the label of a node of level l: a child of the root begins a line with `(child (`; any other node is parted by a space
 abbrev pub opening : ℕ → List ℕ
-opening l = cond (eqb l 1) (40 ∷ 99 ∷ 104 ∷ 105 ∷ 108 ∷ 100 ∷ 32 ∷ 40 ∷ []) (32 ∷ 40 ∷ [])
+opening l = cond (eqb l 1) (bytes "(child (") (bytes " (")
 
 -- the trees of level m and deeper that are open below level l end with a `)` each, and the line too if a node of level 1 is next
 abbrev pub closing : ℕ → ℕ → List ℕ

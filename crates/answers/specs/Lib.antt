@@ -1,5 +1,4 @@
 pub mod Answer
 pub mod AnswerChoice
 pub mod AnswerTree
-pub mod AnswerArea
-pub mod AnswerParts
+pub mod How

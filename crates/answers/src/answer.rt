@@ -15,13 +15,14 @@ ghost use mathlib.Core.List.{List, _∷_, [], _++_};
 ghost use Prim.Native.Nat.{ℕ, _+_, _-_, _*_, _%_, _^_, _≤_, _<_, suc};
 ghost use lib.Dec.{leb};
 ghost use lib.ListN.{length, getD, drop, replicate};
+ghost use Rattle.rights.specs.Limits.{labelMax, recordsMax};
 ghost use Rattle.rights.specs.PathText.{decimal};
 ghost use Rattle.rights.specs.Nodes.{recordPlace, levelAt, labelAt, viewOf, Fits};
 ghost use Rattle.answers.specs.Answer.{okText, doneText, refusedText, endLine, hitLine, hitsOf, hitLines, queryText};
 ghost use Rattle.answers.specs.Answer.{viewText, childLines, opening, closing, nextLevel, rootLine};
-ghost use Rattle.answers.specs.AnswerParts.{nodeAt, hitLineAt, nodeText};
+ghost use Rattle.answers.specs.How.AnswerParts.{nodeAt, hitLineAt, nodeText};
 ghost use Rattle.answers.specs.AnswerChoice.{chosen, findText};
-ghost use Rattle.answers.specs.AnswerArea.{Puts, Answered, textMost};
+ghost use Rattle.answers.specs.How.AnswerArea.{Puts, Answered, textMost};
 
 // A number of 64 bits has at most 20 digits.
 const DIGITS_MAX: usize = 20;
@@ -33,7 +34,7 @@ const END_TEXT_MAX: usize = 27;
 
 // Whether an answer of n nodes surely fits.
 fn surely_fits(n: usize, room: usize) -> bool
-    requires { ⌜ n ≤ 16384 ⌝ }
+    requires { ⌜ n ≤ recordsMax ⌝ }
     ensures { λ r. ⌜ r ≡ leb (textMost n) room ⌝ }
 {
     NODE_TEXT_MAX * n + END_TEXT_MAX <= room
@@ -86,7 +87,7 @@ fn put_decimal(area: &mut [u8], at: usize, k: usize, n: usize) -> usize
 fn put_label(area: &mut [u8], at: usize, table: &[u8], shown: &[u16], i: usize) -> usize
     requires { ⌜ (Fits (now table) (now shown)) × (i < length (now shown)) × (at < 2 ^ 62) ⌝ }
     ensures { λ r. ⌜ (Puts (labelAt (viewOf (now (table .entry)) (now (shown .entry))) i) at (now (area .entry)) (now (area .exit)) r)
-        × (r ≤ at + 24) ⌝ }
+        × (r ≤ at + labelMax) ⌝ }
 {
     let x = shown[i];
     if RECORDS_MAX <= wide_number(x) {

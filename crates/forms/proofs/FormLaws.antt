@@ -2,7 +2,7 @@
 use Prim.Native.Nat.{ℕ, zero, suc, _+_, _-_, _≤_, _<_}
 use mathlib.Core.Path.{_≡_, refl, sym, ap, _∙_}
 use mathlib.Core.List.{List, [], _∷_, _++_, map, append-assoc}
-use mathlib.Core.Bool.{Bool, true, false, cond, _&&_}
+use mathlib.Core.Bool.{Bool, false}
 use native.Mathlib.Omega.{arith}
 use native.Mathlib.Numerals.{add-one}
 use lib.Dec.{eqb, leb}
@@ -23,9 +23,9 @@ use Rattle.forms.specs.declared.form.Form.{Form}
 use Rattle.forms.specs.declared.form.Form.the-variants.{NoForm}
 use Rattle.forms.specs.Word.{wordAt}
 use Rattle.forms.specs.Part.{runEnd}
-use Rattle.forms.specs.Kind.{Kind, Label, Path, Tree, Sign, Right, codeOf, isTree, partEnd, endBy}
-use Rattle.forms.specs.Tree.{_andThen_, recordsOf}
-use Rattle.forms.specs.Form.{shapeOf, codesOf, onePart, oneBy, Places, are, none, _onTo_, closes, partsOf, placeIn, treePlace, nodesAt, formWith, formBy, nodesBy, endsIn, readForm, treeIn, PartsPut}
+use Rattle.forms.specs.Kind.{Kind, Label, Path, Tree, Sign, Right, codeOf, partEnd, endBy}
+use Rattle.forms.specs.Tree.{recordsOf}
+use Rattle.forms.specs.Form.{shapeOf, codesOf, onePart, oneBy, Places, are, none, _onTo_, closes, partsOf, placeIn, treePlace, nodesAt, formWith, endsIn, readForm, treeIn, PartsPut}
 
 -- A shape's kinds by their numbers
 
@@ -110,7 +110,6 @@ set-past xs i e h j l = getD-set-other xs i j e 0 (λ z. omega arith) ∙ h j (o
 
 -- i parts of the shape ks are read, up to e, and their places stand in ends
 pub record Reading (ks : List Kind) (s : List ℕ) (at e i : ℕ) (ends : List ℕ) : Type 0 where
-  pub few : i ≤ length ks
   pub size : length ends ≡ 5
   pub on : e ≤ length s
   pub read : partsOf ks s at ≡ take i ends onTo partsOf (drop i ks) s e
@@ -119,7 +118,7 @@ pub record Reading (ks : List Kind) (s : List ℕ) (at e i : ℕ) (ends : List �
 
 pub reading-starts : (ks : List Kind) (s : List ℕ) (at : ℕ) (ends : List ℕ) → at ≤ length s → length ends ≡ 5 → ((j : ℕ) → placeIn ends j ≡ 0) → Reading ks s at at 0 ends
 reading-starts ks s at ends l e z =
-    record { few = omega arith; size = e; on = l; read = sym (onto-none (partsOf ks s at)); past = λ j _. z j; under = λ j. omega (arith, z j) }
+    record { size = e; on = l; read = sym (onto-none (partsOf ks s at)); past = λ j _. z j; under = λ j. omega (arith, z j) }
 
 module _ (ks : List Kind) (s : List ℕ) (at e i : ℕ) (ends : List ℕ) (w : Reading ks s at e i ends) where
   module _ (h : getD (codesOf ks) i 0 ≡ 0 → ⊥) where
@@ -141,7 +140,6 @@ module _ (ks : List Kind) (s : List ℕ) (at e i : ℕ) (ends : List ℕ) (w : R
         let g = w .size in
         let t : take (suc i) (set ends i e) ≡ take i ends ++ (e ∷ []) = take-suc-set ends i e (omega arith) in
         record {
-          few = omega (arith, x .3);
           size = length-set ends i e ∙ g;
           on = m;
           read = w .read ∙ rw (x .1, o, add-one i, t) (sym (onto-onto (take i ends) (e ∷ []) (partsOf (drop (suc i) ks) s n)));

@@ -1,38 +1,33 @@
 -- What is read as a form is what is written as one. Assumes nothing.
-use Prim.Native.Nat.{ℕ, zero, suc, _+_, _-_, _≤_, _<_}
+use Prim.Native.Nat.{ℕ, suc, _+_, _≤_}
 use mathlib.Core.Path.{_≡_, refl, sym, ap, subst, _∙_}
-use mathlib.Core.List.{List, [], _∷_, _++_, append-nil}
+use mathlib.Core.List.{List, [], _∷_, _++_}
 use mathlib.Core.Bool.{Bool, true, false, cond, _&&_}
 use mathlib.Core.Logic.{_⊎_, inl, inr, _↔_}
 use native.Mathlib.Omega.{arith}
-use native.Mathlib.Numerals.{add-one}
-use native.Mathlib.Nat.{add-zero}
 use lib.Dec.{eqb, leb}
 use lib.ListN.{length, getD, take, drop, length-drop, drop-of-length-le}
 use lib.Seq.{drop-append-seam, take-append-seam}
 use borrow.Author.Tests.{le-leb, leb-true, eqb-true, eqb-false}
-use Rattle.rights.specs.Bytes.{byteAt, all, run}
+use Rattle.rights.specs.Bytes.{byteAt, all}
 use Rattle.rights.specs.Labels.{labelByte}
-use Rattle.rights.specs.Nodes.{Node}
 use Rattle.rights.specs.Policy.{Right, position, read, insert, update, delete, bitOf}
 use Rattle.rights.specs.PathReader.{runAt}
 use Rattle.rights.specs.declared.path.Read.{Read}
 use Rattle.rights.specs.declared.path.Read.the-variants.{At, Bad}
-use Rattle.rights.proofs.Lists.{byCase}
-use Rattle.rights.proofs.PathTexts.{and-left, and-right, cond-elim, Reads, reads-more, reads-byte, reads-take, run-all, run-length, run-over, byte-here}
+use Rattle.rights.proofs.PathTexts.{and-left, and-right, cond-elim, Reads, reads-byte, reads-take, run-all, run-length, run-over, byte-here}
 use Rattle.forms.specs.declared.word.Word.{Word}
 use Rattle.forms.specs.declared.word.Word.the-variants as word
 use Rattle.forms.specs.declared.form.Form.{Form}
 use Rattle.forms.specs.declared.form.Form.the-variants.{NoForm}
 use Rattle.forms.specs.Word.{letters, accept, deny, words, signs, rights, sameText, among, labelAt, wordAt, signAt, rightAt}
 use Rattle.forms.specs.Part.{pathByte, labelEnd, runEnd, knownEnd}
-use Rattle.forms.specs.Kind.{Kind, Label, Path, Tree, Sign, Right as RightKind, codeOf, partEnd}
-use Rattle.forms.specs.Tree.{_andThen_, treeNodes}
-use Rattle.forms.specs.TreeText.{writeTree, GoodTree, GoodLabel, nodesOf}
-use Rattle.forms.specs.Form.{shapeOf, onePart, Places, are, none, _onTo_, closes, partsOf, placeIn, treePlace, nodesAt, formWith, formBy, nodesBy, endsIn, readForm, treeIn}
+use Rattle.forms.specs.Kind.{Kind, Label, Path, Tree, Sign, Right as RightKind, partEnd}
+use Rattle.forms.specs.Tree.{_andThen_}
+use Rattle.forms.specs.Form.{shapeOf, onePart, Places, are, none, _onTo_, closes, partsOf, placeIn, treePlace, nodesAt, formWith, endsIn, readForm, treeIn}
 use Rattle.forms.specs.FormText.{Value, Values, Said, writeRight, writeValue, writeValues, write, GoodValue, GoodValues, Good, nodesOr, nodesSaid}
-use Rattle.forms.proofs.WordLaws.{Every, among-is, among-or}
-use Rattle.forms.proofs.TreeTextLaws.{drop-over, label-reads, tree-complete, TreeRead, tree-sound, tree-unique, label-unique}
+use Rattle.forms.proofs.WordLaws.{among-is, among-or}
+use Rattle.forms.proofs.TreeTextLaws.{drop-over, label-reads, tree-complete, tree-sound, tree-unique, label-unique}
 
 -- A form that is written is read
 

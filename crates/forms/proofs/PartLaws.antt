@@ -1,16 +1,15 @@
 -- Where parts end, case by case, as the code goes through them. Assumes nothing.
 use Prim.Native.Nat.{ℕ, _+_, _≤_, _<_}
-use mathlib.Core.Path.{_≡_, refl, sym, ap, _∙_}
+use mathlib.Core.Path.{_≡_, refl, sym, ap}
 use mathlib.Core.List.{List}
-use mathlib.Core.Bool.{Bool, true, false, cond}
+use mathlib.Core.Bool.{Bool}
 use native.Mathlib.Omega.{arith}
-use lib.Dec.{eqb, leb}
+use lib.Dec.{leb}
 use lib.ListN.{length}
 use borrow.Author.Tests.{le-leb, lt-leb, leb-true, leb-false, ne-eqb}
 use Rattle.rights.specs.Bytes.{byteAt}
 use Rattle.rights.specs.Labels.{labelByte}
 use Rattle.rights.specs.PathReader.{runAt, Onward, Ends}
-use Rattle.rights.specs.declared.path.Read.{Read}
 use Rattle.rights.specs.declared.path.Read.the-variants.{At, Bad}
 use Rattle.rights.proofs.Lists.{byCase}
 use Rattle.rights.proofs.PathLaws.{bad-onward, at-onward}

@@ -8,7 +8,7 @@ use Rattle.rights.specs.declared.path.Read.{Read}
 use Rattle.rights.specs.declared.path.Read.the-variants.{At, Bad}
 use Rattle.rights.proofs.PathLaws.{bad-onward, at-onward}
 use Rattle.forms.specs.Part.{movedTo}
-use Rattle.forms.specs.Reader.{placeAfter, Takes}
+use Rattle.forms.specs.How.Reader.{placeAfter, Takes}
 
 -- a reader stands after what was read, or where it stood
 pub onward-takes : (want r : Read) (from end : ℕ) → from ≤ end → Onward want r (from + 1) end → Takes want from (placeAfter from r) end

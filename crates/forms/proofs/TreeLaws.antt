@@ -1,8 +1,8 @@
 -- The readers of a tree, case by case, as the code goes through them. Assumes nothing.
 use Prim.Native.Nat.{ℕ, zero, suc, _+_, _-_, _*_, _≤_, _<_}
 use mathlib.Core.Path.{_≡_, refl, sym, ap, _∙_}
-use mathlib.Core.List.{List, [], _∷_, _++_}
-use mathlib.Core.Bool.{Bool, true, false, cond, _&&_}
+use mathlib.Core.List.{List, [], _∷_}
+use mathlib.Core.Bool.{_&&_}
 use native.Mathlib.Omega.{arith}
 use native.Mathlib.Nat.{add-zero}
 use lib.Dec.{eqb, leb}
@@ -20,8 +20,8 @@ use Rattle.rights.proofs.PathTexts.{and-left, and-right}
 use Rattle.rights.proofs.RecordLaws.{pasted-pasted, pasted-none}
 use Rattle.rights.proofs.RecordMade.{length-node}
 use Rattle.forms.specs.Part.{labelEnd}
-use Rattle.rights.specs.Nodes.{Node, node}
-use Rattle.forms.specs.Tree.{_andThen_, openEnd, tailEnd, tailNodes, treeEnd, treeNodes, recordsOf, held, TailEnd, TailPut}
+use Rattle.rights.specs.Nodes.{node}
+use Rattle.forms.specs.Tree.{openEnd, tailEnd, tailNodes, treeEnd, treeNodes, recordsOf, held, TailEnd, TailPut}
 
 pub rest-length : (s : List ℕ) (e : ℕ) → length (take (length s - e) (drop e s)) ≡ length s - e
 rest-length s e = rw (rest-of s e, length-drop e s)

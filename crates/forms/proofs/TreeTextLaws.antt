@@ -1,26 +1,26 @@
 -- What is read as a tree is what is written as one, and its nodes are the tree's in document order. Assumes nothing.
-use Prim.Native.Nat.{ℕ, zero, suc, _+_, _-_, _*_, _≤_, _<_}
+use Prim.Native.Nat.{ℕ, zero, suc, _+_, _-_, _*_, _≤_}
 use mathlib.Core.Path.{_≡_, refl, sym, ap, _∙_}
 use mathlib.Core.List.{List, [], _∷_, _++_, append-assoc, append-nil}
-use mathlib.Core.Bool.{Bool, true, false, cond, _&&_}
+use mathlib.Core.Bool.{true, false}
 use native.Mathlib.Omega.{arith}
 use native.Mathlib.Numerals.{add-one}
 use native.Mathlib.Nat.{add-zero}
-use lib.Dec.{eqb, leb}
+use lib.Dec.{eqb}
 use lib.ListN.{length, getD, take, drop, length-append, length-drop}
-use lib.Seq.{drop-drop, drop-append-seam, take-append-seam, drop-cons}
-use borrow.Author.Tests.{ne-eqb, eq-eqb, le-leb, eqb-true, eqb-false}
+use lib.Seq.{drop-drop, drop-append-seam, take-append-seam}
+use borrow.Author.Tests.{ne-eqb, le-leb, eqb-true, eqb-false}
 use Rattle.rights.specs.Bytes.{byteAt, all, run}
 use Rattle.rights.specs.Labels.{labelByte}
 use Rattle.rights.specs.PathReader.{runAt}
 use Rattle.rights.specs.declared.path.Read.{Read}
 use Rattle.rights.specs.declared.path.Read.the-variants.{At, Bad}
-use Rattle.rights.proofs.Lists.{byCase}
-use Rattle.rights.proofs.PathTexts.{and-left, and-right, cond-elim, Reads, reads-more, reads-byte, reads-take, run-all, run-length, run-over, byte-here}
+use Rattle.rights.proofs.PathTexts.{cond-elim, Reads, reads-more, reads-byte, reads-take, run-all, run-length, run-over, byte-here}
 use Rattle.forms.specs.Part.{labelEnd}
 use Rattle.rights.specs.Nodes.{Node, node}
 use Rattle.forms.specs.Tree.{_andThen_, openEnd, tailEnd, tailNodes, treeEnd, treeNodes}
-use Rattle.forms.specs.TreeText.{Tree, tree, Trees, none, more, writeTree, writeTrees, GoodLabel, GoodTree, GoodTrees, nodesOf, nodesIn}
+use Rattle.rights.specs.Tree.{Tree, tree, Trees, none, more, writeTree, writeTrees, nodesOf, nodesIn}
+use Rattle.forms.specs.TreeText.{GoodLabel, GoodTree, GoodTrees}
 use Rattle.forms.proofs.TreeLaws.{Opened, opened}
 
 -- A tree that is written is read

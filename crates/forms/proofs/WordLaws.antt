@@ -1,22 +1,21 @@
 -- Words by their letters and by their numbers. Assumes nothing.
-use Prim.Native.Nat.{ℕ, zero, suc, _+_, _-_, _*_, _^_, _≤_, _<_}
+use Prim.Native.Nat.{ℕ, suc, _+_, _-_, _*_, _^_, _≤_, _<_}
 use mathlib.Core.Path.{_≡_, refl, sym, ap, _∙_}
 use mathlib.Core.List.{List, [], _∷_}
-use mathlib.Core.Bool.{Bool, true, false, cond, _&&_, _||_}
+use mathlib.Core.Bool.{Bool, true, false, _&&_, _||_}
 use mathlib.Core.Logic.{_⊎_, inl, inr}
 use native.Mathlib.Nat.{pow-succ', pow-le-pow-right}
-use native.Mathlib.Numerals.{add-one}
 use native.Mathlib.Omega.{arith}
 use lib.Dec.{eqb, leb}
 use lib.ListN.{length, getD, take, drop}
 use lib.Seq.{drop-cons}
-use borrow.Author.Tests.{eqb-true, eqb-false, eq-eqb, ne-eqb, leb-true, leb-false, le-leb}
-use Rattle.rights.specs.Bytes.{within, all, run}
+use borrow.Author.Tests.{eqb-true, eqb-false, eq-eqb, ne-eqb, leb-true, leb-false}
+use Rattle.rights.specs.Bytes.{within, all}
 use Rattle.rights.specs.Labels.{labelByte}
 use Rattle.rights.specs.PathReader.{runAt}
 use Rattle.rights.proofs.Lists.{byCase}
 use Rattle.rights.proofs.PathTexts.{and-left, and-right, run-all, run-length}
-use Rattle.forms.specs.Word.{number, numberAt, numbered, sameText, among, labelAt}
+use Rattle.forms.specs.Word.{number, numberAt, byNumber, sameText, among, labelAt}
 
 -- The number of a text, from its end
 
@@ -125,8 +124,8 @@ same-at s at w g =
         (λ e. e)
 
 -- So looking a word up by its number is looking it up by its letters
-pub numbered-among : {A : Type 0} (other : A) (t : List (List ℕ × A)) → wordTexts t ≡ true → (s : List ℕ) (at : ℕ) → numbered other t (numberAt s at) ≡ among other t (labelAt s at)
-unfolding numbered among
+pub numbered-among : {A : Type 0} (other : A) (t : List (List ℕ × A)) → wordTexts t ≡ true → (s : List ℕ) (at : ℕ) → byNumber other t (numberAt s at) ≡ among other t (labelAt s at)
+unfolding byNumber among
 numbered-among other [] g s at = refl
 numbered-among other ((w, x) ∷ rest) g s at =
     rw (same-at s at w (and-left (wordText w) (wordTexts rest) g), numbered-among other rest (and-right (wordText w) (wordTexts rest) g) s at)

@@ -1,6 +1,6 @@
 -- How a line's form is read (document 01, "Lines"): its word, then the parts of the word's shape. What is read stands in FormText.
 -- A new form is a word with its letters, a variant of Form, and a clause in shapeOf and in formWith.
-use Prim.Native.Nat.{ℕ, suc, _+_, _-_, _≤_, _<_}
+use Prim.Native.Nat.{ℕ, suc, _+_, _-_, _<_}
 use mathlib.Core.Path.{_≡_}
 use mathlib.Core.Bool.{Bool, true, false, cond, _&&_}
 use mathlib.Core.List.{List, [], _∷_, _++_, map}

@@ -4,7 +4,7 @@ use mathlib.Core.Path.{_≡_}
 use mathlib.Core.Bool.{Bool, true, cond}
 use mathlib.Core.List.{List, [], _∷_, _++_}
 use lib.ListN.{length}
-use Rattle.rights.specs.Bytes.{all}
+use Rattle.rights.specs.Bytes.{bytes, all}
 use Rattle.rights.specs.Policy.{Right, position, read, insert, update, delete}
 use Rattle.rights.specs.Nodes.{Node}
 use Rattle.forms.specs.declared.word.Word.{Word}
@@ -13,7 +13,8 @@ use Rattle.forms.specs.Part.{pathByte}
 use Rattle.forms.specs.Kind.{Kind}
 use Rattle.forms.specs.Kind as kind
 use Rattle.forms.specs.Form.{shapeOf}
-use Rattle.forms.specs.TreeText.{Tree, writeTree, GoodTree, GoodLabel, nodesOf}
+use Rattle.rights.specs.Tree.{Tree, writeTree, nodesOf}
+use Rattle.forms.specs.TreeText.{GoodTree, GoodLabel}
 
 -- What a part of each kind says: a label or a path its text, a tree, whether a sign accepts, a right
 abbrev pub Value : Kind → Type 0
@@ -33,11 +34,11 @@ pub record Said : Type 0 where
   pub values : Values (shapeOf word)
 
 unfoldable pub writeRight : Right → List ℕ
-writeRight position = 112 ∷ 111 ∷ 115 ∷ 105 ∷ 116 ∷ 105 ∷ 111 ∷ 110 ∷ []
-writeRight read = 114 ∷ 101 ∷ 97 ∷ 100 ∷ []
-writeRight insert = 105 ∷ 110 ∷ 115 ∷ 101 ∷ 114 ∷ 116 ∷ []
-writeRight update = 117 ∷ 112 ∷ 100 ∷ 97 ∷ 116 ∷ 101 ∷ []
-writeRight delete = 100 ∷ 101 ∷ 108 ∷ 101 ∷ 116 ∷ 101 ∷ []
+writeRight position = bytes "position"
+writeRight read = bytes "read"
+writeRight insert = bytes "insert"
+writeRight update = bytes "update"
+writeRight delete = bytes "delete"
 
 unfoldable pub writeValue : (k : Kind) → Value k → List ℕ
 writeValue kind.Label l = l

@@ -3,7 +3,7 @@ pub mod Word
 pub mod Part
 pub mod Tree
 pub mod Kind
-pub mod Reader
 pub mod Form
 pub mod TreeText
 pub mod FormText
+pub mod How

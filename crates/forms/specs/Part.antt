@@ -3,6 +3,7 @@ use Prim.Native.Nat.{ℕ, _+_}
 use mathlib.Core.Bool.{Bool, cond, _&&_, _||_}
 use mathlib.Core.List.{List}
 use lib.Dec.{leb, eqb}
+use Rattle.rights.specs.Limits.{labelMax}
 use Rattle.rights.specs.Bytes.{within}
 use Rattle.rights.specs.Labels.{labelByte}
 use Rattle.rights.specs.PathReader.{runAt}
@@ -16,7 +17,7 @@ pathByte b = within 33 39 b || within 42 126 b
 -- a label of 1 to 24 bytes
 unfoldable pub labelEnd : List ℕ → ℕ → Read
 labelEnd s at =
-    cond (leb 1 (runAt labelByte s at) && leb (runAt labelByte s at) 24) (At (at + runAt labelByte s at)) Bad
+    cond (leb 1 (runAt labelByte s at) && leb (runAt labelByte s at) labelMax) (At (at + runAt labelByte s at)) Bad
 
 -- one byte or more of a class: a path's bytes, or a word's, which are label bytes
 unfoldable pub runEnd : (ℕ → Bool) → List ℕ → ℕ → Read

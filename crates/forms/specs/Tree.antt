@@ -1,4 +1,4 @@
--- How a tree is read, `(label tree ...)`, and the records that hold it (document 01, "Tree and table"). What is read stands in TreeText.
+-- How a tree is read, `(label tree ...)`, and the records that hold it (document 01, "Tree and table"). What is read is a Tree (rights, specs/Tree).
 use Prim.Native.Nat.{ℕ, zero, suc, _+_, _-_, _*_, _≤_, min}
 use mathlib.Core.Path.{_≡_}
 use mathlib.Core.List.{List, [], _∷_, _++_}

@@ -4,6 +4,7 @@ use mathlib.Core.Bool.{Bool, true, false, cond, _&&_}
 use mathlib.Core.List.{List, [], _∷_}
 use lib.Dec.{eqb, leb}
 use lib.ListN.{take, drop}
+use Rattle.rights.specs.Bytes.{bytes}
 use Rattle.rights.specs.Labels.{labelByte}
 use Rattle.rights.specs.PathReader.{runAt}
 use Rattle.rights.specs.Policy.{bitOf, position, read, insert, update, delete}
@@ -12,28 +13,28 @@ use Rattle.forms.specs.declared.word.Word.the-variants.{Subject, Isa, Ru
 
 -- how each form's word is written
 abbrev pub letters : Word → List ℕ
-letters Subject = 115 ∷ 117 ∷ 98 ∷ 106 ∷ 101 ∷ 99 ∷ 116 ∷ []
-letters Isa = 105 ∷ 115 ∷ 97 ∷ []
-letters Rule = 114 ∷ 117 ∷ 108 ∷ 101 ∷ []
-letters Root = 114 ∷ 111 ∷ 111 ∷ 116 ∷ []
-letters Child = 99 ∷ 104 ∷ 105 ∷ 108 ∷ 100 ∷ []
-letters User = 117 ∷ 115 ∷ 101 ∷ 114 ∷ []
-letters View = 118 ∷ 105 ∷ 101 ∷ 119 ∷ []
-letters Query = 113 ∷ 117 ∷ 101 ∷ 114 ∷ 121 ∷ []
-letters Find = 102 ∷ 105 ∷ 110 ∷ 100 ∷ []
-letters Rename = 114 ∷ 101 ∷ 110 ∷ 97 ∷ 109 ∷ 101 ∷ []
-letters Update = 117 ∷ 112 ∷ 100 ∷ 97 ∷ 116 ∷ 101 ∷ []
-letters Append = 97 ∷ 112 ∷ 112 ∷ 101 ∷ 110 ∷ 100 ∷ []
-letters Before = 98 ∷ 101 ∷ 102 ∷ 111 ∷ 114 ∷ 101 ∷ []
-letters After = 97 ∷ 102 ∷ 116 ∷ 101 ∷ 114 ∷ []
-letters Remove = 114 ∷ 101 ∷ 109 ∷ 111 ∷ 118 ∷ 101 ∷ []
+letters Subject = bytes "subject"
+letters Isa = bytes "isa"
+letters Rule = bytes "rule"
+letters Root = bytes "root"
+letters Child = bytes "child"
+letters User = bytes "user"
+letters View = bytes "view"
+letters Query = bytes "query"
+letters Find = bytes "find"
+letters Rename = bytes "rename"
+letters Update = bytes "update"
+letters Append = bytes "append"
+letters Before = bytes "before"
+letters After = bytes "after"
+letters Remove = bytes "remove"
 letters Other = []
 
 abbrev pub accept : List ℕ
-accept = 97 ∷ 99 ∷ 99 ∷ 101 ∷ 112 ∷ 116 ∷ []
+accept = bytes "accept"
 
 abbrev pub deny : List ℕ
-deny = 100 ∷ 101 ∷ 110 ∷ 121 ∷ []
+deny = bytes "deny"
 
 -- tables of texts and what each stands for
 abbrev pub words : List (List ℕ × Word)
@@ -58,14 +59,13 @@ words =
 abbrev pub signs : List (List ℕ × ℕ)
 signs = (accept, 1) ∷ (deny, 2) ∷ []
 
--- position, read, insert, update, delete
 abbrev pub rights : List (List ℕ × ℕ)
 rights =
-    (112 ∷ 111 ∷ 115 ∷ 105 ∷ 116 ∷ 105 ∷ 111 ∷ 110 ∷ [], bitOf position)
-    ∷ (114 ∷ 101 ∷ 97 ∷ 100 ∷ [], bitOf read)
-    ∷ (105 ∷ 110 ∷ 115 ∷ 101 ∷ 114 ∷ 116 ∷ [], bitOf insert)
-    ∷ (117 ∷ 112 ∷ 100 ∷ 97 ∷ 116 ∷ 101 ∷ [], bitOf update)
-    ∷ (100 ∷ 101 ∷ 108 ∷ 101 ∷ 116 ∷ 101 ∷ [], bitOf delete)
+    (bytes "position", bitOf position)
+    ∷ (bytes "read", bitOf read)
+    ∷ (bytes "insert", bitOf insert)
+    ∷ (bytes "update", bitOf update)
+    ∷ (bytes "delete", bitOf delete)
     ∷ []
 
 -- two texts are equal, byte by byte
@@ -102,6 +102,6 @@ number (x ∷ xs) = number xs * 256 + x
 unfoldable pub numberAt : List ℕ → ℕ → ℕ
 numberAt s at = cond (leb (runAt labelByte s at) 8) (number (labelAt s at)) 0
 
-unfoldable pub numbered : {A : Type 0} → A → List (List ℕ × A) → ℕ → A
-numbered other [] n = other
-numbered other ((w, x) ∷ rest) n = cond (eqb n (number w)) x (numbered other rest n)
+unfoldable pub byNumber : {A : Type 0} → A → List (List ℕ × A) → ℕ → A
+byNumber other [] n = other
+byNumber other ((w, x) ∷ rest) n = cond (eqb n (number w)) x (byNumber other rest n)

@@ -9,7 +9,7 @@ ghost use Prim.Native.Nat.{_+_, _≤_};
 ghost use lib.ListN.{length};
 ghost use Rattle.rights.specs.PathReader.{Onward};
 ghost use Rattle.forms.specs.Kind.{endBy};
-ghost use Rattle.forms.specs.Reader.{Takes, placeAfter};
+ghost use Rattle.forms.specs.How.Reader.{Takes, placeAfter};
 
 pub struct LineReader<'a> {
     line: &'a [u8],

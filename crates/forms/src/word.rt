@@ -4,7 +4,7 @@ use rights::path::label_end;
 ghost use mathlib.Core.Path.{_≡_};
 ghost use Prim.Native.Nat.{_+_, _-_, _≤_};
 ghost use lib.ListN.{length, take, drop};
-ghost use Rattle.forms.specs.Word.{number, numberAt, numbered, words, signs, rights, wordAt, signAt, rightAt};
+ghost use Rattle.forms.specs.Word.{number, numberAt, byNumber, words, signs, rights, wordAt, signAt, rightAt};
 
 pub enum Word {
     Subject,
@@ -52,7 +52,7 @@ fn number_at(s: &[u8], at: usize) -> u64
 }
 
 fn numbered_word(n: u64) -> Word
-    ensures { λ r. ⌜ r ≡ numbered Word.Other words n ⌝ }
+    ensures { λ r. ⌜ r ≡ byNumber Word.Other words n ⌝ }
 {
     match n {
         32760384526120307 => Word::Subject,
@@ -75,7 +75,7 @@ fn numbered_word(n: u64) -> Word
 }
 
 fn numbered_sign(n: u64) -> u8
-    ensures { λ r. ⌜ r ≡ numbered 0 signs n ⌝ }
+    ensures { λ r. ⌜ r ≡ byNumber 0 signs n ⌝ }
 {
     match n {
         128026086171489 => 1,
@@ -85,7 +85,7 @@ fn numbered_sign(n: u64) -> u8
 }
 
 fn numbered_right(n: u64) -> u8
-    ensures { λ r. ⌜ r ≡ numbered 0 rights n ⌝ }
+    ensures { λ r. ⌜ r ≡ byNumber 0 rights n ⌝ }
 {
     match n {
         7957695015293251440 => 1,

@@ -5,7 +5,7 @@ use mathlib.Core.Bool.{true}
 use mathlib.Core.List.{List, [], _∷_, map}
 use lib.ListN.{drop}
 use Rattle.guarantee.specs.Alike.{Input, outcome}
-use Rattle.guarantee.specs.Cases.{bytes, replies, newState, newTable, input, Case, Answered, Starred}
+use Rattle.guarantee.specs.Cases.{replies, newState, newTable, input, Case, Answered, Starred}
 use Rattle.guarantee.specs.Cases.{exampleAnswered, exampleRenamed, bracketHolds, bracketCounts, noRules, rootRemoved, lessonRemoved, levels, fewRecords}
 use Rattle.rights.specs.Bytes.{digitByte, run, all, every}
 use Rattle.rights.specs.Labels.{labelByte, folded, sameLabel}
@@ -17,12 +17,12 @@ use Rattle.rights.specs.Isa.{isBy, standsFor, subjectsWhere, passesOwn}
 use Rattle.rights.specs.PolicyBytes.{testOf, namesFrom, isaFrom, stepsFrom, rulesFrom, policyOf}
 use Rattle.rights.specs.PolicyCheck.{subjectsOk, isasOk, rulesOk, policyOk}
 use Rattle.rights.specs.Record.{padded, recordOf}
-use Rattle.rights.specs.Rights.{finds as findsIn, decide, rightsBy, chains}
+use Rattle.rights.specs.Rights.{reaches, decide, rightsBy, chains}
 use Rattle.rights.specs.Nodes.{levelAt, labelAt}
-use Rattle.rights.specs.Selection.{someFrom, before, above, findsFrom, keeps, selects, selected, bitsFrom}
+use Rattle.rights.specs.XPath.{filter, withNumber, each, stretch, nodeSet, filtered, xpathSelected}
 use Rattle.rights.specs.Table.{recordsFrom, recordsOk, tableOk}
 use Rattle.views.specs.Shown.{storedFrom, atParent, nearestFirst, shownAfter, keep}
-use Rattle.rights.specs.Marks.{eachFrom}
+use Rattle.rights.specs.Marks.{eachFrom, bitsFrom}
 use Rattle.views.specs.Change.{dropBelow, putBehind, remove, insertBehind, rename, chunks, raise, join, changed, deepest, tooDeep}
 use Rattle.views.specs.Done.{inTable}
 use Rattle.answers.specs.Answer.{hitsOf, hitLines, childLines, viewText}
@@ -73,7 +73,7 @@ small-passes = refl
 
 -- what the lines of a row give from a new store, where 13 is not computed
 unfoldable given : Choice → Case → List Reply
-unfolding bytes passedReplies passed digitByte run all labelByte sameLabel passes readTest readStep numberOf isPosition readPosition closes readBrackets readSteps unslashed brackets steps pathOf decimal writeTest some passesOwn policyWord testOf namesFrom isaFrom stepsFrom rulesFrom policyOf recordOf isBy findsIn decide rightsBy chains levelAt labelAt someFrom before above findsFrom keeps selects selected bitsFrom recordsFrom storedFrom atParent nearestFirst shownAfter keep eachFrom dropBelow putBehind remove insertBehind rename chunks raise join changed deepest tooDeep inTable hitsOf hitLines childLines viewText sameText among wordAt signAt rightAt pathByte labelEnd openEnd tailEnd treeEnd tailNodes treeNodes recordsOf partsOf endsIn readForm treeIn subjectFrom subjectNamed isaHeld bracketed hasBracket stepList stepsIn pathRestricted stepRecords withLine lineByte lineOk checked performed rootAlone treeRestricted folded padded standsFor subjectsWhere runEnd knownEnd treePlace
+unfolding passedReplies passed digitByte run all labelByte sameLabel passes readTest readStep numberOf isPosition readPosition closes readBrackets readSteps unslashed brackets steps pathOf decimal writeTest some passesOwn policyWord testOf namesFrom isaFrom stepsFrom rulesFrom policyOf recordOf isBy reaches decide rightsBy chains levelAt labelAt filter withNumber each stretch nodeSet filtered xpathSelected bitsFrom recordsFrom storedFrom atParent nearestFirst shownAfter keep eachFrom dropBelow putBehind remove insertBehind rename chunks raise join changed deepest tooDeep inTable hitsOf hitLines childLines viewText sameText among wordAt signAt rightAt pathByte labelEnd openEnd tailEnd treeEnd tailNodes treeNodes recordsOf partsOf endsIn readForm treeIn subjectFrom subjectNamed isaHeld bracketed hasBracket stepList stepsIn pathRestricted stepRecords withLine lineByte lineOk checked performed rootAlone treeRestricted folded padded standsFor subjectsWhere runEnd knownEnd treePlace
 given choice c = passedReplies choice newState (newTable (c .capacity)) (map input (c .turns))
 
 abbrev Gives : Choice → Case → Type 0

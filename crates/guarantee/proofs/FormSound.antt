@@ -22,7 +22,7 @@ use Rattle.views.specs.Change.{isDone, lower, hasRoom}
 use Rattle.views.specs.Done.{Asked, isRoot, renamable, does, askedOf, doneMarks}
 use Rattle.rights.specs.Marks.{marksOf, eachFrom}
 use Rattle.views.specs.Nodes.{LabelOk}
-use Rattle.views.specs.Pass.{AtDone}
+use Rattle.views.specs.How.Pass.{AtDone}
 use Rattle.views.specs.declared.done.Change.{Change}
 use Rattle.views.specs.declared.done.Change.the-variants as change
 use Rattle.views.specs.declared.insert.Place.{Place}

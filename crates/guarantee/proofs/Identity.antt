@@ -28,7 +28,7 @@ use Rattle.forms.specs.declared.form.Part.{Part}
 use Rattle.forms.specs.declared.form.Form.{Form}
 use Rattle.forms.specs.declared.form.Form.the-variants.{Remove}
 use Rattle.guarantee.specs.Alike.{Input, outcome}
-use Rattle.guarantee.specs.Identity.{Tagged, taggedLevel, new, newTree, afterInsert, afterRename, afterRemove, afterEffect, afterReply, effectOf, follow, followAll, tableAfterAll, Follows, numbered, tagAt, NodesKept, NodesRemoved, NoneBack, OrderKept}
+use Rattle.guarantee.specs.Identity.{Tagged, taggedLevel, new, newTree, afterInsert, afterRename, afterRemove, afterEffect, afterReply, effectOf, follow, followAll, tableAfterAll, Follows, tagAll, tagAt, NodesKept, NodesRemoved, NoneBack, OrderKept}
 use Rattle.lines.proofs.StateLaws.{store-held}
 use Rattle.rights.specs.Record.{nodeRecord}
 use Rattle.guarantee.proofs.CheckLaws.{Refused}
@@ -184,12 +184,12 @@ rises-part Sublistᴰ·slnil k = tt
 rises-part (Sublistᴰ·cons d) k = rises-part d (k .1)
 rises-part (Sublistᴰ·cons-cons e d) k = (rw e (all-part (λ y. _ < y) d (k .0)), rises-part d (k .1))
 
-over : (h i : ℕ) (rs : List (List ℕ)) → h < i → All (λ y. h < y) (tags tagOf (numbered i rs))
+over : (h i : ℕ) (rs : List (List ℕ)) → h < i → All (λ y. h < y) (tags tagOf (tagAll i rs))
 unfolding tags
 over h i [] k = tt
 over h i (r ∷ rs) k = (k, over h (suc i) rs (omega arith))
 
-numbers-rise : (i : ℕ) (rs : List (List ℕ)) → Rises (tags tagOf (numbered i rs))
+numbers-rise : (i : ℕ) (rs : List (List ℕ)) → Rises (tags tagOf (tagAll i rs))
 unfolding tags
 numbers-rise i [] = tt
 numbers-rise i (r ∷ rs) = (over i (suc i) rs (omega arith), numbers-rise (suc i) rs)
@@ -214,5 +214,5 @@ tags-rise ((r, some j) ∷ ns) (suc k) (suc k') i i' a e f h = tags-rise ns k k'
 
 pub order-kept : OrderKept
 order-kept choice s t is k k' i i' e f h =
-    tags-rise (followAll choice s t is (numbered 0 (records t))) k k' i i'
-    (rises-part (none-back choice s t is (numbered 0 (records t))) (numbers-rise 0 (records t))) e f h
+    tags-rise (followAll choice s t is (tagAll 0 (records t))) k k' i i'
+    (rises-part (none-back choice s t is (tagAll 0 (records t))) (numbers-rise 0 (records t))) e f h

@@ -14,7 +14,7 @@ use Rattle.views.proofs.Relabelled.{level-relabel, label-relabel}
 use Rattle.views.specs.Change.{later, insertBehind, chunks, raise, relabel}
 use Rattle.rights.specs.Marks.{marksOf}
 use Rattle.views.specs.Nodes.{Nested, put, tags}
-use Rattle.views.specs.Pass.{Above, Front, AtDone}
+use Rattle.views.specs.How.Pass.{Above, Front, AtDone}
 use Rattle.views.specs.declared.insert.Place.{Place}
 use Rattle.views.specs.declared.insert.Place.the-variants as place
 use Rattle.views.proofs.KeptLaws.{tags-remove, tags-insertBehind, tags-insertInFront, tags-rename}

@@ -12,7 +12,7 @@ use Rattle.rights.specs.Path.{Test, label, any, own, isDescendant, passes}
 use Rattle.rights.specs.declared.path.Axis.{Axis}
 use Rattle.rights.specs.Policy.{Rule, Policy, some as anyOf, uses, policyWord}
 use Rattle.rights.specs.Isa.{is, passesOwn}
-use Rattle.rights.specs.Rights.{stepFor, finds, withRule, decide, rightsBy}
+use Rattle.rights.specs.Rights.{stepFor, reaches, ruledSet, decide, rightsBy}
 use Rattle.rights.proofs.LabelLaws.{same-left, folded-like}
 use Rattle.rights.proofs.Lists.{byCase}
 use Rattle.rights.proofs.OwnNames.{own-named}
@@ -45,7 +45,7 @@ unfoldable pub decideKeys : Policy → ℕ → List Key → List Rule → ℕ �
 decideKeys P u ks [] set = set
 decideKeys P u ks (r ∷ rs) set =
     decideKeys P u ks rs
-    (cond (is P u (r .who)) (cond (findsKeys (passesOwn P u) (r .path) ks) (withRule set (r .right) (r .accept)) set) set)
+    (cond (is P u (r .who)) (cond (findsKeys (passesOwn P u) (r .path) ks) (ruledSet set (r .right) (r .accept)) set) set)
 
 unfoldable pub rightsByKeys : Policy → ℕ → List Key → ℕ
 rightsByKeys P u ks = decideKeys P u ks (P .rules) 0
@@ -102,8 +102,8 @@ module _ (P : Policy) (u : ℕ) where
       (λ e. rw e (byCase (passesOwn P u x) (λ q. clash (policyWord P x) (v .by-own x refl q) e) (λ q. q)))
 
   finds-keys : (p : List (Axis × Test)) (c : List (List ℕ)) → CoversPath p
-      → finds (map (stepFor (passesOwn P u)) p) c ≡ findsKeys (passesOwn P u) p (map (keyOf P) c)
-  unfolding finds findsKeys anyOf
+      → reaches (map (stepFor (passesOwn P u)) p) c ≡ findsKeys (passesOwn P u) p (map (keyOf P) c)
+  unfolding reaches findsKeys anyOf
   finds-keys [] [] v = refl
   finds-keys [] (x ∷ c) v = refl
   finds-keys (w ∷ p) [] v = refl

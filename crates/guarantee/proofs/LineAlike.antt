@@ -13,7 +13,7 @@ use Rattle.rights.specs.PolicyBytes.{policyOf, subjectCount}
 use Rattle.rights.specs.Table.{records, label, tableOk}
 use Rattle.views.specs.Change.{tooDeep}
 use Rattle.rights.specs.Marks.{marksOf}
-use Rattle.views.specs.Pass.{AtDone}
+use Rattle.views.specs.How.Pass.{AtDone}
 use Rattle.views.specs.declared.done.Change.{Change}
 use Rattle.views.specs.declared.insert.Place.{Place}
 use Rattle.forms.specs.declared.form.Form.{Form}

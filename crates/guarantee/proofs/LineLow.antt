@@ -11,7 +11,7 @@ use Rattle.rights.specs.Labels.{restricted}
 use Rattle.rights.specs.Policy.{Policy, read, policyWord}
 use Rattle.rights.specs.Isa.{passesOwn}
 use Rattle.rights.specs.Rights.{holds, rightsOn}
-use Rattle.rights.specs.Selection.{selection}
+use Rattle.rights.specs.XPath.{xpathSelection}
 use Rattle.rights.specs.Table.{records, level, count, tableOk}
 use Rattle.rights.proofs.Lists.{byCase}
 use Rattle.views.proofs.Relabelled.{level-relabel, label-relabel}
@@ -20,7 +20,7 @@ use Rattle.views.specs.Change.{placed, removed, renamed, tooDeep}
 use Rattle.views.specs.Done.{doneMarks, inTable}
 use Rattle.rights.specs.Marks.{marksOf, markCount, marked}
 use Rattle.views.specs.Nodes.{Nested}
-use Rattle.views.specs.Pass.{Front, AtDone}
+use Rattle.views.specs.How.Pass.{Front, AtDone}
 use Rattle.views.specs.Shown.{isShownAt, stored, shown, view}
 use Rattle.views.specs.declared.done.Change.{Change}
 use Rattle.views.specs.declared.insert.Place.{Place}
@@ -93,7 +93,7 @@ module _ (P : Policy) (u : ℕ) where
 
   -- the marks of what a path selects
   abbrev pub selectLow : List ℕ → List PublicRecord → List ℕ
-  selectLow path ps = selection path (passesOwn P u) (nodesOf ps)
+  selectLow path ps = xpathSelection path (passesOwn P u) (nodesOf ps)
 
   -- of the shown nodes that a change does, after a selection
   abbrev pub doneBy : Change → List ℕ → List PublicRecord → List Bool
@@ -141,7 +141,7 @@ module _ (P : Policy) (u : ℕ) where
     view-in = ap (λ ss. view (stored t ss)) rights-in ∙ view-low P u declared (records t) nested
 
     pub marks-in : (path : List ℕ) → marksIn s t path ≡ selectLow path (lowOf P u (records t))
-    marks-in path = ap₂ (selection path) own-in view-in
+    marks-in path = ap₂ (xpathSelection path) own-in view-in
 
     abbrev doneRecords : Change → List ℕ → List Bool
     doneRecords c path = doneMarks c (policyWord (policyIn s)) t (rightsIn s t) (selectedIn s t path)

@@ -13,7 +13,7 @@ use Rattle.rights.proofs.Lists.{byCase}
 use Rattle.views.specs.Change.{isDone, later, remove, insertBehind, insertInFront, append, insertAfter, rename}
 use Rattle.views.specs.Done.{inTable}
 use Rattle.views.specs.Nodes.{Nested}
-use Rattle.views.specs.Pass.{Above, Front, AtDone}
+use Rattle.views.specs.How.Pass.{Above, Front, AtDone}
 use Rattle.views.specs.Shown.{isShownAt, shownBy, keep}
 use Rattle.views.proofs.Mapped.{map-remove, map-insertBehind, map-insertInFront}
 use Rattle.views.proofs.NestedLaws.{done-from}

@@ -1,6 +1,6 @@
 -- The low projection of a tree of records, for a declared subject: the view is read off it, two trees have the same exactly if they look the same and no policy word
 -- differs behind RESTRICTED, and it decides which nodes a change does. Assumes nothing.
-use Prim.Native.Nat.{ℕ, zero, suc, _+_, _<_, min}
+use Prim.Native.Nat.{ℕ, zero, suc, _<_, min}
 use mathlib.Core.Path.{_≡_, refl, ap, ap₂, sym, _∙_}
 use mathlib.Core.Bool.{Bool, true, false, cond}
 use mathlib.Core.List.{List, [], _∷_, _++_, map}
@@ -18,7 +18,7 @@ use Rattle.rights.proofs.Lists.{byCase}
 use Rattle.views.specs.Change.{isDone, later}
 use Rattle.views.specs.Done.{doneMarks, inTable}
 use Rattle.views.specs.Nodes.{Nested}
-use Rattle.views.specs.Shown.{Stored, storedFrom, stored, storedLevel, grants, granted, isShown, isShownAt, depthAfter, shownAfter, shownFrom, shown, keep, view}
+use Rattle.views.specs.Shown.{Stored, storedFrom, storedLevel, grants, granted, isShown, isShownAt, depthAfter, shownAfter, shownFrom, shown, keep, view}
 use Rattle.views.specs.declared.done.Change.{Change}
 use Rattle.rights.proofs.LabelLaws.{same-folded, folded-same}
 use Rattle.rights.proofs.PolicyWords.{word-same}

@@ -18,7 +18,7 @@ use Rattle.lines.specs.State.{stageC, stage, policyIn}
 use Rattle.forms.specs.declared.form.Form.{Form}
 use Rattle.lines.proofs.StateLaws.{store-held}
 use Rattle.guarantee.specs.Alike.{Input, outcome}
-use Rattle.guarantee.specs.Identity.{Tagged, afterEffect, afterReply, effectOf, follow, followAll, kept, beside, keptRights, stateAfterAll, RightsKept, numbered, tagAt, SameRights}
+use Rattle.guarantee.specs.Identity.{Tagged, afterEffect, afterReply, effectOf, follow, followAll, kept, beside, keptRights, stateAfterAll, RightsKept, tagAll, tagAt, SameRights}
 use Rattle.lines.specs.Effect.{Effect, policy, root, insertion, renaming, removal, login, reading}
 use Rattle.guarantee.proofs.CheckLaws.{Refused}
 use Rattle.guarantee.proofs.Sound.{Sound}
@@ -46,12 +46,12 @@ rights-effect f line s t ok rooted ns q u d reading x = Sublistᴰ·refl _
 
 -- With numbers as tags
 
-records-numbered : (i : ℕ) (rs : List (List ℕ)) → map (λ n. n .0) (numbered i rs) ≡ rs
+records-numbered : (i : ℕ) (rs : List (List ℕ)) → map (λ n. n .0) (tagAll i rs) ≡ rs
 records-numbered i [] = refl
 records-numbered i (r ∷ rs) = ap (λ l. r ∷ l) (records-numbered (suc i) rs)
 
 numbered-sets : (sets : List ℕ) (j : ℕ) (rs : List (List ℕ)) (ss : List ℕ) → ((k : ℕ) → getD ss k 0 ≡ getD sets (j + k) 0)
-    → All (λ p. p .1 ≡ getD sets (p .0) 0) (tags kept (beside (numbered j rs) ss))
+    → All (λ p. p .1 ≡ getD sets (p .0) 0) (tags kept (beside (tagAll j rs) ss))
 unfolding tags
 numbered-sets sets j [] ss h = tt
 numbered-sets sets j (r ∷ rs) [] h = tt
@@ -107,7 +107,7 @@ rights-kept choice s t rooted (i ∷ is) ns e u d =
 
 pub same-rights : SameRights
 same-rights choice s t rooted is u d k i w =
-    let ns : List Tagged = numbered 0 (records t) in
+    let ns : List Tagged = tagAll 0 (records t) in
     let ns' : List Tagged = followAll choice s t is ns in
     let P' : Policy = policyIn (stateAfterAll choice s t is) in
     let sets : List ℕ = rightsOn (policyIn s) u (records t) in

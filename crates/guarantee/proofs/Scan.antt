@@ -14,7 +14,7 @@ use Rattle.rights.proofs.Lists.{byCase}
 use Rattle.views.specs.Change.{isDone, later, dropBelow, putBehind, remove, insertBehind, insertInFront, rename}
 use Rattle.views.specs.Done.{inTable}
 use Rattle.views.specs.Nodes.{Nested}
-use Rattle.views.specs.Pass.{Above, Front, AtDone}
+use Rattle.views.specs.How.Pass.{Above, Front, AtDone}
 use Rattle.views.specs.Shown.{isShownAt, shownFrom, shownBy, keep}
 use Rattle.views.proofs.ShownDepth.{Steps, shown-by-depth}
 

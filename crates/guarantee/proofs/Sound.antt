@@ -12,7 +12,7 @@ use Rattle.rights.specs.Table.{records, label}
 use Rattle.views.specs.Change.{isDone, chunks, lower, deepest, tooDeep, hasRoom, free}
 use Rattle.rights.specs.Marks.{marksOf}
 use Rattle.views.specs.Nodes.{TreeOk, LabelOk}
-use Rattle.views.specs.Pass.{AtDone}
+use Rattle.views.specs.How.Pass.{AtDone}
 use Rattle.views.specs.declared.insert.Place.{Place}
 use Rattle.lines.specs.PolicyEdit.{subjectNamed}
 use Rattle.lines.specs.State.{stageB, stageC, stageE, stage, policyIn}

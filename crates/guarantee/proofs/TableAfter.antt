@@ -15,7 +15,7 @@ use Rattle.rights.specs.Marks.{marksOf}
 use Rattle.views.specs.Change.{isDone, remove, placed, removed, relabel, renamed, changed, free}
 use Rattle.views.specs.Nodes.{All, Nested}
 use Rattle.views.proofs.TableFacts.{facts}
-use Rattle.views.proofs.TableKept.{Full, Stored, removed-stored, renamed-stored, placed-stored, changed-ok, length-changed, records-changed, count-changed, loosen, length-records, length-placed}
+use Rattle.views.proofs.TableKept.{Full, StoredAs, removed-stored, renamed-stored, placed-stored, changed-ok, length-changed, records-changed, count-changed, loosen, length-records, length-placed}
 use Rattle.views.proofs.Waiting.{length-rename}
 use Rattle.forms.specs.declared.form.Form.{Form}
 use Rattle.lines.specs.Effect.{Effect, policy, root, insertion, renaming, removal, login, reading, tableAfter}
@@ -51,11 +51,11 @@ pub record TableHolds (t t' : List ℕ) (rs : List (List ℕ)) : Type 0 where
 same-table : (t : List ℕ) → tableOk t ≡ true → TableHolds t t (records t)
 same-table t ok = record { ok = ok; same-length = refl; held = refl; rooted = λ h. h }
 
-changed-table : (t : List ℕ) (rs : List (List ℕ)) → Stored t rs → (1 ≤ count t → 1 ≤ length rs) → TableHolds t (changed t rs) rs
+changed-table : (t : List ℕ) (rs : List (List ℕ)) → StoredAs t rs → (1 ≤ count t → 1 ≤ length rs) → TableHolds t (changed t rs) rs
 changed-table t rs x h = record { ok = x .ok; same-length = x .same-length; held = x .held; rooted = λ k. rw (x .counted) (h k) }
 
 -- the root alone
-root-stored : (s t l : List ℕ) → tableOk t ≡ true → RootSound s t l → Stored t (nodeRecord 0 l ∷ [])
+root-stored : (s t l : List ℕ) → tableOk t ≡ true → RootSound s t l → StoredAs t (nodeRecord 0 l ∷ [])
 unfolding recordsOk
 root-stored s t l ok x =
     let f = facts t ok in

@@ -16,7 +16,8 @@ use Rattle.views.specs.Nodes.{All, Nested, TreeOk}
 use Rattle.lines.specs.Work.{treeRestricted}
 use Rattle.rights.specs.Nodes.{Node, node}
 use Rattle.forms.specs.Tree.{held, recordsOf}
-use Rattle.forms.specs.TreeText.{Tree, tree, Trees, none, more, GoodLabel, GoodTree, GoodTrees, nodesOf, nodesIn}
+use Rattle.rights.specs.Tree.{Tree, tree, Trees, none, more, nodesOf, nodesIn}
+use Rattle.forms.specs.TreeText.{GoodLabel, GoodTree, GoodTrees}
 use Rattle.forms.specs.Form.{treeIn}
 use Rattle.lines.proofs.StoredSteps.{or-none}
 use Rattle.store.proofs.FormParts.{TreePart}

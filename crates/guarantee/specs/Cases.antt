@@ -1,20 +1,16 @@
 -- The starred cases of document 01 ("Cases (★ proved)") as one table. Each row is a run from a new store: lines as they are typed, each with what it must be answered.
 -- The rows go through `step` on the lines' bytes. The theorem stands in proofs/Cases.antt; it assumes nothing.
 use Prim.Native.Nat.{ℕ, _+_, _*_}
-use Prim.Native.String.{String, [] as empty, _∷_ as _then_}
-use Prim.Native.Char.{code}
+use Prim.Native.String.{String}
 use mathlib.Core.Path.{_≡_}
 use mathlib.Core.List.{List, [], _∷_, _++_, map}
 use lib.ListN.{replicate}
+use Rattle.rights.specs.Bytes.{bytes}
+use Rattle.rights.specs.Limits.{stateSize}
 use Rattle.views.specs.Nodes.{All}
 use Rattle.answers.specs.AnswerChoice.{Choice}
 use Rattle.lines.specs.Outcome.{Reply, says, refuses}
 use Rattle.guarantee.specs.Alike.{Input, outcome}
-
--- the bytes of a text in ASCII
-unfoldable pub bytes : String → List ℕ
-bytes empty = []
-bytes (c then s) = code c ∷ bytes s
 
 -- the replies to lines, each on the state and the table that the one before it left
 unfoldable pub replies : Choice → List ℕ → List ℕ → List Input → List Reply
@@ -23,7 +19,7 @@ replies choice s t (i ∷ is) = outcome choice s t i .reply ∷ replies choice (
 
 -- the state, and a table of n records, before the first line
 abbrev pub newState : List ℕ
-newState = replicate 68880 0
+newState = replicate stateSize 0
 
 abbrev pub newTable : ℕ → List ℕ
 newTable n = replicate (4 + n * 32) 0

@@ -140,11 +140,11 @@ RightsKept =
     → map (λ n. n .0) ns ≡ records t → (u : ℕ) → u < length (policyIn s .names)
     → Sublistᴰ (keptRights (policyIn (stateAfterAll choice s t is)) u (followAll choice s t is ns)) (keptRights (policyIn s) u ns)
 
--- The same in plain words, with the nodes of the first table numbered 0, 1, 2, ..
+-- The same in plain words, with the nodes of the first table tagAll 0, 1, 2, ..
 
-abbrev pub numbered : ℕ → List (List ℕ) → List Tagged
-numbered i [] = []
-numbered i (r ∷ rs) = (r, some i) ∷ numbered (suc i) rs
+abbrev pub tagAll : ℕ → List (List ℕ) → List Tagged
+tagAll i [] = []
+tagAll i (r ∷ rs) = (r, some i) ∷ tagAll (suc i) rs
 
 abbrev pub tagAt : List Tagged → ℕ → Option ℕ
 tagAt [] k = none
@@ -153,7 +153,7 @@ tagAt (n ∷ ns) (suc k) = tagAt ns k
 
 -- node k of the last table was node i of the first
 abbrev pub Was : Choice → List ℕ → List ℕ → List Input → ℕ → ℕ → Type 0
-Was choice s t is k i = tagAt (followAll choice s t is (numbered 0 (records t))) k ≡ some i
+Was choice s t is k i = tagAt (followAll choice s t is (tagAll 0 (records t))) k ≡ some i
 
 -- "kept nodes keep their order", and no two nodes of the last table were one node of the first
 abbrev pub OrderKept : Type 0

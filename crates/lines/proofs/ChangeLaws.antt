@@ -1,5 +1,5 @@
 -- The six changes: what is decided before anything changes, and what the table becomes. Assumes nothing.
-use Prim.Native.Nat.{ℕ, zero, suc, _+_, _-_, _≤_}
+use Prim.Native.Nat.{ℕ, zero, suc, _-_, _≤_}
 use mathlib.Core.Bool.{Bool, true, false, _||_}
 use mathlib.Core.Path.{_≡_, refl, sym, ap, _∙_}
 use mathlib.Core.List.{List, [], _++_, map, append-nil}
@@ -23,8 +23,8 @@ use Rattle.views.specs.declared.insert.Place.{Place}
 use Rattle.views.proofs.DoneLaws.{numbers-in-table, done-length}
 use Rattle.rights.proofs.MarkLaws.{marks-bits}
 use Rattle.answers.specs.Answer.{doneText}
-use Rattle.answers.specs.AnswerArea.{Answered, written}
-use Rattle.lines.specs.ChangeRoom.{Chosen, Selected, Decided}
+use Rattle.answers.specs.How.AnswerArea.{Answered, written}
+use Rattle.lines.specs.How.ChangeRoom.{Chosen, Selected, Decided}
 use Rattle.lines.specs.State.{stage, policyIn, storeOk}
 use Rattle.lines.specs.UserView.{rightsIn, storedIn, marksIn, selectedIn, doneIn}
 use Rattle.lines.specs.Work.{changeAt, countText, insertAt}

@@ -11,3 +11,4 @@ pub mod PolicyEdits
 pub mod PolicyLineLaws
 pub mod TreeLineLaws
 pub mod ChangeLaws
+pub mod ViewReadBack

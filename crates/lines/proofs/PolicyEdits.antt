@@ -16,7 +16,7 @@ use Rattle.rights.specs.Path.{Test}
 use Rattle.rights.specs.declared.path.Axis.{Axis}
 use Rattle.rights.specs.Policy.{Right, position, read, insert, update, delete, bitOf, Rule, some, uses}
 use Rattle.rights.specs.Table.{recAt, label}
-use Rattle.rights.specs.PolicyBytes.{subjectCount, isaCount, ruleCount, subjectAt, isaAt, ruleAt, stepsAt, nameAt, isaN, isaR, whose, namesFrom, isaFrom, rulesFrom, stepsFrom, ruleOf, policyOf}
+use Rattle.rights.specs.PolicyBytes.{subjectCount, isaCount, ruleCount, subjectAt, isaAt, ruleAt, stepsAt, nameAt, isaN, isaR, namesFrom, isaFrom, rulesFrom, stepsFrom, ruleOf, policyOf}
 use Rattle.rights.specs.PolicyCheck.{textOk, bitOk, ruleOk, sameIsa, policyOk}
 use Rattle.lines.specs.PolicyEdit.{isLine, isaHeld, Plain, stepsIn, pathRestricted, stepRecords, ruleHead, withSubject, withIsa, withRule}
 use Rattle.rights.specs.Record.{noSpare, nameRecord}

@@ -1,6 +1,6 @@
 -- Checks, and a work that is carried out: what a check that fails refuses, what passed checks let follow. Assumes nothing.
-use Prim.Native.Nat.{ℕ, _<_, _≤_}
-use mathlib.Core.Bool.{Bool, true, false, cond, _&&_, and-eq-true-iff}
+use Prim.Native.Nat.{ℕ}
+use mathlib.Core.Bool.{Bool, true, false, cond, and-eq-true-iff}
 use mathlib.Core.Path.{_≡_, refl, sym, ap, _∙_}
 use mathlib.Core.List.{List, [], _∷_, _++_, append-assoc}
 use native.Mathlib.Omega.{arith}
@@ -8,9 +8,9 @@ use borrow.Author.Tests.{leb-true, ltb-true, ltb-false, le-leb, lt-leb}
 use lib.Dec.{leb, ltb}
 use lib.ListN.{length, drop, length-append, length-drop}
 use Rattle.rights.proofs.Lists.{byCase}
-use Rattle.answers.specs.AnswerArea.{Answered, written}
-use Rattle.lines.specs.Outcome.{Outcome, says, refusal, Made}
-use Rattle.lines.specs.Refusal.{Check, areaShort, areaCheck, checked, firstRefusal, Passed, numbered}
+use Rattle.answers.specs.How.AnswerArea.{Answered, written}
+use Rattle.lines.specs.Outcome.{Outcome, says, refusal}
+use Rattle.lines.specs.Refusal.{Check, areaShort, areaCheck, checked, firstRefusal, Passed, allNumbered}
 use Rattle.lines.specs.Effect.{Work, stateAfter, tableAfter, guarded, checksIn, performed, Performs}
 use Rattle.lines.specs.declared.line.Answer.the-variants.{Accepted, Refused}
 use Rattle.lines.proofs.OutcomeLaws.{made-at}
@@ -27,7 +27,7 @@ first-front (c ∷ cs) ds n e h =
     byCase (c .fails) (λ z. rw z (rw z at e)) (λ z. rw z (first-front cs ds n (rw z at e) h))
 
 -- where no number is returned, every check passed
-pub passed : (cs : List Check) (n : ℕ) → numbered cs ≡ true → n ≡ firstRefusal cs → n ≡ 0 → Passed cs
+pub passed : (cs : List Check) (n : ℕ) → allNumbered cs ≡ true → n ≡ firstRefusal cs → n ≡ 0 → Passed cs
 passed [] n k e z = tt
 passed (c ∷ cs) n k e z =
     let f = simp and-eq-true-iff at k in

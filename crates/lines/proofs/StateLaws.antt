@@ -1,12 +1,12 @@
 -- What decides whether a session and a store are let pass. Assumes nothing.
-use Prim.Native.Nat.{ℕ, _+_, _-_, _≤_, _<_}
-use mathlib.Core.Bool.{Bool, true, false, _&&_, _||_, Bool·beq, and-false, and-eq-true-iff}
-use mathlib.Core.Path.{_≡_, refl, sym, ap, _∙_}
+use Prim.Native.Nat.{ℕ, _≤_, _<_}
+use mathlib.Core.Bool.{Bool, true, false, _||_, Bool·beq, and-false, and-eq-true-iff}
+use mathlib.Core.Path.{_≡_, refl}
 use mathlib.Core.List.{List, [], _∷_}
 use native.Mathlib.Omega.{arith}
 use borrow.Author.Tests.{eq-eqb, ne-eqb, eqb-true, leb-true, le-leb, lt-leb}
 use lib.Dec.{leb, eqb}
-use lib.ListN.{length, getD, drop, take, set}
+use lib.ListN.{length, getD, set}
 use lib.Seq.{getD-drop}
 use Rattle.rights.specs.Bytes.{zeros}
 use Rattle.rights.specs.Table.{count, tableOk}

@@ -1,12 +1,12 @@
 -- The lines that write a tree: its labels, the table of the root alone, the last child of the root. Assumes nothing.
 use Prim.Native.Nat.{ℕ, zero, suc, _+_, _-_, _*_, _/_, min, _≤_, _<_}
-use mathlib.Core.Bool.{Bool, true, false, cond, not, Bool·beq, false≢true}
+use mathlib.Core.Bool.{true, false, Bool·beq, false≢true}
 use mathlib.Core.Path.{_≡_, refl, sym, ap, _∙_}
 use mathlib.Core.List.{List, [], _∷_, _++_, append-nil}
 use native.Mathlib.Omega.{arith}
-use borrow.Author.Tests.{leb-false, lt-leb, lt-ltb, le-ltb}
+use borrow.Author.Tests.{leb-false, lt-leb, lt-ltb}
 use lib.Dec.{leb, ltb}
-use lib.ListN.{length, getD, take, drop, set, replicate, length-take, length-drop, length-append, length-replicate}
+use lib.ListN.{length, getD, take, drop, set, replicate, length-take, length-drop, length-replicate}
 use lib.Seq.{take-take, take-length, drop-drop, drop-at, getD-take, getD-drop, length-take-le}
 use Rattle.rights.specs.Bytes.{all, isZero}
 use Rattle.rights.specs.Labels.{sameLabel, restricted}

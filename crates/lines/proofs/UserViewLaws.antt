@@ -1,6 +1,6 @@
 -- What a session's user has and sees, where it is worked out in areas that are lent. Assumes nothing.
 use Prim.Native.Nat.{ℕ, zero, suc, _-_, _≤_, _<_}
-use mathlib.Core.Bool.{Bool, true, false}
+use mathlib.Core.Bool.{true, false}
 use mathlib.Core.Path.{_≡_, refl, sym, ap, _∙_}
 use mathlib.Core.List.{List, [], _∷_, _++_}
 use native.Mathlib.Omega.{arith}
@@ -9,26 +9,28 @@ use lib.Bits.{bitAnd}
 use lib.ListN.{length, take, drop, length-map, length-append}
 use lib.Seq.{take-at}
 use Rattle.rights.specs.Path.{Path}
-use Rattle.rights.specs.PathReader.{Got, got, bad, placeOf, pathOf}
+use Rattle.rights.specs.PathReader.{Got, got, bad, placeOf}
 use Rattle.rights.specs.declared.path.Read.the-variants.{At, Bad}
 use Rattle.rights.specs.Nodes.{Nodes, Fits, viewOf}
 use Rattle.rights.specs.Isa.{passesOwn}
-use Rattle.rights.specs.PolicyBytes.{policyOf, subjectCount, Subject}
+use Rattle.rights.specs.PolicyBytes.{policyOf, subjectCount}
+use Rattle.rights.specs.How.Roles.{Declared}
 use Rattle.rights.specs.PolicyCheck.{policyOk}
 use Rattle.rights.specs.Rights.{rightsBy, chains, askedOn}
-use Rattle.rights.specs.Selection.{selection, Selects}
+use Rattle.rights.specs.How.Selection.{selection, Selects}
+use Rattle.rights.specs.XPath.{xpathSelection}
 use Rattle.rights.specs.Table.{count, records, tableOk}
 use Rattle.rights.proofs.Facts.{table-few}
 use Rattle.rights.proofs.FiveRights.{asked-all}
 use Rattle.rights.proofs.Lists.{rest-of}
 use Rattle.rights.proofs.PassLaws.{marks-length, view-length}
 use Rattle.rights.proofs.RightsLaws.{rule-bit}
-use Rattle.rights.proofs.Sounds.{policy-sound}
-use Rattle.views.specs.Shown.{Stored, storedFrom, stored, shownNumbers}
+use Rattle.rights.proofs.XPathLaws.{selection-xpath}
+use Rattle.views.specs.Shown.{storedFrom, stored, shownNumbers}
 use Rattle.views.proofs.AskedView.{shown-asked}
 use Rattle.views.proofs.TableKept.{length-records}
-use Rattle.views.proofs.ViewLaws.{view-fits, view-by-numbers}
-use Rattle.lines.specs.ChangeRoom.{ForView}
+use Rattle.views.proofs.ViewLaws.{view-fits, view-by-numbers, view-nested}
+use Rattle.lines.specs.How.ChangeRoom.{ForView}
 use Rattle.lines.specs.State.{userByte, userOf, policyBytes, policyIn, storeOk}
 use Rattle.lines.specs.UserView.{noUser, notPath, rightsIn, storedIn, viewIn, marksIn}
 use Rattle.lines.proofs.StateLaws.{store-held}
@@ -110,10 +112,9 @@ module _ (s t : List ℕ) (ok : storeOk s t ≡ true) (shown' more : List ℕ) (
   shown-view = ap (viewOf t) shown-part ∙ view-by-numbers t (rightsIn s t) (store-held s t ok .table)
 
 -- the policy's part, as the selection asks for its user
-pub subject-asks : (s t : List ℕ) → storeOk s t ≡ true → noUser s ≡ false → (user : ℕ) → user ≡ userByte s → Subject (take (length s - 8) (drop 8 s)) (user - 1)
+pub subject-asks : (s t : List ℕ) → storeOk s t ≡ true → noUser s ≡ false → (user : ℕ) → user ≡ userByte s → Declared (take (length s - 8) (drop 8 s)) (user - 1)
 subject-asks s t ok u user e =
-    let h = store-held s t ok in
-    rw (rest-of s 8, e) (record { declared = user-declared s t ok u; name = policy-sound _ (h .policy) .names (userOf s) (user-declared s t ok u) })
+    rw (rest-of s 8, e) (record { policy = store-held s t ok .policy; subject = user-declared s t ok u })
 
 marks-long : (s t path : List ℕ) → length (marksIn s t path) ≡ length (viewIn s t)
 marks-long s t path = marks-length _ 0 (length (viewIn s t))
@@ -131,8 +132,9 @@ module _ (s t path : List ℕ) (ok : storeOk s t ≡ true) (user : ℕ) (e : use
   picked-are before after k z q =
       let m : selection path (passesOwn (policyOf (take (length s - 8) (drop 8 s))) (user - 1)) nodes ≡ marksIn s t path =
       ap (selection path (passesOwn (policyOf (take (length s - 8) (drop 8 s))) (user - 1))) v
-      ∙ ap (λ p. selection path (passesOwn (policyOf p) (user - 1)) (viewIn s t)) (rest-of s 8)
-      ∙ ap (λ n. selection path (passesOwn (policyIn s) (n - 1)) (viewIn s t)) e in
+      ∙ selection-xpath (passesOwn (policyOf (take (length s - 8) (drop 8 s))) (user - 1)) (viewIn s t) (view-nested t (rightsIn s t) (store-held s t ok .table)) path
+      ∙ ap (λ p. xpathSelection path (passesOwn (policyOf p) (user - 1)) (viewIn s t)) (rest-of s 8)
+      ∙ ap (λ n. xpathSelection path (passesOwn (policyIn s) (n - 1)) (viewIn s t)) e in
       q ∙ ap (λ l. l ++ drop (length nodes) before) m ∙ ap (λ n. marksIn s t path ++ drop n before) (ap length v ∙ view-long s t ok ∙ sym z)
 
 -- a part that holds the marks

@@ -5,4 +5,4 @@ pub mod PolicyEdit
 pub mod UserView
 pub mod Effect
 pub mod Work
-pub mod ChangeRoom
+pub mod How

@@ -1,6 +1,6 @@
 -- What the lines of stages A and B ask of a policy and write into it (document 01, "Lines" and "Rights"; refusals 5, 6, 7 and 9). The bytes stand as
 -- PolicyBytes says.
-use Prim.Native.Nat.{ℕ, suc, _+_, _≤_}
+use Prim.Native.Nat.{ℕ, suc, _+_}
 use mathlib.Core.Bool.{Bool, true, false, cond, _&&_, _||_}
 use mathlib.Core.Path.{_≡_}
 use mathlib.Core.List.{List, [], _∷_, _++_}

@@ -100,9 +100,9 @@ Passed [] = Unit {0}
 Passed (c ∷ cs) = (c .fails ≡ false) × Passed cs
 
 -- every check has a number that says a refusal
-abbrev pub numbered : List Check → Bool
-numbered [] = true
-numbered (c ∷ cs) = ltb 0 (c .number) && numbered cs
+abbrev pub allNumbered : List Check → Bool
+allNumbered [] = true
+allNumbered (c ∷ cs) = ltb 0 (c .number) && allNumbered cs
 
 -- no check has a number before that of the one in front of it; the first is of rank k at least
 unfoldable pub rising : ℕ → List Check → Bool

@@ -1,9 +1,10 @@
 -- The state (document 01, "Lines" and 13; docs/FORMAT.md): 8 bytes of the session (stage, user, and 6 zero bytes), then the policy.
 use Prim.Native.Nat.{ℕ, _-_}
-use mathlib.Core.Bool.{Bool, true, false, _&&_, _||_, Bool·beq}
-use mathlib.Core.List.{List, [], _∷_, _++_}
+use mathlib.Core.Bool.{Bool, _&&_, _||_, Bool·beq}
+use mathlib.Core.List.{List, _∷_, _++_}
 use lib.Dec.{leb, eqb}
 use lib.ListN.{length, getD, take, drop}
+use Rattle.rights.specs.Limits.{stateSize}
 use Rattle.rights.specs.Bytes.{zeros}
 use Rattle.rights.specs.Table.{count, tableOk}
 use Rattle.rights.specs.Policy.{Policy}
@@ -67,7 +68,7 @@ sessionOk s =
 
 -- A state by itself: "a state against the limits, names, paths or stages above"
 unfoldable pub stateOk : List ℕ → Bool
-stateOk s = eqb (length s) 68880 && (policyOk (policyBytes s) && sessionOk s)
+stateOk s = eqb (length s) stateSize && (policyOk (policyBytes s) && sessionOk s)
 
 -- The state beside the table: not "a root in the table without the root line taken, or the reverse"
 abbrev pub agrees : List ℕ → List ℕ → Bool

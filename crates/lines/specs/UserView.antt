@@ -10,7 +10,7 @@ use Rattle.rights.specs.Nodes.{Nodes}
 use Rattle.rights.specs.Isa.{passesOwn}
 use Rattle.rights.specs.Policy.{policyWord}
 use Rattle.rights.specs.Rights.{rightsOn}
-use Rattle.rights.specs.Selection.{selection}
+use Rattle.rights.specs.XPath.{xpathSelection}
 use Rattle.rights.specs.Table.{records}
 use Rattle.views.specs.Shown.{Stored, stored, view, shown}
 use Rattle.rights.specs.Marks.{marksOf}
@@ -39,7 +39,7 @@ notPath bad = true
 
 -- "Paths of E run on the view": the marks of what a path selects there, `$` being the login name
 abbrev pub marksIn : List ℕ → List ℕ → List ℕ → List ℕ
-marksIn s t path = selection path (passesOwn (policyIn s) (userOf s)) (viewIn s t)
+marksIn s t path = xpathSelection path (passesOwn (policyIn s) (userOf s)) (viewIn s t)
 
 -- The records that a path selects, a mark for each record, and those of them that a change does: "All selections and rights are taken before anything changes."
 abbrev pub selectedIn : List ℕ → List ℕ → List ℕ → List Bool

@@ -1,10 +1,10 @@
 -- The work of each form: its checks in the paper's order, its answer and its effect (document 01, "Lines", "Changes", "What is written", "Who can be turned
 -- down").
 use Prim.Native.Nat.{ℕ, _+_}
-use mathlib.Core.Bool.{Bool, true, false, not, _||_}
+use mathlib.Core.Bool.{Bool, not, _||_}
 use mathlib.Core.List.{List, [], _∷_, _++_}
 use lib.Dec.{leb, ltb}
-use lib.ListN.{length, replicate}
+use lib.ListN.{replicate}
 use Rattle.rights.specs.Labels.{sameLabel, restricted}
 use Rattle.rights.specs.Nodes.{Nodes}
 use Rattle.rights.specs.PathReader.{pathOf}

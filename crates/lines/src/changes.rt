@@ -25,13 +25,14 @@ ghost use mathlib.Core.Path.{_≡_};
 ghost use mathlib.Core.Bool.{true, _||_};
 ghost use Prim.Native.Nat.{_*_, _≤_};
 ghost use lib.ListN.{length};
+ghost use Rattle.rights.specs.Limits.{labelMax, recordsMax};
 ghost use Rattle.rights.specs.Labels.{sameLabel, restricted};
 ghost use Rattle.rights.specs.Policy.{policyWord};
 ghost use Rattle.rights.specs.Table.{count, tableOk};
 ghost use Rattle.rights.specs.Marks.{marked};
 ghost use Rattle.answers.specs.Answer.{doneText};
-ghost use Rattle.answers.specs.AnswerArea.{Answered};
-ghost use Rattle.lines.specs.ChangeRoom.{Selected, Decided};
+ghost use Rattle.answers.specs.How.AnswerArea.{Answered};
+ghost use Rattle.lines.specs.How.ChangeRoom.{Selected, Decided};
 ghost use Rattle.lines.specs.Effect.{Performs};
 ghost use Rattle.lines.specs.Refusal.{Passed, firstRefusal};
 ghost use Rattle.lines.specs.State.{stage, policyIn, storeOk};
@@ -46,7 +47,7 @@ fn mark_selected(
     selected: &mut [u8],
 ) -> usize
     requires { ⌜ (storeOk (now state) (now table) ≡ true) × Passed (onView (now path) (now state))
-        × (length (now rights) ≡ 16384) × (length (now selected) ≡ 16384) ⌝ }
+        × (length (now rights) ≡ recordsMax) × (length (now selected) ≡ recordsMax) ⌝ }
     ensures { λ r. ⌜ Selected (now (state .entry)) (now (table .entry)) (now (path .entry)) (now (rights .entry)) (now (selected .entry)) r
         (now (rights .exit)) (now (selected .exit)) ⌝ }
 {
@@ -68,7 +69,7 @@ fn mark_selected(
 
 // Writes the marks of the records that the change does, and returns how many nodes are selected.
 fn mark_change(state: &[u8], table: &[u8], change: Change, path: &[u8], done: &mut [u8]) -> usize
-    requires { ⌜ (storeOk (now state) (now table) ≡ true) × Passed (onView (now path) (now state)) × (length (now done) ≡ 16384) ⌝ }
+    requires { ⌜ (storeOk (now state) (now table) ≡ true) × Passed (onView (now path) (now state)) × (length (now done) ≡ recordsMax) ⌝ }
     ensures { λ r. ⌜ Decided change (now (state .entry)) (now (table .entry)) (now (path .entry)) (now (done .entry)) r (now (done .exit)) ⌝ }
 {
     let mut rights = [0u8; RECORDS_MAX];
@@ -132,7 +133,7 @@ pub fn rename(
     label: &[u8],
     area: &mut [u8],
 ) -> Answer
-    requires { ⌜ (storeOk (now state) (now table) ≡ true) × (length (now label) ≤ 24) ⌝ }
+    requires { ⌜ (storeOk (now state) (now table) ≡ true) × (length (now label) ≤ labelMax) ⌝ }
     ensures { λ r. ⌜ Performs (workRename change (now (state .entry)) (now (table .entry)) (now (path .entry)) (now (label .entry)))
         (now (state .entry)) (now (table .entry)) (now (area .entry)) r (now (state .entry)) (now (table .exit)) (now (area .exit)) ⌝ }
 {
@@ -212,7 +213,7 @@ fn insert_done(
     area: &mut [u8],
 ) -> Answer
     requires { ⌜ (1 ≤ length (now state)) × (tableOk (now table) ≡ true) × (count (now table) ≤ length (now done)) × (m * 32 ≤ length (now tree))
-        × (m ≤ 16384) ⌝ }
+        × (m ≤ recordsMax) ⌝ }
     ensures { λ r. ⌜ Performs (insertAt place (now (done .entry)) m (now (tree .entry))
         (doneText selected (marked (count (now (table .entry))) (now (done .entry)))) (stage (now (state .entry))) (now (table .entry)))
         (now (state .entry)) (now (table .entry)) (now (area .entry)) r (now (state .entry)) (now (table .exit)) (now (area .exit)) ⌝ }
@@ -240,7 +241,7 @@ pub fn insert(
     m: usize,
     area: &mut [u8],
 ) -> Answer
-    requires { ⌜ (storeOk (now state) (now table) ≡ true) × (m * 32 ≤ length (now tree)) × (m ≤ 16384) ⌝ }
+    requires { ⌜ (storeOk (now state) (now table) ≡ true) × (m * 32 ≤ length (now tree)) × (m ≤ recordsMax) ⌝ }
     ensures { λ r. ⌜ Performs (workInsert place (now (state .entry)) (now (table .entry)) (now (path .entry)) m (now (tree .entry)))
         (now (state .entry)) (now (table .entry)) (now (area .entry)) r (now (state .entry)) (now (table .exit)) (now (area .exit)) ⌝ }
 {

@@ -19,6 +19,7 @@ ghost use mathlib.Core.Bool.{true};
 ghost use mathlib.Core.List.{[], _∷_};
 ghost use Prim.Native.Nat.{ℕ, _+_, _*_, _≤_, _<_};
 ghost use lib.ListN.{length, take, drop};
+ghost use Rattle.rights.specs.Limits.{labelMax, policySize};
 ghost use Rattle.rights.specs.PathReader.{bad, pathOf};
 ghost use Rattle.rights.specs.PolicyBytes.{policyOf, subjectCount, isaCount, ruleCount, isaN, isaR};
 ghost use Rattle.rights.specs.PolicyCheck.{policyOk};
@@ -59,7 +60,7 @@ pub fn number_in(found: Found) -> usize
 
 // Whether isa line k says that subject n is an r.
 fn is_line(policy: &[u8], k: usize, n: usize, r: usize) -> bool
-    requires { ⌜ (k < 128) × (68872 ≤ length (now policy)) ⌝ }
+    requires { ⌜ (k < 128) × (policySize ≤ length (now policy)) ⌝ }
     ensures { λ v. ⌜ v ≡ isLine n r (isaN (now (policy .entry)) k, isaR (now (policy .entry)) k) ⌝ }
 {
     let a = ISA_AT + k * ISA_BYTES;
@@ -136,7 +137,7 @@ pub fn path_restricted(s: &[u8]) -> bool
 
 // Adds a subject whose name is the label of n bytes at byte `at` of s.
 pub fn add_subject(policy: &mut [u8], s: &[u8], at: usize, n: usize)
-    requires { ⌜ (policyOk (now policy) ≡ true) × (subjectCount (now policy) < 64) × (n ≤ 24) × (at + n ≤ length (now s)) ⌝ }
+    requires { ⌜ (policyOk (now policy) ≡ true) × (subjectCount (now policy) < 64) × (n ≤ labelMax) × (at + n ≤ length (now s)) ⌝ }
     ensures { λ _. ⌜ now (policy .exit) ≡ withSubject (now (policy .entry)) (take n (drop at (now (s .entry)))) ⌝ }
 {
     let count = policy[0];

@@ -29,6 +29,7 @@ ghost use mathlib.Core.Path.{_≡_};
 ghost use mathlib.Core.Bool.{true};
 ghost use Prim.Native.Nat.{_≤_};
 ghost use lib.ListN.{length};
+ghost use Rattle.rights.specs.Limits.{labelMax};
 ghost use Rattle.rights.specs.PolicyCheck.{policyOk};
 ghost use Rattle.lines.specs.State.{storeOk};
 ghost use Rattle.lines.specs.Refusal.{firstRefusal};
@@ -54,7 +55,7 @@ fn subject_refusal(policy: &[u8], name: &[u8]) -> u8
 
 // `(subject N)`.
 pub fn declare(state: &mut [u8], table: &[u8], name: &[u8], area: &mut [u8]) -> Answer
-    requires { ⌜ (storeOk (now state) (now table) ≡ true) × (length (now name) ≤ 24) ⌝ }
+    requires { ⌜ (storeOk (now state) (now table) ≡ true) × (length (now name) ≤ labelMax) ⌝ }
     ensures { λ r. ⌜ Performs (workSubject (now (state .entry)) (now (name .entry)))
         (now (state .entry)) (now (table .entry)) (now (area .entry)) r (now (state .exit)) (now (table .entry)) (now (area .exit)) ⌝ }
 {

@@ -20,11 +20,12 @@ ghost use mathlib.Core.Bool.{true};
 ghost use mathlib.Core.List.{_++_};
 ghost use Prim.Native.Nat.{_≤_};
 ghost use lib.ListN.{length, drop};
+ghost use Rattle.rights.specs.Limits.{recordsMax};
 ghost use Rattle.rights.specs.Nodes.{Fits, viewOf};
 ghost use Rattle.views.specs.Shown.{shownNumbers};
-ghost use Rattle.answers.specs.AnswerArea.{Answered};
+ghost use Rattle.answers.specs.How.AnswerArea.{Answered};
 ghost use Rattle.answers.specs.AnswerChoice.{chosen};
-ghost use Rattle.lines.specs.ChangeRoom.{AskedHeld, Chosen, ForView};
+ghost use Rattle.lines.specs.How.ChangeRoom.{AskedHeld, Chosen, ForView};
 ghost use Rattle.lines.specs.Effect.{Performs};
 ghost use Rattle.lines.specs.Refusal.{Passed, firstRefusal};
 ghost use Rattle.lines.specs.State.{storeOk};
@@ -62,7 +63,7 @@ pub fn path_refusal(state: &[u8], path: &[u8]) -> u8
 // Writes the asked rights of the user on each node, position and read among them, and the numbers of the nodes that the user is shown, and returns how many they are.
 fn show_user(state: &[u8], table: &[u8], asked: u8, rights: &mut [u8], shown: &mut [u16]) -> usize
     requires { ⌜ (storeOk (now state) (now table) ≡ true) × Passed (viewChecks (now state)) × ForView asked
-        × (length (now rights) ≡ 16384) × (length (now shown) ≡ 16384) ⌝ }
+        × (length (now rights) ≡ recordsMax) × (length (now shown) ≡ recordsMax) ⌝ }
     ensures { λ r. ⌜ (r ≡ length (shownNumbers (storedIn (now (state .entry)) (now (table .entry)))))
         × (now (shown .exit) ≡ shownNumbers (storedIn (now (state .entry)) (now (table .entry))) ++ drop r (now (shown .entry)))
         × AskedHeld asked (now (state .entry)) (now (table .entry)) (now (rights .entry)) (now (rights .exit)) ⌝ }
@@ -105,7 +106,7 @@ pub fn select_user(
     marks: &mut [u8],
 ) -> usize
     requires { ⌜ (storeOk (now state) (now table) ≡ true) × Passed (onView (now path) (now state)) × ForView asked
-        × (length (now rights) ≡ 16384) × (length (now shown) ≡ 16384) × (length (now marks) ≡ 16384) ⌝ }
+        × (length (now rights) ≡ recordsMax) × (length (now shown) ≡ recordsMax) × (length (now marks) ≡ recordsMax) ⌝ }
     ensures { λ r. ⌜ (Chosen (now (state .entry)) (now (table .entry)) (now (path .entry)) (now (shown .entry)) (now (marks .entry)) r
         (now (shown .exit)) (now (marks .exit)))
         × AskedHeld asked (now (state .entry)) (now (table .entry)) (now (rights .entry)) (now (rights .exit)) ⌝ }

@@ -13,6 +13,7 @@ ghost use mathlib.Core.Bool.{true, _||_, Bool·beq};
 ghost use Prim.Native.Nat.{_≤_};
 ghost use lib.Dec.{eqb, leb};
 ghost use lib.ListN.{length};
+ghost use Rattle.rights.specs.Limits.{stateSize};
 ghost use Rattle.rights.specs.Table.{tableOk};
 ghost use Rattle.lines.specs.State.{userAtE, sessionOk, stateOk, agrees, storeOk};
 
@@ -46,7 +47,7 @@ fn user_at_e(state: &[u8]) -> bool
 
 // Whether the session fits its policy.
 fn session_ok(state: &[u8]) -> bool
-    requires { ⌜ length (now state) ≡ 68880 ⌝ }
+    requires { ⌜ length (now state) ≡ stateSize ⌝ }
     ensures { λ r. ⌜ r ≡ sessionOk (now (state .entry)) ⌝ }
 {
     let stage = state[0];

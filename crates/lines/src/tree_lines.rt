@@ -26,6 +26,7 @@ ghost use mathlib.Core.Bool.{true};
 ghost use mathlib.Core.List.{[], _∷_};
 ghost use Prim.Native.Nat.{_+_, _*_, _≤_, _<_};
 ghost use lib.ListN.{length, take, drop};
+ghost use Rattle.rights.specs.Limits.{labelMax, recordsMax};
 ghost use Rattle.rights.specs.Labels.{sameLabel, restricted};
 ghost use Rattle.rights.specs.Table.{count, label, tableOk};
 ghost use Rattle.views.specs.declared.insert.Place.the-variants.{Append};
@@ -36,7 +37,7 @@ ghost use Rattle.lines.specs.Work.{treeRestricted, labelCheck, insertChe
 
 // The refusal of an insertion of a tree of m records at the marked places.
 pub fn insert_refusal(table: &[u8], marks: &[u8], tree: &[u8], m: usize, place: Place) -> u8
-    requires { ⌜ (tableOk (now table) ≡ true) × (count (now table) ≤ length (now marks)) × (m * 32 ≤ length (now tree)) × (m ≤ 16384) ⌝ }
+    requires { ⌜ (tableOk (now table) ≡ true) × (count (now table) ≤ length (now marks)) × (m * 32 ≤ length (now tree)) × (m ≤ recordsMax) ⌝ }
     ensures { λ r. ⌜ r ≡ firstRefusal (insertChecks place (now (marks .entry)) m (now (tree .entry)) (now (table .entry))) ⌝ }
 {
     if too_deep(table, marks, tree, m, place) {
@@ -91,7 +92,7 @@ fn root_refusal(table: &[u8], label: &[u8]) -> u8
 
 // `(root L)`, where no root stands.
 pub fn root(state: &mut [u8], table: &mut [u8], label: &[u8], area: &mut [u8]) -> Answer
-    requires { ⌜ (storeOk (now state) (now table) ≡ true) × (stage (now state) < 2) × (length (now label) ≤ 24) ⌝ }
+    requires { ⌜ (storeOk (now state) (now table) ≡ true) × (stage (now state) < 2) × (length (now label) ≤ labelMax) ⌝ }
     ensures { λ r. ⌜ Performs (workRoot (now (table .entry)) (now (label .entry)))
         (now (state .entry)) (now (table .entry)) (now (area .entry)) r (now (state .exit)) (now (table .exit)) (now (area .exit)) ⌝ }
 {
@@ -112,7 +113,7 @@ pub fn root(state: &mut [u8], table: &mut [u8], label: &[u8], area: &mut [u8]) -
 
 // The refusal of `(child TREE)`, where the marks are those of the root alone.
 fn child_refusal(table: &[u8], marks: &[u8], tree: &[u8], m: usize) -> u8
-    requires { ⌜ (tableOk (now table) ≡ true) × (count (now table) ≤ length (now marks)) × (m * 32 ≤ length (now tree)) × (m ≤ 16384) ⌝ }
+    requires { ⌜ (tableOk (now table) ≡ true) × (count (now table) ≤ length (now marks)) × (m * 32 ≤ length (now tree)) × (m ≤ recordsMax) ⌝ }
     ensures { λ r. ⌜ r ≡ firstRefusal (labelCheck m (now (tree .entry)) ∷ insertChecks Append (now (marks .entry)) m (now (tree .entry))
         (now (table .entry))) ⌝ }
 {
@@ -124,7 +125,7 @@ fn child_refusal(table: &[u8], marks: &[u8], tree: &[u8], m: usize) -> u8
 
 // `(child TREE)`: the tree's m records become the root's last child.
 pub fn child(state: &mut [u8], table: &mut [u8], tree: &[u8], m: usize, area: &mut [u8]) -> Answer
-    requires { ⌜ (storeOk (now state) (now table) ≡ true) × (m * 32 ≤ length (now tree)) × (m ≤ 16384) ⌝ }
+    requires { ⌜ (storeOk (now state) (now table) ≡ true) × (m * 32 ≤ length (now tree)) × (m ≤ recordsMax) ⌝ }
     ensures { λ r. ⌜ Performs (workChild (now (table .entry)) m (now (tree .entry)))
         (now (state .entry)) (now (table .entry)) (now (area .entry)) r (now (state .exit)) (now (table .exit)) (now (area .exit)) ⌝ }
 {

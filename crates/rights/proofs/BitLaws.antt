@@ -9,11 +9,11 @@ use lib.Bits.{bitAnd, bitOr}
 use lib.Dec.{lit<, eqb, eqb·suc-suc, eqb·zero-suc, eqb·suc-zero}
 use lib.Pow.{pow-lt}
 use lib.ListN.{getD, set}
-use Rattle.rights.specs.Automaton.{value, meet, join}
+use Rattle.rights.specs.How.Automaton.{value, meet, union}
 use Rattle.rights.specs.Marks.{bit}
-use Rattle.rights.specs.Groups.{has}
-use Rattle.rights.proofs.Masks.{value-meet, value-join}
-use Rattle.rights.proofs.Lanes.{bit-test}
+use Rattle.rights.specs.How.Groups.{bitAt}
+use Rattle.rights.proofs.Masks.{value-meet, value-union}
+use Rattle.rights.proofs.StateMasks.{bit-test}
 
 -- the elements of a set, place by place
 pub get-meet : (xs ys : List Bool) (j : ℕ) → getD (meet xs ys) j false ≡ getD xs j false && getD ys j false
@@ -23,12 +23,12 @@ get-meet (x ∷ xs) [] j = sym (and-false (getD (x ∷ xs) j false))
 get-meet (x ∷ xs) (y ∷ ys) zero = refl
 get-meet (x ∷ xs) (y ∷ ys) (suc j) = get-meet xs ys j
 
-pub get-join : (xs ys : List Bool) (j : ℕ) → getD (join xs ys) j false ≡ getD xs j false || getD ys j false
-unfolding join
-get-join [] ys j = refl
-get-join (x ∷ xs) [] j = sym (or-false (getD (x ∷ xs) j false))
-get-join (x ∷ xs) (y ∷ ys) zero = refl
-get-join (x ∷ xs) (y ∷ ys) (suc j) = get-join xs ys j
+pub get-union : (xs ys : List Bool) (j : ℕ) → getD (union xs ys) j false ≡ getD xs j false || getD ys j false
+unfolding union
+get-union [] ys j = refl
+get-union (x ∷ xs) [] j = sym (or-false (getD (x ∷ xs) j false))
+get-union (x ∷ xs) (y ∷ ys) zero = refl
+get-union (x ∷ xs) (y ∷ ys) (suc j) = get-union xs ys j
 
 none-value : (xs : List Bool) → ((j : ℕ) → getD xs j false ≡ false) → value xs ≡ 0
 unfolding value
@@ -70,34 +70,34 @@ pub value-bits : (n : ℕ) → value (bits n) ≡ n
 unfolding bits
 value-bits n = bits-value n n (omega arith)
 
-pub get-bits : (n j : ℕ) → getD (bits n) j false ≡ has n j
-get-bits n j = sym (bit-test (bits n) j) ∙ ap (λ (k : ℕ). has k j) (value-bits n)
+pub get-bits : (n j : ℕ) → getD (bits n) j false ≡ bitAt n j
+get-bits n j = sym (bit-test (bits n) j) ∙ ap (λ (k : ℕ). bitAt k j) (value-bits n)
 
-pub has-ext : (a b : ℕ) → ((j : ℕ) → has a j ≡ has b j) → a ≡ b
-has-ext a b f = sym (value-bits a) ∙ value-ext (bits a) (bits b) (λ j. get-bits a j ∙ f j ∙ sym (get-bits b j)) ∙ value-bits b
+pub bitAt-ext : (a b : ℕ) → ((j : ℕ) → bitAt a j ≡ bitAt b j) → a ≡ b
+bitAt-ext a b f = sym (value-bits a) ∙ value-ext (bits a) (bits b) (λ j. get-bits a j ∙ f j ∙ sym (get-bits b j)) ∙ value-bits b
 
-pub has-value : (a : ℕ) (xs : List Bool) → ((j : ℕ) → has a j ≡ getD xs j false) → a ≡ value xs
-has-value a xs f = has-ext a (value xs) (λ j. f j ∙ sym (bit-test xs j))
+pub bitAt-value : (a : ℕ) (xs : List Bool) → ((j : ℕ) → bitAt a j ≡ getD xs j false) → a ≡ value xs
+bitAt-value a xs f = bitAt-ext a (value xs) (λ j. f j ∙ sym (bit-test xs j))
 
-pub has-and : (a b j : ℕ) → has (bitAnd a b) j ≡ has a j && has b j
-has-and a b j =
-    ap₂ (λ (x y : ℕ). has (bitAnd x y) j) (sym (value-bits a)) (sym (value-bits b))
-    ∙ ap (λ (k : ℕ). has k j) (value-meet (bits a) (bits b))
+pub bitAt-and : (a b j : ℕ) → bitAt (bitAnd a b) j ≡ bitAt a j && bitAt b j
+bitAt-and a b j =
+    ap₂ (λ (x y : ℕ). bitAt (bitAnd x y) j) (sym (value-bits a)) (sym (value-bits b))
+    ∙ ap (λ (k : ℕ). bitAt k j) (value-meet (bits a) (bits b))
     ∙ bit-test (meet (bits a) (bits b)) j
     ∙ get-meet (bits a) (bits b) j
     ∙ ap₂ _&&_ (get-bits a j) (get-bits b j)
 
-pub has-or : (a b j : ℕ) → has (bitOr a b) j ≡ has a j || has b j
-has-or a b j =
-    ap₂ (λ (x y : ℕ). has (bitOr x y) j) (sym (value-bits a)) (sym (value-bits b))
-    ∙ ap (λ (k : ℕ). has k j) (value-join (bits a) (bits b))
-    ∙ bit-test (join (bits a) (bits b)) j
-    ∙ get-join (bits a) (bits b) j
+pub bitAt-or : (a b j : ℕ) → bitAt (bitOr a b) j ≡ bitAt a j || bitAt b j
+bitAt-or a b j =
+    ap₂ (λ (x y : ℕ). bitAt (bitOr x y) j) (sym (value-bits a)) (sym (value-bits b))
+    ∙ ap (λ (k : ℕ). bitAt k j) (value-union (bits a) (bits b))
+    ∙ bit-test (union (bits a) (bits b)) j
+    ∙ get-union (bits a) (bits b) j
     ∙ ap₂ _||_ (get-bits a j) (get-bits b j)
 
-pub has-none : (j : ℕ) → has 0 j ≡ false
+pub bitAt-none : (j : ℕ) → bitAt 0 j ≡ false
 unfolding value
-has-none j = bit-test [] j
+bitAt-none j = bit-test [] j
 
 -- one bit alone
 unit : ℕ → List Bool
@@ -116,8 +116,8 @@ get-unit zero (suc j) = sym (eqb·suc-zero j)
 get-unit (suc n) zero = sym (eqb·zero-suc n)
 get-unit (suc n) (suc j) = get-unit n j ∙ sym (eqb·suc-suc j n)
 
-pub has-one : (n j : ℕ) → has (2 ^ n) j ≡ eqb j n
-has-one n j = ap (λ (k : ℕ). has k j) (sym (value-unit n)) ∙ bit-test (unit n) j ∙ get-unit n j
+pub bitAt-one : (n j : ℕ) → bitAt (2 ^ n) j ≡ eqb j n
+bitAt-one n j = ap (λ (k : ℕ). bitAt k j) (sym (value-unit n)) ∙ bit-test (unit n) j ∙ get-unit n j
 
 -- a set without one of its elements
 clear-value : (xs : List Bool) (j : ℕ) → getD xs j false ≡ true → value xs ≡ value (set xs j false) + 2 ^ j
@@ -141,17 +141,17 @@ get-clear (x ∷ xs) (suc i) zero = go (getD xs i false) ∙ ap (λ (b : Bool). 
     go false = refl
 get-clear (x ∷ xs) (suc i) (suc j) = get-clear xs i j ∙ ap (λ (b : Bool). getD xs i false && not b) (sym (eqb·suc-suc i j))
 
-module _ (a j : ℕ) (e : has a j ≡ true) where
+module _ (a j : ℕ) (e : bitAt a j ≡ true) where
   cleared : a ≡ value (set (bits a) j false) + 2 ^ j
   cleared = sym (value-bits a) ∙ clear-value (bits a) j (get-bits a j ∙ e)
 
   pub bit-within : 2 ^ j ≤ a
   bit-within = omega (arith, cleared)
 
-  pub has-clear : (i : ℕ) → has (a - 2 ^ j) i ≡ has a i && not (eqb i j)
-  has-clear i =
+  pub bitAt-clear : (i : ℕ) → bitAt (a - 2 ^ j) i ≡ bitAt a i && not (eqb i j)
+  bitAt-clear i =
       let z : a - 2 ^ j ≡ value (set (bits a) j false) = omega (arith, cleared) in
-      ap (λ (k : ℕ). has k i) z ∙ bit-test (set (bits a) j false) i ∙ get-clear (bits a) i j ∙ ap (λ (b : Bool). b && not (eqb i j)) (get-bits a i)
+      ap (λ (k : ℕ). bitAt k i) z ∙ bit-test (set (bits a) j false) i ∙ get-clear (bits a) i j ∙ ap (λ (b : Bool). b && not (eqb i j)) (get-bits a i)
 
 -- a bit by a shift
 pub one-shl : (j : ℕ) → j ≤ 63 → 1 * 2 ^ j % 2 ^ 64 ≡ 2 ^ j

@@ -2,7 +2,7 @@
 -- has the highest bit. Assumes nothing.
 use Prim.Native.Nat.{ℕ, suc, zero, _+_, _*_, _-_, _/_, _%_, _^_, _≤_, _<_}
 use mathlib.Core.Bool.{Bool, true, false, _&&_, _||_, not, cond, and-false, or-false, or-true}
-use mathlib.Core.Logic.{_⊎_, ⊎-elim}
+use mathlib.Core.Logic.{⊎-elim}
 use mathlib.Core.Path.{_≡_, refl, sym, ap, ap₂, _∙_, subst}
 use mathlib.Core.List.{List, [], _∷_, _++_, append-assoc, append-nil}
 use native.Mathlib.Nat.{mod-eq-of-lt, mod-lt, add-zero, eq-or-lt-of-le, le-of-suc-le-suc, lt-of-le-of-lt, one-mul}
@@ -15,28 +15,28 @@ use lib.Pow.{pow-mono, pow-lt, split}
 use lib.ListN.{length, take, getD, replicate, length-append, length-replicate, getD-replicate, List·getD-eq-default, List·getD-append}
 use lib.Seq.{getD-append-add}
 use Rattle.rights.specs.Policy.{Right, position, read, insert, update, delete, bitOf}
-use Rattle.rights.specs.Rights.{Step, stepFor, finds, withRule}
-use Rattle.rights.specs.Automaton.{value, meet, deeps, passedBy, moved, states, stepsFor, rulePath, chainTo, chainOf}
-use Rattle.rights.specs.Roles.{nameAmong}
-use Rattle.rights.specs.Groups.{has, Lane, laneAt, never, cat, stepsOf, firstOf, laid, firsts, endAt, Agrees, ruled, settled, Packed, Grouped, General}
+use Rattle.rights.specs.Rights.{Step, stepFor, reaches, ruledSet}
+use Rattle.rights.specs.How.Automaton.{value, meet, deeps, passedBy, moved, states, stepsFor, rulePath, chainTo, chainOf}
+use Rattle.rights.specs.How.Roles.{nameAmong}
+use Rattle.rights.specs.How.Groups.{bitAt, Ruling, rulingAt, never, cat, stepsOf, firstOf, laid, firsts, endAt, Agrees, ruled, settled, Packed, Grouped, General}
 use Rattle.rights.specs.PolicyCheck.{bitOk}
 use Rattle.rights.specs.PolicyBytes.{accepts, stepCount, stepsAt, stepOf}
 use Rattle.rights.specs.Table.{recAt, recordAt, level, label}
 use Rattle.rights.proofs.RightsLaws.{right-of}
 use Rattle.rights.proofs.Lists.{byCase}
-use Rattle.rights.proofs.Lanes.{bit-test, length-steps, length-passedBy}
+use Rattle.rights.proofs.StateMasks.{bit-test, length-steps, length-passedBy}
 use Rattle.rights.proofs.Chains.{found}
-use Rattle.rights.proofs.BitLaws.{get-meet, get-join, has-and, has-or, has-one, has-ext, has-value, has-clear}
+use Rattle.rights.proofs.BitLaws.{get-meet, get-union, bitAt-and, bitAt-or, bitAt-one, bitAt-ext, bitAt-value, bitAt-clear}
 use Rattle.rights.proofs.PackedLaws.{step-deep, step-every, or-none, deeps-more, passed-more, deeps-length, packed-none, packed-end}
 
 -- How a set of states moves, state by state
 
 moved-first : (ss : List Step) (st : List Bool) (x : List ℕ) → getD (moved ss st x) 0 false ≡ getD st 0 false && getD (deeps ss) 0 false
-moved-first ss st x = get-join (meet st (deeps ss)) (false ∷ meet st (passedBy ss x)) 0 ∙ or-false _ ∙ get-meet st (deeps ss) 0
+moved-first ss st x = get-union (meet st (deeps ss)) (false ∷ meet st (passedBy ss x)) 0 ∙ or-false _ ∙ get-meet st (deeps ss) 0
 
 moved-next : (ss : List Step) (st : List Bool) (x : List ℕ) (j : ℕ)
     → getD (moved ss st x) (suc j) false ≡ (getD st (suc j) false && getD (deeps ss) (suc j) false) || (getD st j false && getD (passedBy ss x) j false)
-moved-next ss st x j = get-join (meet st (deeps ss)) (false ∷ meet st (passedBy ss x)) (suc j) ∙ ap₂ _||_ (get-meet st (deeps ss) (suc j)) (get-meet st (passedBy ss x) j)
+moved-next ss st x j = get-union (meet st (deeps ss)) (false ∷ meet st (passedBy ss x)) (suc j) ∙ ap₂ _||_ (get-meet st (deeps ss) (suc j)) (get-meet st (passedBy ss x) j)
 
 -- The path ps stands in the steps ss from step `off` on, and no label goes on to its first state.
 record Within (ss ps : List Step) (off : ℕ) : Type 0 where
@@ -88,16 +88,16 @@ unfolding passedBy
 passed-append [] ys x = refl
 passed-append (s ∷ xs) ys x = ap (λ (l : List Bool). s .passed x ∷ l) (passed-append xs ys x)
 
-module _ (q : ℕ → Lane) (i : ℕ) where
-  pub cat-on : {A : Type 0} (f : Lane → List A) (n : ℕ) → q (i + n) .on ≡ true → cat f q i (suc n) ≡ cat f q i n ++ f (q (i + n))
+module _ (q : ℕ → Ruling) (i : ℕ) where
+  pub cat-on : {A : Type 0} (f : Ruling → List A) (n : ℕ) → q (i + n) .on ≡ true → cat f q i (suc n) ≡ cat f q i n ++ f (q (i + n))
   unfolding cat
   cat-on f n e = rw e
 
-  pub cat-off : {A : Type 0} (f : Lane → List A) (n : ℕ) → q (i + n) .on ≡ false → cat f q i (suc n) ≡ cat f q i n
+  pub cat-off : {A : Type 0} (f : Ruling → List A) (n : ℕ) → q (i + n) .on ≡ false → cat f q i (suc n) ≡ cat f q i n
   unfolding cat
   cat-off f n e = rw e
 
-  cat-split : {A : Type 0} (f : Lane → List A) (n k : ℕ) → k < n → q (i + k) .on ≡ true → (r : List A) × (cat f q i n ≡ cat f q i k ++ (f (q (i + k)) ++ r))
+  cat-split : {A : Type 0} (f : Ruling → List A) (n k : ℕ) → k < n → q (i + k) .on ≡ true → (r : List A) × (cat f q i n ≡ cat f q i k ++ (f (q (i + k)) ++ r))
   cat-split f zero k h e = absurd (omega arith)
   cat-split f (suc n) k h e =
       ⊎-elim
@@ -185,17 +185,17 @@ module _ (q : ℕ → Lane) (i : ℕ) where
         ∙ getD-append-add (firsts q i k) (firstOf (q (i + k)) ++ w .0) j false
         ∙ first-alone (length ps) (w .0) j l
 
-    finds-it : (c : List (List ℕ)) → getD (states (laid q i n) (firsts q i n) c) (endAt q i k) false ≡ finds ps c
+    finds-it : (c : List (List ℕ)) → getD (states (laid q i n) (firsts q i n) c) (endAt q i k) false ≡ reaches ps c
     finds-it c = like-states (laid q i n) ps (length before) stands c (firsts q i n) (true ∷ []) starts (length ps) (omega arith) ∙ found ps c
 
   -- the states along a chain say of each rule whether it finds the chain's end
   pub agree : (n m : ℕ) (c : List (List ℕ)) → m ≡ value (states (laid q i n) (firsts q i n) c) → Agrees q i n c m
-  agree n m c e k h o = ap (λ (z : ℕ). has z (endAt q i k)) e ∙ bit-test (states (laid q i n) (firsts q i n) c) (endAt q i k) ∙ finds-it n k h o c
+  agree n m c e k h o = ap (λ (z : ℕ). bitAt z (endAt q i k)) e ∙ bit-test (states (laid q i n) (firsts q i n) c) (endAt q i k) ∙ finds-it n k h o c
 
 -- The last rule that finds the node
 
 -- a number with one bit more, above all of its own
-and-top : (m y e : ℕ) → y < 2 ^ e → bitAnd m (bitOr y (2 ^ e)) ≡ bitAnd m y + cond (has m e) (2 ^ e) 0
+and-top : (m y e : ℕ) → y < 2 ^ e → bitAnd m (bitOr y (2 ^ e)) ≡ bitAnd m y + cond (bitAt m e) (2 ^ e) 0
 and-top m y e h =
     let a = m / 2 ^ e in
     let r = m % 2 ^ e in
@@ -208,7 +208,7 @@ and-top m y e h =
     ∙ and-block e a 0 r y lo h
     ∙ ap (λ (u : ℕ). u * 2 ^ e + bitAnd r y) (and-zero-r a)
     ∙ (let z : 0 * 2 ^ e + bitAnd r y ≡ bitAnd r y = omega arith in z) in
-    both ∙ ap (λ (u : ℕ). u * 2 ^ e + bitAnd r y) one ∙ go (a % 2) (mod-lt a (lit< tt)) (bitAnd r y) ∙ ap (λ (u : ℕ). u + cond (has m e) (2 ^ e) 0) (sym low)
+    both ∙ ap (λ (u : ℕ). u * 2 ^ e + bitAnd r y) one ∙ go (a % 2) (mod-lt a (lit< tt)) (bitAnd r y) ∙ ap (λ (u : ℕ). u + cond (bitAt m e) (2 ^ e) 0) (sym low)
   where
     go : (b : ℕ) → b < 2 → (u : ℕ) → b * 2 ^ e + u ≡ u + cond (eqb b 1) (2 ^ e) 0
     go zero l u = omega arith
@@ -216,9 +216,9 @@ and-top m y e h =
     go (suc (suc b)) l u = absurd (omega arith)
 
 -- a rule over one of the same right
-module _ (x : ℕ) (small : x < 256) (k : ℕ) (in-set : has 255 k ≡ true) where
-  within : (j : ℕ) → has x j ≡ has x j && has 255 j
-  within j = ap (λ (z : ℕ). has z j) (sym (mod-eq-of-lt small) ∙ sym (and-mask x 8)) ∙ has-and x 255 j
+module _ (x : ℕ) (small : x < 256) (k : ℕ) (in-set : bitAt 255 k ≡ true) where
+  within : (j : ℕ) → bitAt x j ≡ bitAt x j && bitAt 255 j
+  within j = ap (λ (z : ℕ). bitAt z j) (sym (mod-eq-of-lt small) ∙ sym (and-mask x 8)) ∙ bitAt-and x 255 j
 
   set-over : (y m b : Bool) → y ≡ y && m → ((y && (m && not b)) || b ≡ y || b)
   set-over true true true e = refl
@@ -241,34 +241,34 @@ module _ (x : ℕ) (small : x < 256) (k : ℕ) (in-set : has 255 k ≡ true) whe
   and-twice true false = refl
   and-twice false m = refl
 
-  others : (j : ℕ) → has (255 - 2 ^ k) j ≡ has 255 j && not (has (2 ^ k) j)
-  others j = has-clear 255 k in-set j ∙ ap (λ (v : Bool). has 255 j && not v) (sym (has-one k j))
+  others : (j : ℕ) → bitAt (255 - 2 ^ k) j ≡ bitAt 255 j && not (bitAt (2 ^ k) j)
+  others j = bitAt-clear 255 k in-set j ∙ ap (λ (v : Bool). bitAt 255 j && not v) (sym (bitAt-one k j))
 
-  over : (a b : Bool) → withRule (withRule x (2 ^ k) a) (2 ^ k) b ≡ withRule x (2 ^ k) b
+  over : (a b : Bool) → ruledSet (ruledSet x (2 ^ k) a) (2 ^ k) b ≡ ruledSet x (2 ^ k) b
   over true true =
-      has-ext _ _
-      (λ j. has-or (bitOr x (2 ^ k)) (2 ^ k) j ∙ ap (λ (v : Bool). v || has (2 ^ k) j) (has-or x (2 ^ k) j) ∙ or-twice (has x j) (has (2 ^ k) j) ∙ sym (has-or x (2 ^ k) j))
+      bitAt-ext _ _
+      (λ j. bitAt-or (bitOr x (2 ^ k)) (2 ^ k) j ∙ ap (λ (v : Bool). v || bitAt (2 ^ k) j) (bitAt-or x (2 ^ k) j) ∙ or-twice (bitAt x j) (bitAt (2 ^ k) j) ∙ sym (bitAt-or x (2 ^ k) j))
   over false true =
-      has-ext _ _
-      (λ j. has-or (bitAnd x (255 - 2 ^ k)) (2 ^ k) j
-      ∙ ap (λ (v : Bool). v || has (2 ^ k) j) (has-and x (255 - 2 ^ k) j ∙ ap (λ (v : Bool). has x j && v) (others j))
-      ∙ set-over (has x j) (has 255 j) (has (2 ^ k) j) (within j)
-      ∙ sym (has-or x (2 ^ k) j))
+      bitAt-ext _ _
+      (λ j. bitAt-or (bitAnd x (255 - 2 ^ k)) (2 ^ k) j
+      ∙ ap (λ (v : Bool). v || bitAt (2 ^ k) j) (bitAt-and x (255 - 2 ^ k) j ∙ ap (λ (v : Bool). bitAt x j && v) (others j))
+      ∙ set-over (bitAt x j) (bitAt 255 j) (bitAt (2 ^ k) j) (within j)
+      ∙ sym (bitAt-or x (2 ^ k) j))
   over true false =
-      has-ext _ _
-      (λ j. has-and (bitOr x (2 ^ k)) (255 - 2 ^ k) j
-      ∙ ap₂ (λ (v w : Bool). v && w) (has-or x (2 ^ k) j) (others j)
-      ∙ clear-over (has x j) (has 255 j) (has (2 ^ k) j)
-      ∙ ap (λ (v : Bool). has x j && v) (sym (others j))
-      ∙ sym (has-and x (255 - 2 ^ k) j))
+      bitAt-ext _ _
+      (λ j. bitAt-and (bitOr x (2 ^ k)) (255 - 2 ^ k) j
+      ∙ ap₂ (λ (v w : Bool). v && w) (bitAt-or x (2 ^ k) j) (others j)
+      ∙ clear-over (bitAt x j) (bitAt 255 j) (bitAt (2 ^ k) j)
+      ∙ ap (λ (v : Bool). bitAt x j && v) (sym (others j))
+      ∙ sym (bitAt-and x (255 - 2 ^ k) j))
   over false false =
-      has-ext _ _
-      (λ j. has-and (bitAnd x (255 - 2 ^ k)) (255 - 2 ^ k) j
-      ∙ ap (λ (v : Bool). v && has (255 - 2 ^ k) j) (has-and x (255 - 2 ^ k) j)
-      ∙ and-twice (has x j) (has (255 - 2 ^ k) j)
-      ∙ sym (has-and x (255 - 2 ^ k) j))
+      bitAt-ext _ _
+      (λ j. bitAt-and (bitAnd x (255 - 2 ^ k)) (255 - 2 ^ k) j
+      ∙ ap (λ (v : Bool). v && bitAt (255 - 2 ^ k) j) (bitAt-and x (255 - 2 ^ k) j)
+      ∙ and-twice (bitAt x j) (bitAt (255 - 2 ^ k) j)
+      ∙ sym (bitAt-and x (255 - 2 ^ k) j))
 
-ruled-over : (x : ℕ) → x < 256 → (d : Right) (a b : Bool) → withRule (withRule x (bitOf d) a) (bitOf d) b ≡ withRule x (bitOf d) b
+ruled-over : (x : ℕ) → x < 256 → (d : Right) (a b : Bool) → ruledSet (ruledSet x (bitOf d) a) (bitOf d) b ≡ ruledSet x (bitOf d) b
 ruled-over x h position a b = over x h 0 refl a b
 ruled-over x h read a b = over x h 1 refl a b
 ruled-over x h insert a b = over x h 2 refl a b
@@ -276,28 +276,28 @@ ruled-over x h update a b = over x h 3 refl a b
 ruled-over x h delete a b = over x h 4 refl a b
 
 module _ (x : ℕ) (small : x < 256) (d : Right) where
-  settled-over : (y n : ℕ) (a : Bool) → withRule (settled (bitOf d) y n x) (bitOf d) a ≡ withRule x (bitOf d) a
+  settled-over : (y n : ℕ) (a : Bool) → ruledSet (settled (bitOf d) y n x) (bitOf d) a ≡ ruledSet x (bitOf d) a
   settled-over y n a = go (ltb n y) (ltb y n)
     where
-      go : (u v : Bool) → withRule (cond u (withRule x (bitOf d) true) (cond v (withRule x (bitOf d) false) x)) (bitOf d) a ≡ withRule x (bitOf d) a
+      go : (u v : Bool) → ruledSet (cond u (ruledSet x (bitOf d) true) (cond v (ruledSet x (bitOf d) false) x)) (bitOf d) a ≡ ruledSet x (bitOf d) a
       go true v = ruled-over x small d true a
       go false true = ruled-over x small d false a
       go false false = refl
 
   settled-more : (y n e : ℕ) → y < 2 ^ e → n < 2 ^ e → (hit a : Bool)
-      → cond hit (withRule (settled (bitOf d) y n x) (bitOf d) a) (settled (bitOf d) y n x) ≡ settled (bitOf d) (y + cond (hit && a) (2 ^ e) 0) (n + cond (hit && not a) (2 ^ e) 0) x
+      → cond hit (ruledSet (settled (bitOf d) y n x) (bitOf d) a) (settled (bitOf d) y n x) ≡ settled (bitOf d) (y + cond (hit && a) (2 ^ e) 0) (n + cond (hit && not a) (2 ^ e) 0) x
   settled-more y n e hy hn true true = settled-over y n true ∙ (let z : ltb (n + 0) (y + 2 ^ e) ≡ true = lt-ltb (n + 0) (y + 2 ^ e) (omega arith) in rw z)
   settled-more y n e hy hn true false =
       settled-over y n false ∙ (let z : ltb (n + 2 ^ e) (y + 0) ≡ false = le-ltb (n + 2 ^ e) (y + 0) (omega arith) in let w : ltb (y + 0) (n + 2 ^ e) ≡ true = lt-ltb (y + 0) (n + 2 ^ e) (omega arith) in rw (z, w))
   settled-more y n e hy hn false a = ap₂ (λ (u v : ℕ). settled (bitOf d) u v x) (sym (add-zero y)) (sym (add-zero n))
 
 fair-more : (x : ℕ) → x < 256 → (b : ℕ) → bitOk b ≡ true → (y n e : ℕ) → y < 2 ^ e → n < 2 ^ e → (hit a : Bool)
-    → cond hit (withRule (settled b y n x) b a) (settled b y n x) ≡ settled b (y + cond (hit && a) (2 ^ e) 0) (n + cond (hit && not a) (2 ^ e) 0) x
+    → cond hit (ruledSet (settled b y n x) b a) (settled b y n x) ≡ settled b (y + cond (hit && a) (2 ^ e) 0) (n + cond (hit && not a) (2 ^ e) 0) x
 fair-more x h b fair y n e hy hn hit a = let d = right-of b fair in rw (d .1) (settled-more x h (d .0) y n e hy hn hit a)
 
 -- A group in numbers
 
-module _ (number : List ℕ → ℕ) (q : ℕ → Lane) (b : ℕ) (i : ℕ) where
+module _ (number : List ℕ → ℕ) (q : ℕ → Ruling) (b : ℕ) (i : ℕ) where
   pub group-none : (rows : List ℕ) → length rows ≡ 2113 → ((x : List ℕ) → getD rows (number x) 0 ≡ 0) → Grouped number q b i 0 0 0 0 0 0 0 rows
   unfolding cat ruled value
   group-none rows e z = record {
@@ -335,9 +335,9 @@ module _ (number : List ℕ → ℕ) (q : ℕ → Lane) (b : ℕ) (i : ℕ) wher
 
       start-more : bitOr start (2 ^ length (laid q i n)) ≡ value (firsts q i (suc n))
       start-more =
-          has-value _ (firsts q i (suc n))
-          (λ j. has-or start (2 ^ length (laid q i n)) j
-          ∙ ap₂ _||_ (ap (λ (z : ℕ). has z j) (g .start-is) ∙ bit-test (firsts q i n) j) (has-one (length (laid q i n)) j ∙ ap (eqb j) (sym (cat-length q i n)))
+          bitAt-value _ (firsts q i (suc n))
+          (λ j. bitAt-or start (2 ^ length (laid q i n)) j
+          ∙ ap₂ _||_ (ap (λ (z : ℕ). bitAt z j) (g .start-is) ∙ bit-test (firsts q i n) j) (bitAt-one (length (laid q i n)) j ∙ ap (eqb j) (sym (cat-length q i n)))
           ∙ sym (first-more (firsts q i n) (length (q (i + n) .path)) j)
           ∙ ap (λ (s : List Bool). getD s j false) (sym (cat-on q i firstOf n o)))
 
@@ -351,27 +351,27 @@ module _ (number : List ℕ → ℕ) (q : ℕ → Lane) (b : ℕ) (i : ℕ) wher
           go true f = or-lt (suc (endAt q i n)) y (2 ^ endAt q i n) f (pow-lt {i = endAt q i n} {j = suc (endAt q i n)} (omega arith))
           go false f = f
 
-      mark-and : (a : Bool) (m y : ℕ) → y < 2 ^ length (laid q i n) → bitAnd m (cond a (bitOr y (2 ^ endAt q i n)) y) ≡ bitAnd m y + cond (has m (endAt q i n) && a) (2 ^ endAt q i n) 0
+      mark-and : (a : Bool) (m y : ℕ) → y < 2 ^ length (laid q i n) → bitAnd m (cond a (bitOr y (2 ^ endAt q i n)) y) ≡ bitAnd m y + cond (bitAt m (endAt q i n) && a) (2 ^ endAt q i n) 0
       mark-and true m y h =
           and-top m y (endAt q i n) (omega (arith, pow-mono {i = length (laid q i n)} {j = endAt q i n} (omega arith)))
-          ∙ ap (λ (b : Bool). bitAnd m y + cond b (2 ^ endAt q i n) 0) (yes-and (has m (endAt q i n)))
+          ∙ ap (λ (b : Bool). bitAnd m y + cond b (2 ^ endAt q i n) 0) (yes-and (bitAt m (endAt q i n)))
         where
           yes-and : (b : Bool) → b ≡ b && true
           yes-and true = refl
           yes-and false = refl
-      mark-and false m y h = sym (add-zero (bitAnd m y)) ∙ ap (λ (b : Bool). bitAnd m y + cond b (2 ^ endAt q i n) 0) (sym (and-false (has m (endAt q i n))))
+      mark-and false m y h = sym (add-zero (bitAnd m y)) ∙ ap (λ (b : Bool). bitAnd m y + cond b (2 ^ endAt q i n) 0) (sym (and-false (bitAt m (endAt q i n))))
 
       says-more : (m x : ℕ) (c : List (List ℕ)) → x < 256 → Agrees q i (suc n) c m
           → ruled q b c i (suc n) x
           ≡ settled b (bitAnd m (cond (q (i + n) .accept) (bitOr yes (2 ^ endAt q i n)) yes)) (bitAnd m (cond (not (q (i + n) .accept)) (bitOr noes (2 ^ endAt q i n)) noes)) x
       unfolding ruled
       says-more m x c h a =
-          let f = finds (q (i + n) .path) c in
+          let f = reaches (q (i + n) .path) c in
           let r = g .says m x c h (λ j l. a j (omega arith)) in
           let hy : bitAnd m yes < 2 ^ endAt q i n = omega (arith, and-le-r m yes, g .yes-low, pow-mono {i = length (laid q i n)} {j = endAt q i n} (omega arith)) in
           let hn : bitAnd m noes < 2 ^ endAt q i n = omega (arith, and-le-r m noes, g .no-low, pow-mono {i = length (laid q i n)} {j = endAt q i n} (omega arith)) in
           rw o
-          (ap (λ (z : ℕ). cond f (withRule z b (q (i + n) .accept)) z) r
+          (ap (λ (z : ℕ). cond f (ruledSet z b (q (i + n) .accept)) z) r
           ∙ fair-more x h b fair (bitAnd m yes) (bitAnd m noes) (endAt q i n) hy hn f (q (i + n) .accept)
           ∙ ap₂ (λ (u v : ℕ). settled b u v x)
           (ap (λ (b : Bool). bitAnd m yes + cond (b && q (i + n) .accept) (2 ^ endAt q i n) 0) (sym (a n (omega arith) o)) ∙ sym (mark-and (q (i + n) .accept) m yes (g .yes-low)))
@@ -393,7 +393,7 @@ module _ (number : List ℕ → ℕ) (q : ℕ → Lane) (b : ℕ) (i : ℕ) wher
 
 -- How long the steps of some rules are
 
-module _ (q : ℕ → Lane) (i : ℕ) where
+module _ (q : ℕ → Ruling) (i : ℕ) where
   size-step : (n : ℕ) → length (laid q i (suc n)) ≡ length (laid q i n) + cond (q (i + n) .on) (suc (length (q (i + n) .path))) 0
   size-step n =
       byCase (q (i + n) .on)
@@ -432,22 +432,22 @@ module _ (q : ℕ → Lane) (i : ℕ) where
 -- One rule of a policy more
 
 module _ (number : List ℕ → ℕ) (p own roles : List ℕ) (b : ℕ) (fair : bitOk b ≡ true) where
-  abbrev lane : ℕ → Lane
-  lane = laneAt p own roles b
+  abbrev ruling : ℕ → Ruling
+  ruling = rulingAt p own roles b
 
-  pub lane-added : (i n k : ℕ) → i + n ≡ k → lane k .on ≡ true → (deep every start yes noes used deep' every' start' yes' noes' used' : ℕ) (rows rows' : List ℕ)
-      → Grouped number lane b i n deep every start yes noes used rows
+  pub ruling-added : (i n k : ℕ) → i + n ≡ k → ruling k .on ≡ true → (deep every start yes noes used deep' every' start' yes' noes' used' : ℕ) (rows rows' : List ℕ)
+      → Grouped number ruling b i n deep every start yes noes used rows
       → ((ss : List Step) → length ss ≡ used → Packed number ss deep every rows → Packed number (ss ++ rulePath p own k) deep' every' rows')
       → start' ≡ bitOr start (2 ^ used)
       → yes' ≡ cond (accepts p k) (bitOr yes (2 ^ (used + stepCount p k))) yes
       → noes' ≡ cond (not (accepts p k)) (bitOr noes (2 ^ (used + stepCount p k))) noes
       → used' ≡ used + stepCount p k + 1
-      → Grouped number lane b i (suc n) deep' every' start' yes' noes' used' rows'
-  lane-added i n k z o deep every start y0 noes used deep' every' start' y1 noes' used' rows rows' g f es ey en eu =
-      let kp : Packed number (laid lane i n ++ rulePath p own (i + n)) deep' every' rows' =
-      subst (λ (m : ℕ). Packed number (laid lane i n ++ rulePath p own m) deep' every' rows') (sym z) (f (laid lane i n) (sym (g .used-is)) (g .packed)) in
+      → Grouped number ruling b i (suc n) deep' every' start' yes' noes' used' rows'
+  ruling-added i n k z o deep every start y0 noes used deep' every' start' y1 noes' used' rows rows' g f es ey en eu =
+      let kp : Packed number (laid ruling i n ++ rulePath p own (i + n)) deep' every' rows' =
+      subst (λ (m : ℕ). Packed number (laid ruling i n ++ rulePath p own m) deep' every' rows') (sym z) (f (laid ruling i n) (sym (g .used-is)) (g .packed)) in
       rw (es, ey, en, eu, ← z)
-      (group-more number lane b i n deep every start y0 noes used rows g fair (ap (λ (m : ℕ). lane m .on) z ∙ o) deep' every' rows' kp
+      (group-more number ruling b i n deep every start y0 noes used rows g fair (ap (λ (m : ℕ). ruling m .on) z ∙ o) deep' every' rows' kp
       (stepCount p (i + n)) (sym (length-steps (nameAmong p own) p (stepsAt (i + n)) (stepCount p (i + n)) 0)))
 
 pub not-not : (b : Bool) → not (not b) ≡ b
@@ -464,44 +464,44 @@ module _ (b : ℕ) (fair : bitOk b ≡ true) where
   low update = lit< tt
   low delete = lit< tt
 
-  rule-low : (x : ℕ) (a : Bool) → x < 256 → withRule x b a < 256
+  rule-low : (x : ℕ) (a : Bool) → x < 256 → ruledSet x b a < 256
   rule-low x true h = let d = right-of b fair in rw (d .1) (or-lt 8 x (bitOf (d .0)) h (low (d .0)))
   rule-low x false h = lt-of-le-of-lt (and-le-l x _) h
 
-  rule-over : (x : ℕ) (a e : Bool) → x < 256 → withRule (withRule x b a) b e ≡ withRule x b e
+  rule-over : (x : ℕ) (a e : Bool) → x < 256 → ruledSet (ruledSet x b a) b e ≡ ruledSet x b e
   rule-over x a e h = let d = right-of b fair in rw (d .1) (ruled-over x h (d .0) a e)
 
-  module _ (q : ℕ → Lane) (c : List (List ℕ)) (x : ℕ) (h : x < 256) (e : Bool) where
+  module _ (q : ℕ → Ruling) (c : List (List ℕ)) (x : ℕ) (h : x < 256) (e : Bool) where
     -- the set stays one, and what the rules of a right did before one of them does not matter
-    ruled-last : (i n : ℕ) → (ruled q b c i n x < 256) × (withRule (ruled q b c i n x) b e ≡ withRule x b e)
+    ruled-last : (i n : ℕ) → (ruled q b c i n x < 256) × (ruledSet (ruled q b c i n x) b e ≡ ruledSet x b e)
     unfolding ruled
     ruled-last i zero = (h, refl)
-    ruled-last i (suc n) = go (q (i + n) .on) (finds (q (i + n) .path) c) (ruled q b c i n x) (ruled-last i n)
+    ruled-last i (suc n) = go (q (i + n) .on) (reaches (q (i + n) .path) c) (ruled q b c i n x) (ruled-last i n)
       where
-        go : (o f : Bool) (y : ℕ) → (y < 256) × (withRule y b e ≡ withRule x b e)
-            → (cond o (cond f (withRule y b (q (i + n) .accept)) y) y < 256) × (withRule (cond o (cond f (withRule y b (q (i + n) .accept)) y) y) b e ≡ withRule x b e)
+        go : (o f : Bool) (y : ℕ) → (y < 256) × (ruledSet y b e ≡ ruledSet x b e)
+            → (cond o (cond f (ruledSet y b (q (i + n) .accept)) y) y < 256) × (ruledSet (cond o (cond f (ruledSet y b (q (i + n) .accept)) y) y) b e ≡ ruledSet x b e)
         go true true y w = (rule-low y (q (i + n) .accept) (w .0), rule-over y (q (i + n) .accept) e (w .0) ∙ w .1)
         go true false y w = w
         go false f y w = w
 
   -- a rule for all nodes decides alone over those before it
-  pub general-decides : (q : ℕ → Lane) (c : List (List ℕ)) (w : List ℕ) (k x : ℕ) → x < 256 → General (q k) → withRule x b (q k .accept) ≡ ruled q b (c ++ (w ∷ [])) 0 (k + 1) x
+  pub general-decides : (q : ℕ → Ruling) (c : List (List ℕ)) (w : List ℕ) (k x : ℕ) → x < 256 → General (q k) → ruledSet x b (q k .accept) ≡ ruled q b (c ++ (w ∷ [])) 0 (k + 1) x
   unfolding ruled
   general-decides q c w k x h g =
       let z : 0 + k ≡ k = omega arith in
       rw (add-one k, z, g .on, g .all c w) (sym (ruled-last q (c ++ (w ∷ [])) x h (q k .accept) 0 k .1))
 
-  pub general-at : (q : ℕ → Lane) (t : List ℕ) (i k x : ℕ) → x < 256 → 0 < k → General (q (k - 1)) → withRule x b (q (k - 1) .accept) ≡ ruled q b (chainOf t i) 0 k x
+  pub general-at : (q : ℕ → Ruling) (t : List ℕ) (i k x : ℕ) → x < 256 → 0 < k → General (q (k - 1)) → ruledSet x b (q (k - 1) .accept) ≡ ruled q b (chainOf t i) 0 k x
   unfolding chainTo
   general-at q t i k x h pos g =
       let z : k - 1 + 1 ≡ k = omega arith in
       general-decides q (take (level (recordAt t i)) (chainTo t i)) (label (recordAt t i)) (k - 1) x h g ∙ ap (λ (m : ℕ). ruled q b (take (level (recordAt t i)) (chainTo t i) ++ (label (recordAt t i) ∷ [])) 0 m x) z
 
 -- `//*` finds every node
-pub all-found : (s : Step) → s .deep ≡ true → ((x : List ℕ) → s .passed x ≡ true) → (c : List (List ℕ)) (x : List ℕ) → finds (s ∷ []) (c ++ (x ∷ [])) ≡ true
-unfolding finds
+pub all-found : (s : Step) → s .deep ≡ true → ((x : List ℕ) → s .passed x ≡ true) → (c : List (List ℕ)) (x : List ℕ) → reaches (s ∷ []) (c ++ (x ∷ [])) ≡ true
+unfolding reaches
 all-found s d p [] x = rw (p x)
-all-found s d p (y ∷ c) x = rw (d, all-found s d p c x) (or-true (s .passed y && finds [] (c ++ (x ∷ []))))
+all-found s d p (y ∷ c) x = rw (d, all-found s d p c x) (or-true (s .passed y && reaches [] (c ++ (x ∷ []))))
 
 -- a path of one step, and that of a rule whose only step is `//*`
 one-step : (mine : List ℕ → Bool) (p : List ℕ) (b n : ℕ) → n ≡ 1 → stepsFor mine p b n 0 ≡ stepFor mine (stepOf (recAt p b)) ∷ []
@@ -509,7 +509,7 @@ unfolding stepsFor
 one-step mine p b n e = let z : b + 0 * 32 ≡ b = omega arith in rw (e, z)
 
 pub general-path : (p own : List ℕ) (k : ℕ) → stepCount p k ≡ 1 → (getD p (stepsAt k) 0 ≡ 0 → ⊥) → getD (label (recAt p (stepsAt k))) 0 0 ≡ 42
-    → (c : List (List ℕ)) (x : List ℕ) → finds (rulePath p own k) (c ++ (x ∷ [])) ≡ true
+    → (c : List (List ℕ)) (x : List ℕ) → reaches (rulePath p own k) (c ++ (x ∷ [])) ≡ true
 general-path p own k one far-off any c x =
     let s = stepFor (nameAmong p own) (stepOf (recAt p (stepsAt k))) in
     rw (one-step (nameAmong p own) p (stepsAt k) (stepCount p k) one)

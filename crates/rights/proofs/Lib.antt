@@ -15,7 +15,7 @@ pub mod PathSound
 pub mod PathComplete
 pub mod PathWritten
 pub mod Masks
-pub mod Lanes
+pub mod StateMasks
 pub mod Chains
 pub mod Eaches
 pub mod Roles

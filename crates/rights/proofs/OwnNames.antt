@@ -1,22 +1,21 @@
 -- The subjects for which `$` stands: they are subjects of the policy, and their names are the labels that pass `$`. Nothing here uses for whom it stands. Assumes nothing.
 use Prim.Native.Nat.{ℕ, zero, suc, _+_, _-_, _≤_, _<_}
-use mathlib.Core.Bool.{Bool, true, false, cond, _||_, or-true, or-false, or-assoc, false≢true}
+use mathlib.Core.Bool.{Bool, true, false, _||_, or-true, or-false, or-assoc, false≢true}
 use mathlib.Core.Path.{_≡_, refl, sym, ap, ap₂, _∙_, subst}
-use mathlib.Core.Logic.{_⊎_, ⊎-elim}
 use mathlib.Core.List.{List, [], _∷_, _++_}
-use native.Mathlib.Nat.{eq-or-lt-of-le, sub-zero}
+use native.Mathlib.Nat.{sub-zero}
 use native.Mathlib.Numerals.{add-one}
 use native.Mathlib.Omega.{arith}
-use borrow.Author.Tests.{eqb-true, eqb-false, lt-ltb, le-ltb, ltb-true, ltb-false}
-use lib.Dec.{eqb, ltb}
+use borrow.Author.Tests.{ltb-true, ltb-false}
+use lib.Dec.{ltb}
 use lib.ListN.{length, take, drop, getD, length-append, List·getD-append}
 use lib.Seq.{take-suc, take-all, getD-append-seam}
 use Rattle.rights.specs.Labels.{sameLabel}
 use Rattle.rights.specs.Policy.{Policy, nameOf, some}
 use Rattle.rights.specs.Isa.{standsFor, subjectsWhere, ownSubjects, passesOwn}
-use Rattle.rights.specs.PolicyBytes.{policyOf, subjectCount, nameAt}
-use Rattle.rights.specs.Roles.{Own, Subjects, nameAmong}
-use Rattle.rights.specs.Automaton.{Sound}
+use Rattle.rights.specs.PolicyBytes.{policyOf, nameAt}
+use Rattle.rights.specs.How.Roles.{Own, Subjects, nameAmong}
+use Rattle.rights.specs.How.Automaton.{Sound}
 use Rattle.rights.proofs.Held.{names-length, name-held}
 use Rattle.rights.proofs.Lists.{byCase}
 
@@ -116,23 +115,3 @@ module _ (p ks : List ℕ) (i : ℕ) (x : List ℕ) where
 
   pub names-all : length ks ≤ i → nameAmong p (take i ks) x ≡ nameAmong p ks x
   names-all h = rw (take-all i ks h)
-
--- interim
-where-one : (u n : ℕ) → subjectsWhere (eqb u) n ≡ cond (ltb u n) (u ∷ []) []
-unfolding subjectsWhere
-where-one u zero = rw (le-ltb u 0 (omega arith))
-where-one u (suc n) =
-    byCase (eqb u n)
-    (λ e. let z = eqb-true u n e in rw (e, where-one u n, le-ltb u n (omega arith), lt-ltb u (suc n) (omega arith)) (ap (λ (k : ℕ). k ∷ []) (sym z)))
-    (λ e. let z = eqb-false u n e in
-    byCase (ltb u n)
-    (λ l. rw (e, where-one u n, l, lt-ltb u (suc n) (omega (arith, ltb-true u n l))))
-    (λ l. rw (e, where-one u n, l, le-ltb u (suc n) (le-of z (ltb-false u n l)))))
-  where
-    le-of : {u n : ℕ} → (u ≡ n → ⊥) → n ≤ u → suc n ≤ u
-    le-of {u} {n} z l = ⊎-elim (λ (q : n ≡ u). absurd (z (sym q))) (λ q. q) (eq-or-lt-of-le l)
-
-pub own-held : (p : List ℕ) (u : ℕ) → u < subjectCount p → (x : List ℕ) → passesOwn (policyOf p) u x ≡ sameLabel x (nameAt p u)
-unfolding passesOwn standsFor some
-own-held p u h x =
-    rw (names-length p, where-one u (subjectCount p), lt-ltb u (subjectCount p) h) (or-false _ ∙ ap (sameLabel x) (name-held p u h))

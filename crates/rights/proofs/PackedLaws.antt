@@ -16,18 +16,18 @@ use Rattle.rights.specs.Path.{isDescendant}
 use Rattle.rights.specs.Rights.{Step, stepFor}
 use Rattle.rights.specs.Table.{recAt, label}
 use Rattle.rights.specs.Policy.{Rule, some, uses}
-use Rattle.rights.specs.PolicyBytes.{nameAt, stepOf, axisOf, ruleCount, stepCount, stepsAt, pathOf}
-use Rattle.rights.specs.Roles.{nameAmong}
-use Rattle.rights.specs.Automaton.{deeps, passedBy, stepsFor}
-use Rattle.rights.specs.Groups.{has, never, Packed, Noted, Known}
-use Rattle.rights.specs.Vocabulary.{wordAt, numberIn, Sorted}
+use Rattle.rights.specs.PolicyBytes.{nameAt, stepOf, axisOf, ruleCount, stepCount, stepsAt, storedPath}
+use Rattle.rights.specs.How.Roles.{nameAmong}
+use Rattle.rights.specs.How.Automaton.{deeps, passedBy, stepsFor}
+use Rattle.rights.specs.How.Groups.{bitAt, never, Packed, Noted, Known}
+use Rattle.rights.specs.How.Vocabulary.{wordAt, numberIn, Sorted}
 use Rattle.rights.proofs.OwnNames.{some-at}
 use Rattle.rights.proofs.LabelLaws.{same-self}
 use Rattle.rights.proofs.PolicyWords.{step-found, rule-found, uses-label}
-use Rattle.rights.proofs.Lanes.{length-steps}
+use Rattle.rights.proofs.StateMasks.{length-steps}
 use Rattle.rights.proofs.Lists.{byCase}
 use Rattle.rights.proofs.Texts.{first-at, passes-any, passes-mine, passes-label}
-use Rattle.rights.proofs.BitLaws.{has-or, has-one, has-none}
+use Rattle.rights.proofs.BitLaws.{bitAt-or, bitAt-one, bitAt-none}
 use Rattle.rights.proofs.VocabularyLaws.{number-decides}
 
 -- one step more at the end
@@ -67,8 +67,8 @@ pub packed-none : (number : List ℕ → ℕ) (rows : List ℕ) → length rows 
 unfolding deeps passedBy
 packed-none number rows e z = record {
   long = e;
-  deep-bits = λ j. has-none j;
-  row = λ x j. sym (ap₂ _||_ (has-none j) (ap (λ (n : ℕ). has n j) (z x) ∙ has-none j));
+  deep-bits = λ j. bitAt-none j;
+  row = λ x j. sym (ap₂ _||_ (bitAt-none j) (ap (λ (n : ℕ). bitAt n j) (z x) ∙ bitAt-none j));
 }
 
 module _ (number : List ℕ → ℕ) (ss : List Step) (deep every : ℕ) (rows : List ℕ) (k : Packed number ss deep every rows) where
@@ -81,15 +81,15 @@ module _ (number : List ℕ → ℕ) (ss : List Step) (deep every : ℕ) (rows :
   }
 
   module _ (s : Step) (j : ℕ) (here : length ss ≡ j) where
-    deep-more : (d : Bool) → d ≡ s .deep → (i : ℕ) → has (cond d (bitOr deep (2 ^ j)) deep) i ≡ getD (deeps (ss ++ (s ∷ []))) i false
-    deep-more true e i = has-or deep (2 ^ j) i ∙ ap₂ _||_ (k .deep-bits i) (has-one j i ∙ go (eqb i j) ∙ ap₂ (λ (n : ℕ) (b : Bool). eqb i n && b) (sym here) e) ∙ sym (deeps-more ss s i)
+    deep-more : (d : Bool) → d ≡ s .deep → (i : ℕ) → bitAt (cond d (bitOr deep (2 ^ j)) deep) i ≡ getD (deeps (ss ++ (s ∷ []))) i false
+    deep-more true e i = bitAt-or deep (2 ^ j) i ∙ ap₂ _||_ (k .deep-bits i) (bitAt-one j i ∙ go (eqb i j) ∙ ap₂ (λ (n : ℕ) (b : Bool). eqb i n && b) (sym here) e) ∙ sym (deeps-more ss s i)
       where
         go : (b : Bool) → b ≡ b && true
         go true = refl
         go false = refl
     deep-more false e i = k .deep-bits i ∙ or-none _ (eqb i (length ss)) ∙ ap (λ (b : Bool). getD (deeps ss) i false || (eqb i (length ss) && b)) e ∙ sym (deeps-more ss s i)
 
-    passed-new : (x : List ℕ) (i : ℕ) → getD (passedBy (ss ++ (s ∷ [])) x) i false ≡ (has every i || has (getD rows (number x) 0) i) || (eqb i j && s .passed x)
+    passed-new : (x : List ℕ) (i : ℕ) → getD (passedBy (ss ++ (s ∷ [])) x) i false ≡ (bitAt every i || bitAt (getD rows (number x) 0) i) || (eqb i j && s .passed x)
     passed-new x i = passed-more ss s x i ∙ ap₂ (λ (b : Bool) (n : ℕ). b || (eqb i n && s .passed x)) (k .row x i) here
 
     -- a step that all labels pass
@@ -98,9 +98,9 @@ module _ (number : List ℕ → ℕ) (ss : List Step) (deep every : ℕ) (rows :
       long = k .long;
       deep-bits = deep-more d e;
       row = λ x i. passed-new x i
-          ∙ ap (λ (b : Bool). (has every i || has (getD rows (number x) 0) i) || (eqb i j && b)) (f x)
-          ∙ go (has every i) (has (getD rows (number x) 0) i) (eqb i j)
-          ∙ ap (λ (b : Bool). b || has (getD rows (number x) 0) i) (sym (has-or every (2 ^ j) i ∙ ap (λ (b : Bool). has every i || b) (has-one j i)));
+          ∙ ap (λ (b : Bool). (bitAt every i || bitAt (getD rows (number x) 0) i) || (eqb i j && b)) (f x)
+          ∙ go (bitAt every i) (bitAt (getD rows (number x) 0) i) (eqb i j)
+          ∙ ap (λ (b : Bool). b || bitAt (getD rows (number x) 0) i) (sym (bitAt-or every (2 ^ j) i ∙ ap (λ (b : Bool). bitAt every i || b) (bitAt-one j i)));
     }
       where
         go : (a r b : Bool) → (a || r) || (b && true) ≡ (a || b) || r
@@ -117,9 +117,9 @@ module _ (number : List ℕ → ℕ) (ss : List Step) (deep every : ℕ) (rows :
       long = w .long ∙ k .long;
       deep-bits = deep-more d e;
       row = λ x i. passed-new x i
-          ∙ ap (λ (b : Bool). (has every i || has (getD rows (number x) 0) i) || (eqb i j && b)) (same x)
-          ∙ go (has every i) (has (getD rows (number x) 0) i) (eqb i j) (f x)
-          ∙ ap (λ (b : Bool). has every i || b) (sym (w .row x i));
+          ∙ ap (λ (b : Bool). (bitAt every i || bitAt (getD rows (number x) 0) i) || (eqb i j && b)) (same x)
+          ∙ go (bitAt every i) (bitAt (getD rows (number x) 0) i) (eqb i j) (f x)
+          ∙ ap (λ (b : Bool). bitAt every i || b) (sym (w .row x i));
     }
       where
         go : (a r b n : Bool) → (a || r) || (b && n) ≡ a || (r || (n && b))
@@ -134,17 +134,17 @@ module _ (number : List ℕ → ℕ) (ss : List Step) (deep every : ℕ) (rows :
 
 module _ (number : List ℕ → ℕ) (rows : List ℕ) (j : ℕ) where
   pub noted-none : (f : List ℕ → Bool) → ((x : List ℕ) → f x ≡ false) → Noted number rows rows j f
-  noted-none f e = record { long = refl; row = λ x i. rw (e x) (sym (or-false (has (getD rows (number x) 0) i))) }
+  noted-none f e = record { long = refl; row = λ x i. rw (e x) (sym (or-false (bitAt (getD rows (number x) 0) i))) }
 
   pub noted-alike : (rows' : List ℕ) (f g : List ℕ → Bool) → ((x : List ℕ) → f x ≡ g x) → Noted number rows rows' j f → Noted number rows rows' j g
-  noted-alike rows' f g e a = record { long = a .long; row = λ x i. a .row x i ∙ ap (λ (v : Bool). has (getD rows (number x) 0) i || (v && eqb i j)) (e x) }
+  noted-alike rows' f g e a = record { long = a .long; row = λ x i. a .row x i ∙ ap (λ (v : Bool). bitAt (getD rows (number x) 0) i || (v && eqb i j)) (e x) }
 
   pub noted-then : (rows' rows'' : List ℕ) (f g h : List ℕ → Bool) → ((x : List ℕ) → h x ≡ f x || g x)
       → Noted number rows rows' j f → Noted number rows' rows'' j g → Noted number rows rows'' j h
   noted-then rows' rows'' f g h e a b = record {
     long = b .long ∙ a .long;
     row = λ x i. b .row x i ∙ ap (λ (v : Bool). v || (g x && eqb i j)) (a .row x i)
-        ∙ go (has (getD rows (number x) 0) i) (f x) (g x) (eqb i j) ∙ ap (λ (v : Bool). has (getD rows (number x) 0) i || (v && eqb i j)) (sym (e x));
+        ∙ go (bitAt (getD rows (number x) 0) i) (f x) (g x) (eqb i j) ∙ ap (λ (v : Bool). bitAt (getD rows (number x) 0) i || (v && eqb i j)) (sym (e x));
   }
     where
       go : (r a b n : Bool) → (r || (a && n)) || (b && n) ≡ r || ((a || b) && n)
@@ -159,18 +159,18 @@ module _ (p ws : List ℕ) (n : ℕ) (w rows : List ℕ) (h j : ℕ) (room : h <
   noted-label = record {
     long = length-set rows h _;
     row = λ x i. more (numberIn p ws n x) i
-        ∙ ap (λ (b : Bool). has (getD rows (numberIn p ws n x) 0) i || (b && eqb i j)) (ap (eqb (numberIn p ws n x)) e ∙ number-decides (wordAt p ws) n x w word);
+        ∙ ap (λ (b : Bool). bitAt (getD rows (numberIn p ws n x) 0) i || (b && eqb i j)) (ap (eqb (numberIn p ws n x)) e ∙ number-decides (wordAt p ws) n x w word);
   }
     where
-      more : (g i : ℕ) → has (getD (set rows h (bitOr (getD rows h 0) (2 ^ j))) g 0) i ≡ has (getD rows g 0) i || (eqb g h && eqb i j)
+      more : (g i : ℕ) → bitAt (getD (set rows h (bitOr (getD rows h 0) (2 ^ j))) g 0) i ≡ bitAt (getD rows g 0) i || (eqb g h && eqb i j)
       more g i =
           byCase (eqb g h)
-          (λ q. ap (λ (z : ℕ). has (getD (set rows h (bitOr (getD rows h 0) (2 ^ j))) z 0) i) (eqb-true g h q)
-          ∙ ap (λ (z : ℕ). has z i) (getD-set-same rows h _ 0 room)
-          ∙ has-or (getD rows h 0) (2 ^ j) i
-          ∙ ap₂ (λ (z : ℕ) (b : Bool). has (getD rows z 0) i || b) (sym (eqb-true g h q)) (has-one j i)
+          (λ q. ap (λ (z : ℕ). bitAt (getD (set rows h (bitOr (getD rows h 0) (2 ^ j))) z 0) i) (eqb-true g h q)
+          ∙ ap (λ (z : ℕ). bitAt z i) (getD-set-same rows h _ 0 room)
+          ∙ bitAt-or (getD rows h 0) (2 ^ j) i
+          ∙ ap₂ (λ (z : ℕ) (b : Bool). bitAt (getD rows z 0) i || b) (sym (eqb-true g h q)) (bitAt-one j i)
           ∙ rw q)
-          (λ q. ap (λ (z : ℕ). has z i) (getD-set-other rows h g _ 0 (eqb-false g h q)) ∙ sym (or-false (has (getD rows g 0) i)) ∙ rw q)
+          (λ q. ap (λ (z : ℕ). bitAt z i) (getD-set-other rows h g _ 0 (eqb-false g h q)) ∙ sym (or-false (bitAt (getD rows g 0) i)) ∙ rw q)
 
 -- the steps of a path, one more at the end
 pub steps-more : (mine : List ℕ → Bool) (p : List ℕ) (b n i : ℕ) → stepsFor mine p b (suc n) i ≡ stepsFor mine p b n i ++ (stepFor mine (stepOf (recAt p (b + (i + n) * 32))) ∷ [])
@@ -192,7 +192,7 @@ module _ (p own ws : List ℕ) (n : ℕ) (k : Sorted p own ws n) where
   sorted-step r j h l any own-sign =
       let rec = recAt p (stepsAt r + j * 32) in
       let x = label rec in
-      let one : some (uses false x) (pathOf p r) ≡ true = step-found p (uses false x) (stepsAt r) (stepCount p r) j l (uses-label x rec false any own-sign refl ∙ same-self x) in
+      let one : some (uses false x) (storedPath p r) ≡ true = step-found p (uses false x) (stepsAt r) (stepCount p r) j l (uses-label x rec false any own-sign refl ∙ same-self x) in
       ltb-true 0 _ (k .holds x ∙ rw (rule-found p (λ (q : Rule). some (uses false x) (q .path)) (ruleCount p) r h one) (or-true (nameAmong p own x)))
 
 -- a step of a policy: whether it goes to all descendants, and which labels pass it

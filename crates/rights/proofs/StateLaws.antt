@@ -2,7 +2,7 @@
 use Prim.Native.Nat.{ℕ, suc, zero, _+_, _*_, _%_, _^_, _≤_}
 use mathlib.Core.Bool.{Bool, _&&_, _||_}
 use mathlib.Core.Path.{_≡_, sym, ap, ap₂, _∙_}
-use mathlib.Core.Logic.{_⊎_, ⊎-elim}
+use mathlib.Core.Logic.{⊎-elim}
 use mathlib.Core.List.{List, [], _∷_, _++_}
 use native.Mathlib.Nat.{not-suc-le-zero, eq-or-lt-of-le}
 use native.Mathlib.Omega.{arith}
@@ -11,12 +11,12 @@ use lib.ListN.{length, take, getD, set, length-append, replicate}
 use lib.Seq.{length-take-le, take-append-le, take-take, take-all, getD-set-same, getD-set-other}
 use Rattle.rights.specs.Table.{level, label, recordAt}
 use Rattle.rights.specs.Rights.{Step}
-use Rattle.rights.specs.Automaton.{value, meet, deeps, passedBy, moved, states, chainTo}
-use Rattle.rights.specs.Groups.{has, Packed}
+use Rattle.rights.specs.How.Automaton.{value, meet, deeps, passedBy, moved, states, chainTo}
+use Rattle.rights.specs.How.Groups.{bitAt, Packed}
 use Rattle.rights.proofs.Texts.{first-at}
-use Rattle.rights.proofs.Lanes.{bit-test, moved-mask}
+use Rattle.rights.proofs.StateMasks.{bit-test, moved-mask}
 use Rattle.rights.proofs.Chains.{states-more}
-use Rattle.rights.proofs.BitLaws.{get-meet, has-and, has-or, has-value}
+use Rattle.rights.proofs.BitLaws.{get-meet, bitAt-and, bitAt-or, bitAt-value}
 
 -- the masks of the levels are those of the chain, level by level, from the states s on
 abbrev pub Levels : List Step → List Bool → List ℕ → List (List ℕ) → Type 0
@@ -65,8 +65,8 @@ levels-start ss s m t e (suc l) h = absurd (not-suc-le-zero h)
 pub next-mask : (number : List ℕ → ℕ) (ss : List Step) (st : List Bool) (deep every row m : ℕ) (rows x : List ℕ) → Packed number ss deep every rows → length ss ≤ 63
     → row ≡ getD rows (number x) 0 → m ≡ value st → bitOr (bitAnd m deep) (bitAnd m (bitOr every row) * 2 ^ 1 % 2 ^ 64) ≡ value (moved ss st x)
 next-mask number ss st deep every row m rows x k few er em =
-    moved-mask ss st x m deep (bitAnd m (bitOr every row)) few em (has-value deep (deeps ss) (k .deep-bits))
-    (has-value (bitAnd m (bitOr every row)) (meet st (passedBy ss x))
-    (λ j. has-and m (bitOr every row) j
-    ∙ ap₂ _&&_ (ap (λ (n : ℕ). has n j) em ∙ bit-test st j) (has-or every row j ∙ ap (λ (n : ℕ). has every j || has n j) er ∙ sym (k .row x j))
+    moved-mask ss st x m deep (bitAnd m (bitOr every row)) few em (bitAt-value deep (deeps ss) (k .deep-bits))
+    (bitAt-value (bitAnd m (bitOr every row)) (meet st (passedBy ss x))
+    (λ j. bitAt-and m (bitOr every row) j
+    ∙ ap₂ _&&_ (ap (λ (n : ℕ). bitAt n j) em ∙ bit-test st j) (bitAt-or every row j ∙ ap (λ (n : ℕ). bitAt every j || bitAt n j) er ∙ sym (k .row x j))
     ∙ sym (get-meet st (passedBy ss x) j)))

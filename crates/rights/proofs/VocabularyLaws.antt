@@ -14,7 +14,7 @@ use lib.Seq.{getD-set-same, getD-set-other}
 use Rattle.rights.specs.Labels.{foldedLabel, sameLabel}
 use Rattle.rights.specs.Table.{recAt, label}
 use Rattle.rights.specs.PolicyBytes.{Text}
-use Rattle.rights.specs.Vocabulary.{order, labelOrder, wordAt, wordNumber, numberIn, isWord, Words, Inserted, Added}
+use Rattle.rights.specs.How.Vocabulary.{order, labelOrder, wordAt, wordNumber, numberIn, isWord, Words, Inserted, Added}
 use Rattle.rights.proofs.LabelLaws.{same-sym, same-left, same-right, same-order, order-flip, order-through, order-same, order-other}
 use Rattle.rights.proofs.BoolLaws.{both-ways, or-left, or-right, or-split}
 use Rattle.rights.proofs.Lists.{byCase}

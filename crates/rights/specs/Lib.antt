@@ -1,3 +1,4 @@
+pub mod Limits
 pub mod Bytes
 pub mod Marks
 pub mod Labels
@@ -6,15 +7,12 @@ pub mod Path
 pub mod Policy
 pub mod Isa
 pub mod PolicyBytes
-pub mod Roles
 pub mod PathReader
 pub mod PathText
 pub mod Rights
-pub mod Automaton
-pub mod Groups
-pub mod Vocabulary
 pub mod PolicyCheck
 pub mod Record
 pub mod Nodes
+pub mod Tree
 pub mod XPath
-pub mod Selection
+pub mod How

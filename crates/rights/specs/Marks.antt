@@ -28,3 +28,8 @@ marked n ms = markCount (marksOf (take n ms))
 unfoldable pub eachFrom : {A : Type 0} → (ℕ → A) → ℕ → ℕ → List A
 eachFrom f i zero = []
 eachFrom f i (suc n) = f i ∷ eachFrom f (suc i) n
+
+-- for each of the n nodes from i on, 1 where it is in f, else 0
+unfoldable pub bitsFrom : (ℕ → Bool) → ℕ → ℕ → List ℕ
+bitsFrom f i zero = []
+bitsFrom f i (suc n) = bit (f i) ∷ bitsFrom f (suc i) n

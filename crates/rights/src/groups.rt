@@ -25,14 +25,14 @@ ghost use lib.Dec.{eqb};
 ghost use lib.ListN.{length, getD};
 ghost use Rattle.rights.specs.Path.{isDescendant};
 ghost use Rattle.rights.specs.Labels.{sameLabel};
-ghost use Rattle.rights.specs.Roles.{nameAmong};
+ghost use Rattle.rights.specs.How.Roles.{nameAmong};
 ghost use Rattle.rights.specs.Table.{recAt, label};
 ghost use Rattle.rights.specs.PolicyBytes.{ruleCount, stepCount, stepOf, accepts, axisOf, Text};
 ghost use Rattle.rights.specs.PolicyCheck.{bitOk};
-ghost use Rattle.rights.specs.Rights.{Step, stepFor, withRule};
-ghost use Rattle.rights.specs.Automaton.{value, moved, stepsFor, rulePath, chainOf, Each, Steps, Sound};
-ghost use Rattle.rights.specs.Vocabulary.{numberIn, Words};
-ghost use Rattle.rights.specs.Groups.{counts, laneAt, laid, ruled, byRight, byFive, settled, Packed, Grouped, Ready, Numbered, Noted, Known, General};
+ghost use Rattle.rights.specs.Rights.{Step, stepFor, ruledSet};
+ghost use Rattle.rights.specs.How.Automaton.{value, moved, stepsFor, rulePath, chainOf, Each, Steps, Sound};
+ghost use Rattle.rights.specs.How.Vocabulary.{numberIn, Words};
+ghost use Rattle.rights.specs.How.Groups.{counts, rulingAt, laid, ruled, byRight, byFive, settled, Packed, Grouped, Ready, Numbered, Noted, Known, General};
 
 // The bit at a place.
 fn one_at(j: usize) -> u64
@@ -200,7 +200,7 @@ fn size_of(policy: &[u8], roles: &[u8; 64], right: u8, k: usize) -> usize
 fn group_end(policy: &[u8], roles: &[u8; 64], right: u8, from: usize, count: usize) -> usize
     requires { ⌜ Sound (now policy) × (count ≡ ruleCount (now policy)) × (from < count) ⌝ }
     ensures { λ r. ⌜ (from < r) × (r ≤ count) × ((own : List ℕ)
-        → length (laid (laneAt (now (policy .entry)) own (now (roles .entry)) right) from (r - from)) ≤ 63) ⌝ }
+        → length (laid (rulingAt (now (policy .entry)) own (now (roles .entry)) right) from (r - from)) ≤ 63) ⌝ }
 {
     let mut used = 0;
     let mut k = from;
@@ -278,7 +278,7 @@ fn with_rule(
 }
 
 // The group with rule k, if it counts.
-fn with_lane(
+fn with_ruling(
     policy: &[u8],
     own: &[u8],
     words: &[u32],
@@ -292,9 +292,9 @@ fn with_lane(
     requires { ⌜ Ready (now policy) (now own) (now words) n × (k < ruleCount (now policy)) × (bitOk right ≡ true)
         × (g .used + cond (counts (now policy) (now roles) right k) (suc (stepCount (now policy) k)) 0 ≤ 63) × (length (now rows) ≡ 2113) ⌝ }
     ensures { λ r. ⌜ ((i size : ℕ) → i + size ≡ k → Grouped (numberIn (now (policy .entry)) (now (words .entry)) n)
-        (laneAt (now (policy .entry)) (now (own .entry)) (now (roles .entry)) right) right i size (g .deep) (g .every) (g .start) (g .yes) (g .noes)
+        (rulingAt (now (policy .entry)) (now (own .entry)) (now (roles .entry)) right) right i size (g .deep) (g .every) (g .start) (g .yes) (g .noes)
         (g .used) (now (rows .entry)) → Grouped (numberIn (now (policy .entry)) (now (words .entry)) n)
-        (laneAt (now (policy .entry)) (now (own .entry)) (now (roles .entry)) right) right i (suc size) (r .deep) (r .every) (r .start) (r .yes)
+        (rulingAt (now (policy .entry)) (now (own .entry)) (now (roles .entry)) right) right i (suc size) (r .deep) (r .every) (r .start) (r .yes)
         (r .noes) (r .used) (now (rows .exit))) × (length (now (rows .exit)) ≡ 2113) ⌝ }
 {
     if counts(policy, roles, right, k) {
@@ -328,9 +328,9 @@ fn make_group(
     rows: &mut [u64],
 ) -> Group
     requires { ⌜ Ready (now policy) (now own) (now words) n × (from ≤ to) × (to ≤ ruleCount (now policy)) × (bitOk right ≡ true)
-        × (length (laid (laneAt (now policy) (now own) (now roles) right) from (to - from)) ≤ 63) × (length (now rows) ≡ 2113) ⌝ }
+        × (length (laid (rulingAt (now policy) (now own) (now roles) right) from (to - from)) ≤ 63) × (length (now rows) ≡ 2113) ⌝ }
     ensures { λ r. ⌜ Grouped (numberIn (now (policy .entry)) (now (words .entry)) n)
-        (laneAt (now (policy .entry)) (now (own .entry)) (now (roles .entry)) right) right from (to - from) (r .deep) (r .every) (r .start) (r .yes)
+        (rulingAt (now (policy .entry)) (now (own .entry)) (now (roles .entry)) right) right from (to - from) (r .deep) (r .every) (r .start) (r .yes)
         (r .noes) (r .used) (now (rows .exit)) ⌝ }
 {
     clear_rows(rows, n + 1);
@@ -344,7 +344,7 @@ fn make_group(
     };
     let mut k = from;
     while k < to {
-        g = with_lane(policy, own, words, n, roles, right, k, g, rows);
+        g = with_ruling(policy, own, words, n, roles, right, k, g, rows);
         k += 1;
     }
     g
@@ -360,7 +360,7 @@ fn next_states(deep: u64, every: u64, row: u64, m: u64) -> u64
 
 // The set after a rule that applies: its right's bit is set or cleared by mask.
 fn with_right(set: u8, right: u8, accept: bool) -> u8
-    ensures { λ r. ⌜ (r ≡ withRule set right accept) × (set < 256) ⌝ }
+    ensures { λ r. ⌜ (r ≡ ruledSet set right accept) × (set < 256) ⌝ }
 {
     if accept {
         return set | right;
@@ -398,10 +398,10 @@ fn try_group(
     out: &mut [u8],
 )
     requires { ⌜ Ready (now policy) (now own) (now words) count × (from ≤ to) × (to ≤ ruleCount (now policy)) × (bitOk right ≡ true)
-        × (length (laid (laneAt (now policy) (now own) (now roles) right) from (to - from)) ≤ 63) × (length (now rows) ≡ 2113)
+        × (length (laid (rulingAt (now policy) (now own) (now roles) right) from (to - from)) ≤ 63) × (length (now rows) ≡ 2113)
         × Numbered (now policy) (now words) count (now t) n (now numbers) × (n ≤ length (now out)) ⌝ }
     ensures { λ _. ⌜ (length (now (rows .exit)) ≡ 2113) × Each n (now (out .entry)) (now (out .exit))
-        (λ (i x : ℕ). ruled (laneAt (now (policy .entry)) (now (own .entry)) (now (roles .entry)) right) right (chainOf (now (t .entry)) i) from
+        (λ (i x : ℕ). ruled (rulingAt (now (policy .entry)) (now (own .entry)) (now (roles .entry)) right) right (chainOf (now (t .entry)) i) from
         (to - from) x) ⌝ }
 {
     let g = make_group(policy, own, words, count, roles, right, from, to, rows);
@@ -428,7 +428,7 @@ fn try_group(
 // Whether rule k counts and is for all nodes: its path is `//*`.
 fn is_general(policy: &[u8], roles: &[u8; 64], right: u8, k: usize) -> bool
     requires { ⌜ Sound (now policy) × (k < ruleCount (now policy)) ⌝ }
-    ensures { λ r. ⌜ (r ≡ true → (own : List ℕ) → General (laneAt (now (policy .entry)) own (now (roles .entry)) right k)) ⌝ }
+    ensures { λ r. ⌜ (r ≡ true → (own : List ℕ) → General (rulingAt (now (policy .entry)) own (now (roles .entry)) right k)) ⌝ }
 {
     let a = RULES_AT + k * RULE_BYTES;
     if policy[a + 3] != 1 {
@@ -446,7 +446,7 @@ fn is_general(policy: &[u8], roles: &[u8; 64], right: u8, k: usize) -> bool
 // One past the last rule that is for all nodes, or 0: what the rules before it say of the right is overridden.
 fn general_end(policy: &[u8], roles: &[u8; 64], right: u8, count: usize) -> usize
     requires { ⌜ Sound (now policy) × (count ≡ ruleCount (now policy)) ⌝ }
-    ensures { λ r. ⌜ (r ≤ count) × (0 < r → (own : List ℕ) → General (laneAt (now (policy .entry)) own (now (roles .entry)) right (r - 1))) ⌝ }
+    ensures { λ r. ⌜ (r ≤ count) × (0 < r → (own : List ℕ) → General (rulingAt (now (policy .entry)) own (now (roles .entry)) right (r - 1))) ⌝ }
 {
     let mut k = count;
     while 0 < k {
@@ -461,7 +461,7 @@ fn general_end(policy: &[u8], roles: &[u8; 64], right: u8, count: usize) -> usiz
 // Sets or clears a right on the first n nodes.
 fn rule_all(right: u8, accept: bool, n: usize, out: &mut [u8])
     requires { ⌜ n ≤ length (now out) ⌝ }
-    ensures { λ _. ⌜ Each n (now (out .entry)) (now (out .exit)) (λ (i x : ℕ). withRule x right accept)
+    ensures { λ _. ⌜ Each n (now (out .entry)) (now (out .exit)) (λ (i x : ℕ). ruledSet x right accept)
         × ((i : ℕ) → i < n → getD (now (out .entry)) i 0 < 256) ⌝ }
 {
     let mut i = 0;
@@ -482,9 +482,9 @@ fn try_general(
     out: &mut [u8],
 )
     requires { ⌜ Sound (now policy) × (bitOk right ≡ true) × (k ≤ ruleCount (now policy))
-        × (0 < k → (own : List ℕ) → General (laneAt (now policy) own (now roles) right (k - 1))) × (n ≤ length (now out)) ⌝ }
+        × (0 < k → (own : List ℕ) → General (rulingAt (now policy) own (now roles) right (k - 1))) × (n ≤ length (now out)) ⌝ }
     ensures { λ _. ⌜ ((own : List ℕ) → Each n (now (out .entry)) (now (out .exit))
-        (λ (i x : ℕ). ruled (laneAt (now (policy .entry)) own (now (roles .entry)) right) right (chainOf (now (t .entry)) i) 0 k x)) ⌝ }
+        (λ (i x : ℕ). ruled (rulingAt (now (policy .entry)) own (now (roles .entry)) right) right (chainOf (now (t .entry)) i) 0 k x)) ⌝ }
 {
     if k == 0 {
         return;
@@ -510,7 +510,7 @@ fn try_right(
     requires { ⌜ Ready (now policy) (now own) (now words) count × (bitOk right ≡ true) × (length (now rows) ≡ 2113)
         × Numbered (now policy) (now words) count (now t) n (now numbers) × (n ≤ length (now out)) ⌝ }
     ensures { λ _. ⌜ (length (now (rows .exit)) ≡ 2113) × Each n (now (out .entry)) (now (out .exit))
-        (λ (i x : ℕ). ruled (laneAt (now (policy .entry)) (now (own .entry)) (now (roles .entry)) right) right (chainOf (now (t .entry)) i) 0
+        (λ (i x : ℕ). ruled (rulingAt (now (policy .entry)) (now (own .entry)) (now (roles .entry)) right) right (chainOf (now (t .entry)) i) 0
         (ruleCount (now (policy .entry))) x) ⌝ }
 {
     let rules = wide(policy[2]);

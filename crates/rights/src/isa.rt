@@ -10,8 +10,8 @@ ghost use lib.ListN.{length, take};
 ghost use Rattle.rights.specs.Isa.{standsFor};
 ghost use Rattle.rights.specs.PolicyBytes.{policyOf, subjectCount, isaCount};
 ghost use Rattle.rights.specs.PolicyCheck.{policyOk};
-ghost use Rattle.rights.specs.Roles.{Roles, Own, lined, widened};
-ghost use Rattle.rights.specs.Automaton.{Sound};
+ghost use Rattle.rights.specs.How.Roles.{Roles, Own, lined, widened};
+ghost use Rattle.rights.specs.How.Automaton.{Sound};
 
 // Sets the role that isa line j gives to subject k.
 fn add_role(policy: &[u8], k: usize, j: usize, out: &mut [u8; 64])

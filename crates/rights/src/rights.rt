@@ -15,12 +15,13 @@ ghost use mathlib.Core.Bool.{true};
 ghost use Prim.Native.Nat.{ℕ, _+_, _*_, _/_, _%_, _≤_, _<_};
 ghost use lib.ListN.{length, drop};
 ghost use lib.Dec.{eqb};
+ghost use Rattle.rights.specs.Limits.{recordsMax};
 ghost use Rattle.rights.specs.Table.{recordsFrom, recordsOk, records, count, tableOk};
 ghost use Rattle.rights.specs.PolicyCheck.{bitOk, policyOk};
 ghost use Rattle.rights.specs.PolicyBytes.{policyOf, subjectCount, ruleCount, rightBit};
 ghost use Rattle.rights.specs.Rights.{rightsOn, askedOn};
-ghost use Rattle.rights.specs.Roles.{Roles};
-ghost use Rattle.rights.specs.Automaton.{Each, Sound};
+ghost use Rattle.rights.specs.How.Roles.{Roles};
+ghost use Rattle.rights.specs.How.Automaton.{Each, Sound};
 
 // Sets the first n bytes of out to 0: no rights.
 fn clear_rights(out: &mut [u8], n: usize)
@@ -45,7 +46,7 @@ fn rights_of(
     out: &mut [u8],
 )
     requires { ⌜ Sound (now policy) × ((k : ℕ) → k < ruleCount (now policy) → bitOk (rightBit (now policy) k) ≡ true)
-        × Roles (now policy) u (now roles) × (4 + n * 32 ≤ length (now t)) × (recordsOk 0 0 (recordsFrom (now t) n 0) ≡ true) × (n ≤ 16384)
+        × Roles (now policy) u (now roles) × (4 + n * 32 ≤ length (now t)) × (recordsOk 0 0 (recordsFrom (now t) n 0) ≡ true) × (n ≤ recordsMax)
         × (n ≤ length (now out)) ⌝ }
     ensures { λ _. ⌜ now (out .exit) ≡ askedOn asked (policyOf (now (policy .entry))) u (recordsFrom (now (t .entry)) n 0) ++ drop n
         (now (out .entry)) ⌝ }

@@ -20,10 +20,10 @@ ghost use lib.ListN.{length, getD};
 ghost use Rattle.rights.specs.Table.{recAt, recordAt, recordsFrom, recordsOk, label};
 ghost use Rattle.rights.specs.Labels.{sameLabel};
 ghost use Rattle.rights.specs.Policy.{some, uses};
-ghost use Rattle.rights.specs.PolicyBytes.{ruleCount, stepOf, stepsFrom, pathOf, Text};
-ghost use Rattle.rights.specs.Roles.{Subjects, nameAmong};
-ghost use Rattle.rights.specs.Automaton.{Each, Steps, Sound};
-ghost use Rattle.rights.specs.Vocabulary.{labelOrder, wordAt, numberIn, named, Words, Stands, Inserted, Added, Sorted};
+ghost use Rattle.rights.specs.PolicyBytes.{ruleCount, stepOf, stepsFrom, storedPath, Text};
+ghost use Rattle.rights.specs.How.Roles.{Subjects, nameAmong};
+ghost use Rattle.rights.specs.How.Automaton.{Each, Steps, Sound};
+ghost use Rattle.rights.specs.How.Vocabulary.{labelOrder, wordAt, numberIn, named, Words, Stands, Inserted, Added, Sorted};
 
 // Where a label stands among the words: at one that it is, or missing before one.
 pub enum Spot {
@@ -161,7 +161,7 @@ fn add_path(policy: &[u8], b: usize, count: usize, words: &mut [u32], n: usize) 
 fn add_rule(policy: &[u8], k: usize, words: &mut [u32], n: usize) -> usize
     requires { ⌜ Sound (now policy) × (k < ruleCount (now policy)) × Words (now policy) (now words) n × (n + 16 ≤ 2112) ⌝ }
     ensures { λ r. ⌜ Added (now (policy .entry)) (now (words .entry)) n (now (words .exit)) r
-        (λ (x : List ℕ). some (uses false x) (pathOf (now (policy .entry)) k)) × (r ≤ n + 16) ⌝ }
+        (λ (x : List ℕ). some (uses false x) (storedPath (now (policy .entry)) k)) × (r ≤ n + 16) ⌝ }
 {
     let a = RULES_AT + k * RULE_BYTES;
     let count = wide(policy[a + 3]);

@@ -1,10 +1,10 @@
 -- What the parts of a form that was read are: they stand within the line, a label part holds a good label, a right is one of the five, a tree is a good tree.
 -- Assumes nothing.
-use Prim.Native.Nat.{ℕ, zero, suc, _+_, _-_, _*_, _≤_, _<_}
-use mathlib.Core.Path.{_≡_, refl, sym, ap, _∙_}
+use Prim.Native.Nat.{ℕ, suc, _+_, _-_, _*_, _≤_}
+use mathlib.Core.Path.{_≡_, refl, ap}
 use mathlib.Core.List.{List, [], _∷_, _++_}
 use native.Mathlib.Omega.{arith}
-use lib.ListN.{length, take, drop, length-append, length-drop}
+use lib.ListN.{length, drop, length-append, length-drop}
 use lib.Seq.{take-at}
 use Rattle.rights.specs.Policy.{Right, bitOf}
 use mathlib.Core.Logic.{_⊎_, inl, inr}
@@ -13,15 +13,15 @@ use Rattle.forms.specs.declared.word.Word.the-variants as word
 use Rattle.forms.specs.declared.form.Part.{Part}
 use Rattle.forms.specs.declared.form.Form.{Form}
 use Rattle.forms.specs.declared.form.Form.the-variants.{Subject, Isa, Rule, Root, Child, User, View, Query, Find, Rename, Update, Append, Before, After, Remove, NoForm}
-use Rattle.rights.specs.Nodes.{Node, node}
-use Rattle.forms.specs.TreeText as text
-use Rattle.forms.specs.TreeText.{writeTree, writeTrees, GoodTree, GoodTrees, GoodLabel, nodesOf, nodesIn}
+use Rattle.rights.specs.Tree as text
+use Rattle.rights.specs.Tree.{writeTree, writeTrees, nodesOf, nodesIn}
+use Rattle.forms.specs.TreeText.{GoodTree, GoodTrees, GoodLabel}
 use Rattle.forms.specs.Kind.{Kind}
 use Rattle.forms.specs.Kind as kind
 use Rattle.forms.specs.Form.{shapeOf, part, placeIn, formWith, readForm, treeIn}
 use Rattle.forms.specs.FormText.{Value, Values, Said, writeValue, writeValues, GoodValue, GoodValues, write, Good, nodesOr, nodesSaid}
 use Rattle.store.specs.Line.{bytesOf}
-use Rattle.forms.proofs.FormTextLaws.{Stops, right-reads, part-after, values-stop, placesOf, endOf, after-word, written-form, written-tree, read-or-none}
+use Rattle.forms.proofs.FormTextLaws.{right-reads, part-after, values-stop, placesOf, endOf, after-word, written-form, written-tree, read-or-none}
 
 -- a part that stands within the line
 pub record Within (s : List ℕ) (p : Part) : Type 0 where

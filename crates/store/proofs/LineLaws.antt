@@ -19,8 +19,9 @@ use Rattle.forms.specs.declared.form.Form.the-variants.{Subject, Isa, Rule, Roo
 use Rattle.forms.specs.Text.{lineOk}
 use Rattle.rights.specs.Nodes.{Node, node}
 use Rattle.forms.specs.Tree.{held, recordsOf}
-use Rattle.forms.specs.TreeText as text
-use Rattle.forms.specs.TreeText.{GoodTree, GoodTrees, nodesOf, nodesIn}
+use Rattle.rights.specs.Tree as text
+use Rattle.rights.specs.Tree.{nodesOf, nodesIn}
+use Rattle.forms.specs.TreeText.{GoodTree, GoodTrees}
 use Rattle.forms.specs.Form.{readForm, treeIn}
 use Rattle.answers.specs.AnswerChoice.{Choice}
 use Rattle.lines.specs.State.{stage, storeOk}

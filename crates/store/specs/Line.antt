@@ -2,8 +2,8 @@
 use Prim.Native.Nat.{ℕ, _-_}
 use mathlib.Core.Bool.{Bool, true, false, cond, not, _&&_, Bool·beq}
 use mathlib.Core.List.{List, [], _∷_, _++_}
-use lib.Dec.{leb, ltb}
-use lib.ListN.{take, drop, length}
+use lib.Dec.{leb, ltb, eqb}
+use lib.ListN.{take, drop}
 use Rattle.views.specs.declared.done.Change.the-variants as change
 use Rattle.views.specs.declared.insert.Place.the-variants as place
 use Rattle.forms.specs.declared.form.Part.{Part}
@@ -19,6 +19,10 @@ use Rattle.lines.specs.Refusal.{Check, check, badStore, badLine, noForm, wrongS
 use Rattle.lines.specs.Effect.{Work, reading, guarded, performed}
 use Rattle.lines.specs.Work.{workSubject, workIsa, workRule, workRoot, workChild, workUser, workView, workAsk, workRename, workInsert, workRemove}
 use Rattle.lines.specs.declared.queries.Ask.the-variants as ask
+
+-- what is no form belongs to no stage
+abbrev pub noStage : ℕ
+noStage = 5
 
 -- the stage that a form belongs to
 abbrev pub stageOf : Form → ℕ
@@ -37,31 +41,16 @@ stageOf (Append p m) = stageE
 stageOf (Before p m) = stageE
 stageOf (After p m) = stageE
 stageOf (Remove p) = stageE
-stageOf NoForm = stageE
+stageOf NoForm = noStage
 
 -- A form of stage k where the state is in stage g: "A form of an earlier stage never follows a later one", and a root stands exactly for the forms
 -- behind C ("`(root L)`, once", "D and E need a root").
 abbrev pub inStage : ℕ → ℕ → Bool
 inStage k g = leb g k && Bool·beq (ltb stageC k) (leb stageC g)
 
--- "2 no form listed above"
+-- "2 no form listed above": it belongs to no stage
 abbrev pub isNoForm : Form → Bool
-isNoForm (Subject n) = false
-isNoForm (Isa n r) = false
-isNoForm (Rule a b p n) = false
-isNoForm (Root l) = false
-isNoForm (Child m) = false
-isNoForm (User n) = false
-isNoForm View = false
-isNoForm (Query p) = false
-isNoForm (Find p) = false
-isNoForm (Rename p l) = false
-isNoForm (Update p l) = false
-isNoForm (Append p m) = false
-isNoForm (Before p m) = false
-isNoForm (After p m) = false
-isNoForm (Remove p) = false
-isNoForm NoForm = true
+isNoForm f = eqb (stageOf f) noStage
 
 -- the bytes of a part of a line
 abbrev pub bytesOf : List ℕ → Part → List ℕ

@@ -45,6 +45,9 @@ ghost use Rattle.lines.specs.Refusal.{firstRefusal};
 ghost use Rattle.lines.specs.Effect.{Performs};
 ghost use Rattle.store.specs.Line.{stageOf, inStage, isNoForm, bytesOf, acceptByte, workOf, textChecks, formChecks, step};
 
+// What is no form belongs to no stage.
+const NO_STAGE: u8 = 5;
+
 // The stage that a form belongs to.
 fn stage_of(f: Form) -> u8
     ensures { λ r. ⌜ r ≡ stageOf f ⌝ }
@@ -65,7 +68,7 @@ fn stage_of(f: Form) -> u8
         Form::Before(_, _) => STAGE_E,
         Form::After(_, _) => STAGE_E,
         Form::Remove(_) => STAGE_E,
-        Form::NoForm => STAGE_E,
+        Form::NoForm => NO_STAGE,
     }
 }
 
@@ -77,30 +80,6 @@ fn in_stage(k: u8, g: u8) -> bool
         return false;
     }
     (STAGE_C < k) == (STAGE_C <= g)
-}
-
-// Whether the line was no form.
-fn is_no_form(f: Form) -> bool
-    ensures { λ r. ⌜ r ≡ isNoForm f ⌝ }
-{
-    match f {
-        Form::Subject(_) => false,
-        Form::Isa(_, _) => false,
-        Form::Rule(_, _, _, _) => false,
-        Form::Root(_) => false,
-        Form::Child(_) => false,
-        Form::User(_) => false,
-        Form::View => false,
-        Form::Query(_) => false,
-        Form::Find(_) => false,
-        Form::Rename(_, _) => false,
-        Form::Update(_, _) => false,
-        Form::Append(_, _) => false,
-        Form::Before(_, _) => false,
-        Form::After(_, _) => false,
-        Form::Remove(_) => false,
-        Form::NoForm => true,
-    }
 }
 
 // The refusal of a store or of a line's bytes.
@@ -120,10 +99,11 @@ fn text_refusal(state: &[u8], table: &[u8], line: &[u8]) -> u8
 fn form_refusal(f: Form, g: u8) -> u8
     ensures { λ r. ⌜ r ≡ firstRefusal (formChecks f g) ⌝ }
 {
-    if is_no_form(f) {
+    let k = stage_of(f);
+    if k == NO_STAGE {
         return NO_FORM;
     }
-    if in_stage(stage_of(f), g) {
+    if in_stage(k, g) {
         return 0;
     }
     WRONG_STAGE

@@ -1,32 +1,31 @@
 -- What a call that may ask is known to have. Assumes nothing.
-use Prim.Native.Nat.{ℕ, zero, suc, _+_, _*_, _%_, _^_, _≤_, _<_}
-use mathlib.Core.Bool.{Bool, true, false, _&&_, and-eq-true-iff, and-false}
-use mathlib.Core.Path.{_≡_, refl, sym, ap, _∙_}
+use Prim.Native.Nat.{ℕ, zero, suc, _≤_, _<_}
+use mathlib.Core.Bool.{Bool, true, false, and-eq-true-iff}
+use mathlib.Core.Path.{_≡_, refl, sym}
 use mathlib.Core.List.{List, [], _∷_, _++_}
 use native.Mathlib.Omega.{arith}
 use borrow.Author.Tests.{leb-true, ltb-true, le-leb, lt-leb, lt-ltb, le-ltb}
-use lib.Dec.{leb, ltb}
-use lib.IntN.{ℤ, pos, negsuc}
+use lib.Dec.{leb}
+use lib.IntN.{pos}
 use lib.ListN.{length, getD, take, drop}
 use lib.Seq.{take-all}
 use mir.Facts.{toZ-pos}
 use mir.Syntax.{w64}
 use mir.Val.{toZ}
-use Rattle.rights.specs.Automaton.{Sound}
 use Rattle.rights.specs.Bytes.{all}
 use Rattle.rights.specs.Nodes.{Fits, viewOf}
 use Rattle.rights.specs.Path.{Path}
 use Rattle.rights.specs.PathReader.{Got, got, bad, placeOf, pathOf}
 use Rattle.rights.specs.Isa.{passesOwn}
 use Rattle.rights.specs.Policy.{policyWord}
-use Rattle.rights.specs.PolicyBytes.{policyOf, subjectCount, Subject}
+use Rattle.rights.specs.PolicyBytes.{policyOf, subjectCount}
+use Rattle.rights.specs.How.Roles.{Declared}
 use Rattle.rights.specs.PolicyCheck.{policyOk}
 use Rattle.rights.specs.Rights.{rightsOn}
-use Rattle.rights.specs.Selection.{selection, Selects}
+use Rattle.rights.specs.How.Selection.{selection, Selects}
 use Rattle.rights.specs.Table.{tableOk, count, records}
-use Rattle.rights.specs.declared.path.Read.{Read}
 use Rattle.rights.specs.declared.path.Read.the-variants.{At, Bad}
-use Rattle.rights.proofs.Facts.{both, table-long, table-few}
+use Rattle.rights.proofs.Facts.{both, table-few}
 use Rattle.rights.proofs.NodeLaws.{table-fits}
 use Rattle.rights.proofs.PassLaws.{view-length}
 use Rattle.rights.proofs.Sounds.{policy-sound}
@@ -54,10 +53,8 @@ module _ (p : List ℕ) (u : ℕ) (t : List ℕ) where
   unfolding asks
   asks-gives e = let f = simp (asks, and-eq-true-iff) at e in (f .0, ltb-true _ _ (f .1 .0), f .1 .1)
 
-  pub asks-subject : asks p u t ≡ true → Subject p u
-  asks-subject e =
-      let g = asks-gives e in
-      record { declared = g .1; name = policy-sound p (g .0) .names u (g .1) }
+  pub asks-subject : asks p u t ≡ true → Declared p u
+  asks-subject e = let g = asks-gives e in record { policy = g .0; subject = g .1 }
 
   module _ (room : ℕ) where
     pub rights-gives : asksRights p u t room ≡ true → (asks p u t ≡ true) × (count t ≤ room)

@@ -6,6 +6,7 @@ use mathlib.Core.List.{List, _++_}
 use lib.Dec.{leb, ltb}
 use lib.IntN.{ℤ, pos, negsuc}
 use lib.ListN.{length, drop}
+use Rattle.rights.specs.Limits.{recordsMax}
 use Rattle.rights.specs.Bytes.{all}
 use Rattle.rights.specs.Nodes.{viewOf}
 use Rattle.rights.specs.Path.{Path}
@@ -15,7 +16,7 @@ use Rattle.rights.specs.Policy.{policyWord}
 use Rattle.rights.specs.PolicyBytes.{policyOf, subjectCount}
 use Rattle.rights.specs.PolicyCheck.{policyOk}
 use Rattle.rights.specs.Rights.{rightsOn}
-use Rattle.rights.specs.Selection.{selection}
+use Rattle.rights.specs.How.Selection.{selection}
 use Rattle.rights.specs.Table.{tableOk, count, records}
 
 -- the answers -1 and -2
@@ -55,13 +56,13 @@ pub record RightsTried (policy : List ℕ) (u : ℕ) (table before after : List 
 
 -- a number, less 16384 where the label stays hidden, is under n
 abbrev pub below : ℕ → ℕ → Bool
-below n x = ltb (x % 16384) n
+below n x = ltb (x % recordsMax) n
 
 -- with at most 16384 numbers of the table's records, and room for a byte a number
 unfoldable pub asksNodes : List ℕ → ℕ → List ℕ → List ℕ → ℕ → Bool
 asksNodes policy u table shown room =
     asks policy u table
-    && (leb (length shown) 16384
+    && (leb (length shown) recordsMax
     && (leb (length shown) room
     && all (below (count table)) shown))
 

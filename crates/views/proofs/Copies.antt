@@ -1,5 +1,5 @@
 -- Laws of bytes that are moved, shifted and cleared in place. Assumes nothing.
-use Prim.Native.Nat.{ℕ, zero, suc, _+_, _-_, _≤_, _<_}
+use Prim.Native.Nat.{ℕ, suc, _+_, _-_, _≤_, _<_}
 use mathlib.Core.Path.{_≡_, sym, ap, _∙_}
 use mathlib.Core.List.{List, [], _∷_, _++_, append-assoc, append-nil}
 use native.Mathlib.Omega.{arith}
@@ -7,7 +7,7 @@ use native.Mathlib.Nat.{add-zero, sub-self}
 use native.Mathlib.Numerals.{add-one}
 use lib.ListN.{length, getD, take, drop, set, replicate, length-drop, replicate-append-replicate, take-append-drop, List·getD-append}
 use lib.Seq.{take-suc-set, take-suc, drop-set-lt, getD-drop, take-all, drop-drop, length-take-le, append-snoc, getD-take, set-at, drop-cons}
-use Rattle.views.specs.Pass.{shifted}
+use Rattle.views.specs.How.Pass.{shifted}
 
 -- one more zero
 pub clear-more : (t t₀ : List ℕ) (from i : ℕ) → from ≤ i → i < length t → take i t ≡ take from t₀ ++ replicate (i - from) 0

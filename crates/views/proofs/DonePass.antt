@@ -1,8 +1,8 @@
 -- The pass that marks what a change does: its step and its end. Assumes nothing.
-use Prim.Native.Nat.{ℕ, zero, suc, _+_, _*_, _-_, _≤_, _<_}
+use Prim.Native.Nat.{ℕ, _+_, _*_, _-_, _≤_, _<_}
 use mathlib.Core.Bool.{Bool, true, false, cond, not, _&&_}
 use mathlib.Core.Path.{_≡_, refl, sym, ap, _∙_}
-use mathlib.Core.List.{List, [], _∷_, _++_, map}
+use mathlib.Core.List.{List, _∷_, _++_, map}
 use native.Mathlib.Numerals.{add-one}
 use native.Mathlib.Nat.{sub-zero}
 use native.Mathlib.Omega.{arith}
@@ -15,11 +15,11 @@ use Rattle.rights.specs.Rights.{holds}
 use Rattle.rights.specs.Table.{recordAt, level, label, count, tableOk}
 use Rattle.rights.proofs.Lists.{byCase}
 use Rattle.views.specs.Shown.{atParent, nearestFirst, stored, storedLevel, grants, granted, depthAfter, shown, shownFrom}
-use Rattle.views.specs.Done.{Asked, does, askedOf, doneMarks}
+use Rattle.views.specs.Done.{does, askedOf, doneMarks}
 use Rattle.views.specs.declared.done.Change.{Change}
 use Rattle.views.proofs.Fill.{push-take, push-drop, filled}
 use Rattle.rights.proofs.MarkLaws.{mark-at, each-step, each-end}
-use Rattle.views.proofs.StoredNodes.{level-at, storedAt, rest, rest-step, rest-whole, table-by-depth}
+use Rattle.views.proofs.StoredNodes.{level-at, rest, rest-step, rest-whole, table-by-depth}
 
 pub set-bit : (x : ℕ) (b : Bool) → x ≡ bit b → not (eqb x 0) ≡ b
 set-bit x true e = rw e

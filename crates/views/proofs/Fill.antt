@@ -1,12 +1,12 @@
 -- A loop that writes a slice from the front: what it has written is `take i s`, and from i on the slice is as it was.
 -- `push-take` and `push-drop` are its step, `filled` its end; `put-take` and `put-drop` those of a loop that writes some of what it meets. Assumes nothing.
-use Prim.Native.Nat.{ℕ, suc, _+_, _≤_, _<_}
+use Prim.Native.Nat.{ℕ, _+_, _≤_, _<_}
 use mathlib.Core.Bool.{Bool, true, false, cond}
 use mathlib.Core.Path.{_≡_, refl, sym, ap, _∙_}
 use mathlib.Core.List.{List, [], _∷_, _++_, append-assoc, append-nil}
 use native.Mathlib.Numerals.{add-one}
 use native.Mathlib.Omega.{arith}
-use lib.ListN.{length, take, drop, set, take-append-drop, length-set, length-append}
+use lib.ListN.{length, take, drop, set, take-append-drop, length-set}
 use lib.Seq.{take-suc-set, drop-set-lt, drop-drop, length-take-le}
 
 module _ (s : List ℕ) (i m : ℕ) where

@@ -1,19 +1,17 @@
 -- Laws of the marks that are written for shown nodes and for parents; those of all marks stand in rights. Assumes nothing.
-use Prim.Native.Nat.{ℕ, zero, suc, _+_, _-_, _%_, _≤_, _<_}
+use Prim.Native.Nat.{ℕ, suc, _+_, _-_, _%_, _≤_, _<_}
 use mathlib.Core.Bool.{Bool, true, false, cond, not, _&&_, and-true}
-use mathlib.Core.Path.{_≡_, refl, sym, ap, _∙_}
-use mathlib.Core.List.{List, [], _∷_, _++_, map, append-nil}
+use mathlib.Core.Path.{_≡_, sym, ap, _∙_}
+use mathlib.Core.List.{List, [], _∷_, map}
 use native.Mathlib.Numerals.{add-one}
-use native.Mathlib.Nat.{sub-zero}
 use native.Mathlib.Omega.{arith}
-use borrow.Author.Tests.{ltb-true, ltb-false, lt-ltb, le-ltb, eqb-true, eqb-false, eq-eqb, ne-eqb, le-leb, lt-leb}
+use borrow.Author.Tests.{ltb-true, ltb-false, lt-ltb, eqb-true, eqb-false, le-leb, lt-leb}
 use lib.Dec.{eqb, ltb, leb}
-use lib.ListN.{length, take, drop, getD, set, length-take, drop-of-length-le, List·getD-eq-default}
-use lib.Seq.{drop-cons, drop-drop, take-suc, getD-take, getD-drop, getD-set-same, getD-set-other, length-take-le}
-use Rattle.rights.specs.Marks.{bit, marksOf, markCount, marked, eachFrom}
+use lib.ListN.{length, take, drop, getD, set, drop-of-length-le}
+use lib.Seq.{drop-cons, drop-drop, getD-take, getD-drop, getD-set-same, getD-set-other, length-take-le}
+use Rattle.rights.specs.Marks.{bit, marksOf}
 use Rattle.rights.proofs.Lists.{byCase}
 use Rattle.rights.proofs.MarkLaws.{mark-at}
-use Rattle.rights.proofs.MarkLaws.{marks-bits}
 use Rattle.views.specs.Done.{isNext, byNumbers}
 
 -- The numbers of the shown nodes, from shown node j on

@@ -1,7 +1,7 @@
 -- The changes, node by node, in document 01's words. Assumes nothing.
 -- `remove-only`, `goes-ancestor`, `ancestor-goes`: a node stays exactly if neither it nor an ancestor is done, and those that stay keep their order.
 -- `rename-node`: only nodes that are done change. `lands-behind`, `lands-in-front`: where an inserted tree stands.
-use Prim.Native.Nat.{ℕ, zero, suc, _+_, _≤_, _<_}
+use Prim.Native.Nat.{ℕ, zero, suc, _≤_, _<_}
 use mathlib.Core.Path.{_≡_, refl, sym, ap, _∙_}
 use mathlib.Core.Bool.{Bool, true, false, cond, not, _&&_, _||_, false≢true}
 use mathlib.Core.List.{List, [], _∷_, _++_, append-assoc, append-nil}
@@ -12,7 +12,7 @@ use lib.Dec.{ltb}
 use borrow.Author.Tests.{ltb-true, ltb-false, lt-ltb}
 use Rattle.rights.proofs.Lists.{byCase}
 use Rattle.views.specs.Change.{isDone, later, dropBelow, putBehind, remove, insertBehind, insertInFront, rename}
-use Rattle.views.specs.Pass.{Above, Front}
+use Rattle.views.specs.How.Pass.{Above, Front}
 use Rattle.views.specs.Nodes.{isBelow, isAncestor, markAt, goes, Goes, only, Behind}
 use Rattle.views.proofs.Removal.{pass-below, pass-done}
 use Rattle.views.proofs.Waiting.{skip-one, above-less}

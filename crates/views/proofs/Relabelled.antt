@@ -22,7 +22,7 @@ use Rattle.views.proofs.TableFacts.{facts, count-bytes, zero-replicate}
 use Rattle.views.proofs.Waiting.{length-rename}
 use Rattle.views.specs.Change.{rename, chunks, relabel, renamed, changed}
 use Rattle.rights.specs.Marks.{marksOf}
-use Rattle.views.specs.Pass.{rest}
+use Rattle.views.specs.How.Pass.{rest}
 
 -- what is read of a record that is renamed
 pub level-relabel : (s r : List ℕ) → level (relabel s r) ≡ level r

@@ -1,16 +1,15 @@
 -- The nodes of a table with the rights on each: one step of a loop over them, and what a table that passes its check gives. Assumes nothing.
-use Prim.Native.Nat.{ℕ, zero, suc, _+_, _*_, _-_, _/_, _≤_, _<_, min}
-use mathlib.Core.Bool.{Bool, true, false, cond, _&&_, and-eq-true-iff}
+use Prim.Native.Nat.{ℕ, suc, _+_, _*_, _-_, _≤_, _<_}
+use mathlib.Core.Bool.{Bool, true, false, cond, _&&_}
 use mathlib.Core.Path.{_≡_, refl, sym, ap, _∙_}
 use mathlib.Core.List.{List, [], _∷_, _++_, map}
 use native.Mathlib.Numerals.{add-one}
-use native.Mathlib.Nat.{add-zero, sub-zero, div-mul-le-self}
+use native.Mathlib.Nat.{sub-zero}
 use native.Mathlib.Omega.{arith}
-use borrow.Author.Tests.{leb-true}
-use lib.Dec.{leb, lit<}
+use lib.Dec.{leb}
 use lib.ListN.{length, take, drop, getD, set}
-use lib.Seq.{drop-cons, getD-take, getD-drop}
-use Rattle.rights.specs.Table.{recordAt, recordsFrom, records, level, recordOk, recordsOk, tableOk, count, capacity}
+use lib.Seq.{drop-cons}
+use Rattle.rights.specs.Table.{recordAt, recordsFrom, records, level, recordOk, recordsOk, tableOk, count}
 use Rattle.rights.proofs.Records.{records-step, records-end}
 use Rattle.rights.specs.PolicyBytes.{Text}
 use Rattle.rights.proofs.Texts.{byte-at}

@@ -1,13 +1,12 @@
 -- The table after a change passes the check (refusal 13 never comes of a change). Assumes nothing.
 use Prim.Native.Nat.{ℕ, zero, suc, _+_, _-_, _*_, _/_, _≤_, _<_, min}
-use mathlib.Core.Bool.{Bool, true, false, not, _&&_, false≢true}
+use mathlib.Core.Bool.{Bool, true, false, false≢true}
 use mathlib.Core.Path.{_≡_, refl, sym, ap, _∙_}
 use mathlib.Core.List.{List, [], _∷_, _++_}
 use native.Mathlib.Omega.{arith}
 use native.Mathlib.Numerals.{add-one}
 use native.Mathlib.Nat.{add-zero}
-use borrow.Author.Tests.{leb-true, le-leb}
-use lib.Dec.{leb}
+use borrow.Author.Tests.{leb-true}
 use lib.ListN.{length, getD, drop, replicate, length-append, length-replicate, length-drop}
 use lib.Seq.{take-at, drop-at, drop-drop, length-take-le, getD-drop}
 use Rattle.rights.specs.Bytes.{all, isZero}
@@ -20,7 +19,7 @@ use Rattle.views.specs.declared.insert.Place.{Place}
 use Rattle.views.specs.declared.insert.Place.the-variants.{Append, After, Before}
 use Rattle.views.specs.Change.{isDone, later, dropBelow, putBehind, remove, insertBehind, insertInFront, rename, chunks, raise, lower, placed, removed, relabel, renamed, join, changed, deepest, tooDeep, hasRoom}
 use Rattle.rights.specs.Marks.{marksOf, marked}
-use Rattle.views.specs.Pass.{Above, Front, AtDone, Shallow}
+use Rattle.views.specs.How.Pass.{Above, Front, AtDone, Shallow}
 use Rattle.views.specs.Nodes.{All, Nested, TreeOk, LabelOk}
 use Rattle.views.proofs.Chunks.{all-chunks, length-chunks, level-first}
 use Rattle.views.proofs.TableFacts.{facts}
@@ -285,13 +284,13 @@ length-placed place t ms tree m = ap (λ (rs : List (List ℕ)). length (placed 
 -- ----------------------------------------------------------------------------
 -- The table after a removal, a renaming, an insertion: its length is kept, it passes the check, and its records are those that the change gives.
 
-pub record Stored (t : List ℕ) (rs : List (List ℕ)) : Type 0 where
+pub record StoredAs (t : List ℕ) (rs : List (List ℕ)) : Type 0 where
   pub ok : tableOk (changed t rs) ≡ true
   pub same-length : length (changed t rs) ≡ length t
   pub held : records (changed t rs) ≡ rs
   pub counted : count (changed t rs) ≡ length rs
 
-stored : (t : List ℕ) (rs : List (List ℕ)) → 4 ≤ length t → length rs ≤ capacity (length t) → Ok rs → Stored t rs
+stored : (t : List ℕ) (rs : List (List ℕ)) → 4 ≤ length t → length rs ≤ capacity (length t) → Ok rs → StoredAs t rs
 stored t rs h r k = record {
   ok = changed-ok t rs h r (k .1) (k .0);
   same-length = length-changed t rs h r (k .1);
@@ -299,13 +298,13 @@ stored t rs h r k = record {
   counted = count-changed t rs h r (k .1);
 }
 
-pub removed-stored : (t ms : List ℕ) → tableOk t ≡ true → Stored t (removed ms (records t))
+pub removed-stored : (t ms : List ℕ) → tableOk t ≡ true → StoredAs t (removed ms (records t))
 removed-stored t ms e =
     let f = facts t e in
     let l : length (removed ms (records t)) ≤ count t = omega (arith, shorter-remove level (marksOf ms) (records t), length-records t) in
     stored t (removed ms (records t)) (f .head) (omega (arith, l, f .held)) (remove-kept (marksOf ms) (records t) (records-kept t e))
 
-pub renamed-stored : (t ms s : List ℕ) → tableOk t ≡ true → LabelOk s → Stored t (renamed s ms (records t))
+pub renamed-stored : (t ms s : List ℕ) → tableOk t ≡ true → LabelOk s → StoredAs t (renamed s ms (records t))
 renamed-stored t ms s e l =
     let f = facts t e in
     let n : length (renamed s ms (records t)) ≡ count t = length-rename level (relabel s) (marksOf ms) (records t) ∙ length-records t in
@@ -313,7 +312,7 @@ renamed-stored t ms s e l =
 
 pub placed-stored : (place : Place) (t ms tree : List ℕ) (m : ℕ) → tableOk t ≡ true → TreeOk (chunks m tree)
     → tooDeep (lower place + deepest (chunks m tree)) (marksOf ms) (records t) ≡ false → hasRoom t ms m ≡ true → (lower place ≡ 0 → isDone (marksOf ms) ≡ false)
-    → Stored t (placed place m tree ms (records t))
+    → StoredAs t (placed place m tree ms (records t))
 placed-stored place t ms tree m e ok deep room root =
     let f = facts t e in
     let n = length-placed place t ms tree m in

@@ -15,7 +15,7 @@ use Rattle.rights.specs.Table.{level}
 use Rattle.rights.proofs.Lists.{byCase}
 use Rattle.views.specs.Change.{insertInFront, chunks, raise}
 use Rattle.rights.specs.Marks.{marksOf}
-use Rattle.views.specs.Pass.{Below, Falls, Every, isDue, front, due, AtDone, treeAt, Shallow, behind, inFront, stack, rest, passing, passingFront, Fixed, Between}
+use Rattle.views.specs.How.Pass.{Below, Falls, Every, isDue, front, due, AtDone, treeAt, Shallow, behind, inFront, stack, rest, passing, passingFront, Fixed, Between}
 
 length-rest : (n gap i : ℕ) (t : List ℕ) → length (rest n gap i t) ≡ n - i
 length-rest n gap i t = length-chunks (n - i) _

@@ -1,7 +1,7 @@
 -- What a view is like: the numbers of its nodes give its levels and labels, it is a tree, and every number is that of a record. Assumes nothing.
-use Prim.Native.Nat.{ℕ, zero, suc, _+_, _*_, _-_, _%_, _≤_, _<_, min}
-use mathlib.Core.Bool.{Bool, true, false, cond, _&&_, and-eq-true-iff}
-use mathlib.Core.Path.{_≡_, refl, sym, ap, ap₂, _∙_}
+use Prim.Native.Nat.{ℕ, zero, suc, _+_, _%_, _≤_, _<_, min}
+use mathlib.Core.Bool.{Bool, true, false, cond}
+use mathlib.Core.Path.{_≡_, refl, ap₂, _∙_}
 use mathlib.Core.List.{List, [], _∷_, map}
 use native.Mathlib.Nat.{mod-eq-of-lt, add-mod-right}
 use native.Mathlib.Omega.{arith}
@@ -9,14 +9,14 @@ use borrow.Author.Tests.{leb-true, le-leb, lt-leb}
 use lib.Dec.{leb}
 use lib.ListN.{length, getD, length-map}
 use Rattle.rights.specs.Labels.{restricted}
-use Rattle.rights.specs.Table.{recAt, recordAt, recordsFrom, records, level, label, recordOk, recordsOk, tableOk, count}
+use Rattle.rights.specs.Table.{recordAt, recordsFrom, records, level, label, recordOk, recordsOk, tableOk, count}
 use Rattle.rights.specs.Policy.{read}
 use Rattle.rights.specs.PolicyBytes.{Text}
 use Rattle.rights.specs.Rights.{holds}
 use Rattle.rights.specs.Nodes.{Node, node, Nodes, levelOf, levelAt, Nested, recordPlace, seen, viewOf, Fits}
 use Rattle.rights.proofs.Facts.{both, record-levels}
 use Rattle.rights.proofs.Lists.{byCase}
-use Rattle.views.specs.Shown.{Stored, storedFrom, stored, storedLevel, granted, isShownAt, depthAfter, shownFrom, shown, keep, carried, numberOf, view, shownNumbers, numbersFrom}
+use Rattle.views.specs.Shown.{Stored, storedFrom, stored, storedLevel, granted, isShownAt, shownFrom, shown, keep, carried, numberOf, view, shownNumbers}
 use Rattle.views.proofs.StoredNodes.{record-text, table-by-depth}
 use Rattle.views.proofs.TableFacts.{facts}
 

@@ -18,7 +18,7 @@ use Rattle.views.proofs.RecordBytes.{length-treeAt, length-raise, rest-
 use Rattle.rights.specs.Table.{level}
 use Rattle.views.specs.Change.{insertBehind, insertInFront, chunks, raise, lower, placed, le4, changed}
 use Rattle.rights.specs.Marks.{markCount, marksOf, marked}
-use Rattle.views.specs.Pass.{shifted, Under, due, AtDone, treeAt, Shallow, behind, inFront, stack, rest, passing, passingFront, Fixed, Between}
+use Rattle.views.specs.How.Pass.{shifted, Under, due, AtDone, treeAt, Shallow, behind, inFront, stack, rest, passing, passingFront, Fixed, Between}
 
 -- a pass begins
 module _ (n gap up m : ℕ) (tree ms t st : List ℕ) where

@@ -1,11 +1,11 @@
 -- The changes (document 01, "Changes"), on lists of anything with a level, in document order: the nodes with their records, their public parts, or tags that name them.
 -- "A selected node is done if ..": the changes take a mark for each node, done or not. Which nodes are done is decided elsewhere, before anything changes.
 use Prim.Native.Nat.{ℕ, zero, suc, _+_, _-_, _*_, _/_, _%_}
-use mathlib.Core.Bool.{Bool, true, false, cond, not, _&&_, _||_}
+use mathlib.Core.Bool.{Bool, false, cond, _&&_, _||_}
 use mathlib.Core.List.{List, [], _∷_, _++_}
-use lib.Dec.{eqb, leb, ltb}
+use lib.Dec.{leb, ltb}
 use lib.ListN.{length, take, drop, replicate}
-use Rattle.rights.specs.Table.{count, capacity, level, spare, records}
+use Rattle.rights.specs.Table.{count, capacity, level, spare}
 use Rattle.rights.specs.Record.{recordOf}
 use Rattle.rights.specs.Marks.{marksOf, marked}
 use Rattle.views.specs.declared.insert.Place.{Place}

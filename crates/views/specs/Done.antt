@@ -1,9 +1,10 @@
 -- Which records a change does (document 01, "Changes"). "All selections and rights are taken before anything changes."
 use Prim.Native.Nat.{ℕ, zero, suc, _%_}
 use mathlib.Core.Bool.{Bool, true, false, cond, not, _&&_}
-use mathlib.Core.List.{List, [], _∷_, map}
-use lib.Dec.{eqb, ltb}
+use mathlib.Core.List.{List, [], _∷_}
+use lib.Dec.{eqb}
 use lib.ListN.{getD, drop}
+use Rattle.rights.specs.Limits.{recordsMax}
 use Rattle.rights.specs.Table.{recordAt, level, label, count}
 use Rattle.rights.specs.Policy.{read, insert, update, delete}
 use Rattle.rights.specs.Rights.{holds}
@@ -72,7 +73,7 @@ inTable (false ∷ bs) ms = false ∷ inTable bs ms
 -- The same by the numbers of the shown nodes, over n records from i on (proofs/DoneLaws.antt).
 abbrev pub isNext : List ℕ → ℕ → Bool
 isNext [] i = false
-isNext (x ∷ xs) i = eqb (x % 16384) i
+isNext (x ∷ xs) i = eqb (x % recordsMax) i
 
 unfoldable pub byNumbers : List ℕ → List Bool → ℕ → ℕ → List Bool
 byNumbers xs ms zero i = []

@@ -1,5 +1,5 @@
 pub mod Shown
 pub mod Done
 pub mod Change
-pub mod Pass
 pub mod Nodes
+pub mod How

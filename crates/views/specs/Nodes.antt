@@ -1,17 +1,18 @@
 -- Lists of nodes in document order, each with its level: what the laws of the changes speak of.
-use Prim.Native.Nat.{ℕ, zero, suc, _+_, _≤_}
+use Prim.Native.Nat.{ℕ, zero, suc, _≤_}
 use mathlib.Core.Path.{_≡_}
-use mathlib.Core.Bool.{Bool, true, false, cond, _&&_, _||_, not}
+use mathlib.Core.Bool.{Bool, true, false, cond, _&&_, _||_}
 use mathlib.Core.List.{List, [], _∷_, _++_}
 use mathlib.Core.Logic.{_⊎_}
 use mathlib.Core.Option.{Option, none, some}
 use lib.Dec.{ltb}
 use lib.ListN.{length, drop}
+use Rattle.rights.specs.Limits.{labelMax}
 use Rattle.rights.specs.Bytes.{all}
 use Rattle.rights.specs.Labels.{labelByte, sameLabel, restricted}
 use Rattle.rights.specs.Table.{level, recordOk}
 use Rattle.views.specs.Change.{isDone, later}
-use Rattle.views.specs.Pass.{Above, Front}
+use Rattle.views.specs.How.Pass.{Above, Front}
 
 -- P holds of each
 abbrev pub All : {E : Type 0} → (E → Type 0) → List E → Type 0
@@ -87,6 +88,6 @@ pub record TreeOk (tree : List (List ℕ)) : Type 0 where
 -- A label that may be stored: 1 to 24 bytes of the class, not RESTRICTED.
 pub record LabelOk (s : List ℕ) : Type 0 where
   pub some : 1 ≤ length s
-  pub short : length s ≤ 24
+  pub short : length s ≤ labelMax
   pub bytes : all labelByte s ≡ true
   pub free : sameLabel s restricted ≡ false

@@ -1,13 +1,14 @@
 -- The view (document 01, "View", which narrows axioms 15 to 17 of 000): which nodes of the stored tree a user is shown, and what each carries.
 use Prim.Native.Nat.{ℕ, zero, suc, _+_, min}
-use mathlib.Core.Bool.{Bool, true, false, cond, _&&_, _||_}
+use mathlib.Core.Bool.{Bool, true, cond, _&&_, _||_}
 use mathlib.Core.List.{List, [], _∷_, map}
 use lib.Dec.{leb, ltb}
+use Rattle.rights.specs.Limits.{recordsMax}
 use Rattle.rights.specs.Labels.{restricted}
 use Rattle.rights.specs.Table.{records, level, label}
 use Rattle.rights.specs.Policy.{position, read}
 use Rattle.rights.specs.Rights.{holds}
-use Rattle.rights.specs.Nodes.{Node, node, Nodes}
+use Rattle.rights.specs.Nodes.{node, Nodes}
 
 -- A node of the stored tree: the number of its record, the record's bytes, and the user's rights on it.
 pub record Stored : Type 0 where
@@ -87,7 +88,7 @@ carried x = cond (holds read (x .rights)) (label (x .bytes)) restricted
 
 -- the number that stands for a shown node: its record's, and 16384 more where the label stays hidden
 abbrev pub numberOf : Stored → ℕ
-numberOf x = cond (holds read (x .rights)) (x .number) (x .number + 16384)
+numberOf x = cond (holds read (x .rights)) (x .number) (x .number + recordsMax)
 
 -- The view: of each shown node, in document order, its level and the label it carries. Nothing else is shown.
 abbrev pub view : List Stored → Nodes

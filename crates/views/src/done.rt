@@ -23,13 +23,14 @@ ghost use mathlib.Core.List.{List, [], _∷_, _++_, map};
 ghost use Prim.Native.Nat.{ℕ, _+_, _*_, _%_, _≤_, _<_};
 ghost use lib.Dec.{eqb, ltb};
 ghost use lib.ListN.{length, take, drop, getD};
+ghost use Rattle.rights.specs.Limits.{recordsMax};
 ghost use Rattle.rights.specs.Marks.{bit, marksOf};
 ghost use Rattle.rights.specs.Policy.{read, update, policyWord};
 ghost use Rattle.rights.specs.PolicyBytes.{policyOf, Text};
 ghost use Rattle.rights.specs.PolicyCheck.{policyOk};
 ghost use Rattle.rights.specs.Rights.{holds};
 ghost use Rattle.rights.specs.Table.{recordAt, label, count, tableOk};
-ghost use Rattle.rights.specs.Vocabulary.{PolicyWords};
+ghost use Rattle.rights.specs.How.Vocabulary.{PolicyWords};
 ghost use Rattle.views.specs.Done.{byNumbers, does, doneMarks};
 
 // Slots a level, 0 to 15: more than there are levels.
@@ -48,7 +49,7 @@ pub enum Change {
 // Whether shown node j, of k, is record i.
 fn stands_at(shown: &[u16], k: usize, j: usize, i: usize) -> bool
     requires { ⌜ k ≤ length (now shown) ⌝ }
-    ensures { λ r. ⌜ r ≡ (ltb j k && eqb (getD (now (shown .entry)) j 0 % 16384) i) ⌝ }
+    ensures { λ r. ⌜ r ≡ (ltb j k && eqb (getD (now (shown .entry)) j 0 % recordsMax) i) ⌝ }
 {
     if k <= j {
         return false;

@@ -18,10 +18,11 @@ ghost use mathlib.Core.Bool.{true, false, cond, not, _&&_};
 ghost use Prim.Native.Nat.{ℕ, _+_, _-_, _*_, _^_, _≤_, _<_};
 ghost use lib.ListN.{length, getD, take, drop};
 ghost use lib.Dec.{eqb, ltb};
+ghost use Rattle.rights.specs.Limits.{recordsMax};
 ghost use Rattle.rights.specs.Table.{count, records, level, tableOk};
 ghost use Rattle.views.specs.Change.{chunks, raised, raise, placed, changed, deepest, tooDeep, hasRoom, lower};
 ghost use Rattle.rights.specs.Marks.{marksOf, marked};
-ghost use Rattle.views.specs.Pass.{isDue, front, Under, AtDone, Shallow, stack, rest, behind, inFront, passing, passingFront, Fixed, Between};
+ghost use Rattle.views.specs.How.Pass.{isDue, front, Under, AtDone, Shallow, stack, rest, behind, inFront, passing, passingFront, Fixed, Between};
 
 // Where the tree goes: as the last child of a node, directly behind the node and all below it, directly in front of it.
 pub enum Place {
@@ -320,7 +321,7 @@ pub fn insert_marked(t: &mut [u8], marks: &[u8], tree: &[u8], m: usize, place: P
 
 // Whether the insertions find room (refusal 11 otherwise).
 pub fn has_room(t: &[u8], marks: &[u8], m: usize) -> bool
-    requires { ⌜ (tableOk (now t) ≡ true) × (count (now t) ≤ length (now marks)) × (m ≤ 16384) ⌝ }
+    requires { ⌜ (tableOk (now t) ≡ true) × (count (now t) ≤ length (now marks)) × (m ≤ recordsMax) ⌝ }
     ensures { λ r. ⌜ r ≡ hasRoom (now (t .entry)) (now (marks .entry)) m ⌝ }
 {
     let n = count_of(t);

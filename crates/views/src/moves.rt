@@ -5,7 +5,7 @@ ghost use mathlib.Core.List.{_++_};
 ghost use Prim.Native.Nat.{_+_, _-_, _^_, _≤_, _<_};
 ghost use lib.ListN.{length, take, drop, replicate};
 ghost use Rattle.views.specs.Change.{le4};
-ghost use Rattle.views.specs.Pass.{shifted};
+ghost use Rattle.views.specs.How.Pass.{shifted};
 
 // Stores the count.
 pub fn put_count(t: &mut [u8], n: usize)

@@ -11,7 +11,7 @@ ghost use Prim.Native.Nat.{_+_, _-_, _*_, _≤_, _<_};
 ghost use lib.ListN.{length, drop};
 ghost use Rattle.rights.specs.Table.{count, records, level, tableOk};
 ghost use Rattle.views.specs.Change.{chunks, removed, changed};
-ghost use Rattle.views.specs.Pass.{going, Under};
+ghost use Rattle.views.specs.How.Pass.{going, Under};
 
 // Deeper than every record: nothing is being left out.
 const NO_CUT: u8 = 12;

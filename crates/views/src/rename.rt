@@ -9,12 +9,13 @@ ghost use mathlib.Core.Bool.{true, cond, not};
 ghost use Prim.Native.Nat.{_+_, _-_, _*_, _≤_, _<_};
 ghost use lib.ListN.{length, getD, take, drop};
 ghost use lib.Dec.{eqb};
+ghost use Rattle.rights.specs.Limits.{labelMax};
 ghost use Rattle.rights.specs.Table.{count, records, tableOk};
 ghost use Rattle.views.specs.Change.{chunks, relabel, renamed, changed};
 
 // Stores the label s[from..to] in record i where it is marked.
 fn rename_one(t: &mut [u8], marks: &[u8], s: &[u8], from: usize, to: usize, i: usize)
-    requires { ⌜ (4 + i * 32 + 32 ≤ length (now t)) × (i < length (now marks)) × (from ≤ to) × (to ≤ from + 24) × (to ≤ length (now s)) ⌝ }
+    requires { ⌜ (4 + i * 32 + 32 ≤ length (now t)) × (i < length (now marks)) × (from ≤ to) × (to ≤ from + labelMax) × (to ≤ length (now s)) ⌝ }
     ensures { λ _. ⌜ (take (4 + i * 32 + 32) (now (t .exit)) ≡ take (4 + i * 32) (now (t .entry))
         ++ cond (not (eqb (getD (now (marks .entry)) i 0) 0)) (relabel (take (to - from) (drop from (now (s .entry)))) (take 32 (drop (4 + i * 32) (now (t .entry))))) (take 32 (drop (4 + i * 32) (now (t .entry)))))
         × (drop (4 + i * 32 + 32) (now (t .exit)) ≡ drop (4 + i * 32 + 32) (now (t .entry))) ⌝ }
@@ -27,7 +28,7 @@ fn rename_one(t: &mut [u8], marks: &[u8], s: &[u8], from: usize, to: usize, i: u
 
 // The same for the first n records.
 fn rename_all(t: &mut [u8], marks: &[u8], s: &[u8], from: usize, to: usize, n: usize)
-    requires { ⌜ (4 + n * 32 ≤ length (now t)) × (n ≤ length (now marks)) × (from ≤ to) × (to ≤ from + 24) × (to ≤ length (now s)) ⌝ }
+    requires { ⌜ (4 + n * 32 ≤ length (now t)) × (n ≤ length (now marks)) × (from ≤ to) × (to ≤ from + labelMax) × (to ≤ length (now s)) ⌝ }
     ensures { λ _. ⌜ (chunks n (drop 4 (now (t .exit))) ≡ renamed (take (to - from) (drop from (now (s .entry)))) (now (marks .entry))
         (chunks n (drop 4 (now (t .entry)))))
         × (take 4 (now (t .exit)) ≡ take 4 (now (t .entry))) × (drop (4 + n * 32) (now (t .exit)) ≡ drop (4 + n * 32) (now (t .entry))) ⌝ }
@@ -42,7 +43,7 @@ fn rename_all(t: &mut [u8], marks: &[u8], s: &[u8], from: usize, to: usize, n: u
 // Stores the label s[from..to] in every marked record.
 pub fn rename_marked(t: &mut [u8], marks: &[u8], s: &[u8], from: usize, to: usize)
     requires { ⌜ (tableOk (now t) ≡ true) × (count (now t) ≤ length (now marks)) ⌝ }
-    requires { ⌜ (from ≤ to) × (to ≤ from + 24) × (to ≤ length (now s)) ⌝ }
+    requires { ⌜ (from ≤ to) × (to ≤ from + labelMax) × (to ≤ length (now s)) ⌝ }
     ensures { λ _. ⌜ now (t .exit) ≡ changed (now (t .entry))
         (renamed (take (to - from) (drop from (now (s .entry)))) (now (marks .entry)) (records (now (t .entry)))) ⌝ }
 {

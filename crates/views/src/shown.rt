@@ -13,6 +13,7 @@ ghost use mathlib.Core.List.{_++_};
 ghost use Prim.Native.Nat.{_+_, _*_, _≤_, _<_};
 ghost use lib.Dec.{leb};
 ghost use lib.ListN.{length, drop, set};
+ghost use Rattle.rights.specs.Limits.{recordsMax};
 ghost use Rattle.rights.specs.Policy.{read};
 ghost use Rattle.rights.specs.Rights.{holds};
 ghost use Rattle.rights.specs.Table.{recordsFrom, count, tableOk};
@@ -51,8 +52,8 @@ pub fn depth_after(depth: usize, level: u8, shown: bool) -> usize
 
 // The number that stands for a shown node: its record's, and 16,384 more where the label stays hidden.
 fn number_of(i: usize, set: u8) -> u16
-    requires { ⌜ i < 16384 ⌝ }
-    ensures { λ r. ⌜ r ≡ cond (holds read set) i (i + 16384) ⌝ }
+    requires { ⌜ i < recordsMax ⌝ }
+    ensures { λ r. ⌜ r ≡ cond (holds read set) i (i + recordsMax) ⌝ }
 {
     let readable = holds_right(set, READ);
     if readable {
@@ -75,7 +76,7 @@ fn put(shown: &mut [u16], k: usize, keep: bool, x: u16) -> usize
 
 // The shown ones of the first n nodes, by the depth of the shown chain.
 fn show_first(table: &[u8], n: usize, rights: &[u8], shown: &mut [u16]) -> usize
-    requires { ⌜ (4 + n * 32 ≤ length (now table)) × (n ≤ 16384) × (n ≤ length (now rights)) × (n ≤ length (now shown)) ⌝ }
+    requires { ⌜ (4 + n * 32 ≤ length (now table)) × (n ≤ recordsMax) × (n ≤ length (now rights)) × (n ≤ length (now shown)) ⌝ }
     ensures { λ r. ⌜ (r ≡ length (numbersFrom 0 (storedFrom 0 (recordsFrom (now (table .entry)) n 0) (now (rights .entry)))))
         × (now (shown .exit) ≡ numbersFrom 0 (storedFrom 0 (recordsFrom (now (table .entry)) n 0) (now (rights .entry))) ++ drop r
         (now (shown .entry))) ⌝ }

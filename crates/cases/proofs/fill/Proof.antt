@@ -1,3 +1,4 @@
+-- Only lengths are promised: stores keep them.
 use Prim.Native.Nat.{_≤_, _-_}
 use mathlib.Core.Path.{_≡_}
 use lib.ListN.{length}

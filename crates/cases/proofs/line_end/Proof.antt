@@ -1,5 +1,5 @@
+-- The place stays between where it began and the end.
 use Prim.Native.Nat.{_≤_, _-_}
-use mathlib.Core.Path.{_≡_}
 use lib.ListN.{length}
 use borrow.Author.Needs.{needs}
 use Rattle.cases.proofs.line_end.Statement.{statement}

@@ -1,5 +1,5 @@
+-- The place stays within what was written.
 use Prim.Native.Nat.{_≤_, _-_}
-use mathlib.Core.Path.{_≡_}
 use lib.ListN.{length}
 use borrow.Author.Needs.{needs}
 use Rattle.cases.proofs.say_written.Statement.{statement}

@@ -1,3 +1,4 @@
+-- The place in the input only moves on; every area keeps its length.
 use Prim.Native.Nat.{_≤_, _-_}
 use mathlib.Core.Path.{_≡_}
 use lib.ListN.{length}

@@ -1,3 +1,4 @@
+-- What is held back fits its area, and the bytes that may still be read fall with every chunk.
 use Prim.Native.Nat.{_≤_}
 use mathlib.Core.Path.{_≡_}
 use lib.ListN.{length}

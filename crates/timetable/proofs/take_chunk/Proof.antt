@@ -1,3 +1,4 @@
+-- What is held back fits its area after every byte, and the place in the chunk only moves on.
 use Prim.Native.Nat.{_≤_, _-_}
 use mathlib.Core.Path.{_≡_}
 use lib.ListN.{length}

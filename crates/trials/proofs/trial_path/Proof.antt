@@ -1,5 +1,4 @@
-use mathlib.Core.Path.{_≡_, refl, sym, _∙_}
-use native.Mathlib.Omega.{arith}
+use mathlib.Core.Path.{sym, _∙_}
 use borrow.Author.Needs.{needs}
 use Rattle.trials.proofs.TrialLaws.{path-yes, path-no}
 use Rattle.trials.proofs.trial_path.Statement.{statement}

@@ -8,9 +8,9 @@ use Rattle.trials.proofs.trial_select.Tie as tie
 
 returns : tie.Need-returns
 returns c =
-    let at-check-path = c .before .before in let at-before = at-check-path .before in
-    let asked = at-before .before in
-    nodes-bad _ _ _ _ _ _ (sym (asked .may-select .ensures) ∙ at-before .if1 .taken) (sym (at-check-path .check-path .ensures) ∙ c .enum-told2 .given .1)
+    let at-check-path = c .before .before in let at-if1 = at-check-path .before in
+    let asked = at-if1 .before in
+    nodes-bad _ _ _ _ _ _ (sym (asked .may-select .ensures) ∙ at-if1 .if1 .taken) (sym (at-check-path .check-path .ensures) ∙ c .enum-told2 .given .1)
 
 select-requires : tie.Need-select-requires
 select-requires c κs =
@@ -22,8 +22,7 @@ select-requires c κs =
 
 returns-2 : tie.Need-returns-2
 returns-2 c =
-    let at-select = c .before .before in let at-enum-told = at-select .before .before in let at-before = at-enum-told .before in
-    let read = at-before .before in
+    let at-select = c .before .before in let at-enum-told = at-select .before .before in let read = at-enum-told .before .before in
     nodes-done _ _ _ _ _ _ (sym (read .before .before .may-select .ensures) ∙ read .before .if1 .taken) _ (sym (read .check-path .ensures) ∙ at-enum-told .enum-told .given .1) _ (at-select .select .ensures)
 
 returns-3 : tie.Need-returns-3

@@ -1,6 +1,7 @@
+-- The area holds i closing parentheses.
 use Rattle.answers.proofs.AnswerNodes.{closed-more}
 use Rattle.answers.proofs.AnswerLaws.{puts-none, puts-more}
-use Rattle.answers.specs.AnswerArea.{Puts}
+use Rattle.answers.specs.How.AnswerArea.{Puts}
 use native.Mathlib.Omega.{arith}
 use lib.ListN.{length, replicate}
 use mathlib.Core.Path.{_≡_, refl}

@@ -1,3 +1,4 @@
+-- No node before i is marked, so the first hit of all is the first of those from i on.
 use Rattle.answers.proofs.AnswerNodes.{hits-pass, found-hit, found-none}
 use Rattle.answers.proofs.NodeLaws.{view-length}
 use Rattle.answers.specs.Answer.{hitsOf}

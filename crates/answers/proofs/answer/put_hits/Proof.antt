@@ -1,3 +1,4 @@
+-- The area holds the lines of the hits before i, and what is left is the lines of those from i on: together the whole.
 use Rattle.answers.proofs.AnswerNodes.{hits-step, hit-lines-end}
 use Rattle.answers.proofs.NodeLaws.{view-length}
 use Rattle.answers.proofs.AnswerLaws.{Toward, toward-start, toward-more, toward-end}

@@ -1,5 +1,5 @@
 use Rattle.answers.proofs.AnswerLaws.{puts-more}
-use Rattle.answers.specs.AnswerParts.{nodeText}
+use Rattle.answers.specs.How.AnswerParts.{nodeText}
 use Rattle.rights.specs.Nodes.{levelAt, labelAt}
 use native.Mathlib.Omega.{arith}
 use borrow.Author.Needs.{needs}

@@ -1,5 +1,4 @@
--- `forms::form::build` meets its contract, word by word.
-use mathlib.Core.Path.{_∙_}
+-- Word by word.
 use native.Mathlib.Omega.{arith}
 use borrow.Author.Needs.{needs}
 use Rattle.forms.proofs.form.build.Statement.{statement}

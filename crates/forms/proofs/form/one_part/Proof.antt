@@ -1,4 +1,3 @@
--- `forms::form::one_part` meets its contract.
 use Prim.Native.Nat.{ℕ}
 use mathlib.Core.List.{List}
 use native.Mathlib.Omega.{arith}

@@ -1,4 +1,3 @@
--- `forms::form::part_at` meets its contract.
 use native.Mathlib.Numerals.{add-one}
 use borrow.Author.Needs.{needs}
 use Rattle.forms.proofs.form.part_at.Statement.{statement}

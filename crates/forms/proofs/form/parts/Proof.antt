@@ -1,8 +1,7 @@
--- `forms::form::parts` meets its contract: after i turns i parts are read, up to e, and their places stand in the array (record Reading).
+-- After i turns i parts are read, up to e, and their places stand in the array (record Reading).
 use Prim.Native.Nat.{ℕ, _-_, _≤_, _<_}
-use mathlib.Core.Path.{_≡_, refl, sym, ap, _∙_}
+use mathlib.Core.Path.{_≡_, sym, ap, _∙_}
 use mathlib.Core.List.{List}
-use mathlib.Core.Bool.{true, false}
 use native.Mathlib.Omega.{arith}
 use lib.ListN.{length, getD, length-set}
 use Rattle.forms.specs.Kind.{Kind}

@@ -1,4 +1,3 @@
--- `forms::form::put_tree_at` meets its contract.
 use mathlib.Core.Path.{refl}
 use Rattle.rights.proofs.RecordLaws.{pasted-none}
 use Rattle.forms.specs.Tree.{recordsOf}

@@ -1,7 +1,6 @@
--- `forms::form::read_form` meets its contract: the word, the parts of its shape, the tree, and the form that they make.
-use Prim.Native.Nat.{ℕ, zero, suc}
-use mathlib.Core.Path.{_≡_, refl, sym, _∙_}
-use mathlib.Core.List.{List, [], _∷_}
+-- The word, the parts of its shape, the tree, and the form that they make.
+use mathlib.Core.Path.{refl, sym, _∙_}
+use mathlib.Core.List.{[]}
 use native.Mathlib.Omega.{arith}
 use Rattle.rights.proofs.PathLaws.{past}
 use Rattle.forms.specs.Kind.{endBy}

@@ -1,4 +1,3 @@
--- `forms::form::rule_form` meets its contract.
 use native.Mathlib.Omega.{arith}
 use borrow.Author.Needs.{needs}
 use Rattle.forms.proofs.form.rule_form.Statement.{statement}

@@ -1,4 +1,4 @@
--- `forms::form::shape_of` meets its contract, word by word.
+-- Word by word.
 use mathlib.Core.Path.{refl}
 use Rattle.forms.specs.Form.{codesOf}
 use borrow.Author.Needs.{needs}

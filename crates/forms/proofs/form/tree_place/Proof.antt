@@ -1,5 +1,5 @@
--- `forms::form::tree_place` meets its contract: the place of the tree in the shape is its place in the kinds from i on, i parts in.
-use Prim.Native.Nat.{ℕ, _-_, _≤_, _<_}
+-- The place of the tree in the shape is its place in the kinds from i on, i parts in.
+use Prim.Native.Nat.{ℕ, _-_, _<_}
 use mathlib.Core.Path.{_≡_, refl, sym, ap, _∙_}
 use mathlib.Core.List.{List}
 use native.Mathlib.Numerals.{add-one}

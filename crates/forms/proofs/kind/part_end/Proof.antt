@@ -1,4 +1,4 @@
--- `forms::kind::part_end` meets its contract, kind by kind.
+-- Kind by kind.
 use borrow.Author.Tests.{ne-eqb}
 use native.Mathlib.Omega.{arith}
 use Rattle.rights.proofs.PathLaws.{bad-onward, earlier}

@@ -1,4 +1,3 @@
--- `forms::part::known_end` meets its contract.
 use Rattle.rights.proofs.PathLaws.{bad-onward, earlier}
 use native.Mathlib.Omega.{arith}
 use Rattle.forms.proofs.PartLaws.{known-none, known-some}

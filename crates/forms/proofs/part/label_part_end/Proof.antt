@@ -1,5 +1,4 @@
--- `forms::part::label_part_end` meets its contract.
-use mathlib.Core.Path.{_≡_, refl, sym, ap, _∙_}
+use mathlib.Core.Path.{_≡_, ap, _∙_}
 use mathlib.Core.List.{List}
 use native.Mathlib.Omega.{arith}
 use Rattle.rights.specs.declared.path.Read.the-variants.{At}

@@ -1,4 +1,3 @@
--- `forms::part::moved` meets its contract.
 use borrow.Author.Tests.{le-leb, lt-leb}
 use Rattle.forms.proofs.part.moved.Statement.{statement}
 use Rattle.forms.proofs.part.moved.Tie as tie

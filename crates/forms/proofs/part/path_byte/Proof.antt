@@ -1,4 +1,4 @@
--- `forms::part::path_byte` meets its contract: on each range between the tests the class is constant.
+-- On each range between the tests the class is constant.
 use mathlib.Core.Bool.{true, false}
 use native.Mathlib.Omega.{arith}
 use Rattle.forms.specs.Part.{pathByte}

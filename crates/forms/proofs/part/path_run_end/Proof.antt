@@ -1,12 +1,11 @@
--- `forms::part::path_run_end` meets its contract: what is left of the run from i on is what is left of it from `at` on.
+-- What is left of the run from i on is what is left of it from `at` on.
 use Prim.Native.Nat.{ℕ, _+_, _-_, _≤_}
-use mathlib.Core.Path.{_≡_, _∙_, sym, refl}
+use mathlib.Core.Path.{_≡_, _∙_, sym}
 use mathlib.Core.List.{List}
-use mathlib.Core.Bool.{true, false}
 use native.Mathlib.Omega.{arith}
 use borrow.Author.Needs.{needs}
 use borrow.Author.Tests.{not-true, not-false}
-use lib.ListN.{length, getD}
+use lib.ListN.{length}
 use Rattle.rights.specs.PathReader.{runAt}
 use Rattle.rights.proofs.Runs.{run-end, run-yes, run-no}
 use Rattle.forms.proofs.part.path_run_end.Statement.{statement}

@@ -1,4 +1,3 @@
--- `forms::part::word_end` meets its contract.
 use Rattle.forms.proofs.PartLaws.{moved-run}
 use borrow.Author.Needs.{needs}
 use Rattle.forms.proofs.part.word_end.Statement.{statement}

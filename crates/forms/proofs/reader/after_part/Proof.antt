@@ -1,4 +1,3 @@
--- `forms::reader::after_part` meets its contract.
 use native.Mathlib.Omega.{arith}
 use Rattle.forms.proofs.ReaderLaws.{onward-takes}
 use borrow.Author.Needs.{needs}

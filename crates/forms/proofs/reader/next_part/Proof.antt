@@ -1,4 +1,4 @@
--- `forms::reader::next_part` meets its contract: a walk of its MIR, by hand. A reader is made, the part is taken, and the place that the reader came to is the answer, if it moved on.
+-- A walk of its MIR, by hand. A reader is made, the part is taken, and the place that the reader came to is the answer, if it moved on.
 -- All that the proof knows of the functions called is that each meets its contract. A local's type has its lifetime erased, so a reader is shown to have the type at `erased`.
 -- Assumes nothing.
 use mathlib.Core.Path.{_≡_, refl, ap, sym, subst}
@@ -46,7 +46,7 @@ use Rattle.rights.proofs.path.Read as S
 use Rattle.rights.proofs.path.Read.Laws as S′
 use Rattle.forms.specs.Part.{movedTo}
 use Rattle.forms.specs.Kind.{endBy}
-use Rattle.forms.specs.Reader.{Takes}
+use Rattle.forms.specs.How.Reader.{Takes}
 use Rattle.forms.proofs.ReaderLaws.{takes-onward}
 use Rattle.forms.specs.declared.reader.LineReader.{LineReader}
 use Rattle.forms.proofs.reader.LineReader as T

@@ -1,4 +1,4 @@
--- `forms::reader::reader_at` meets its contract: a walk of its MIR, by hand. A reader is made of the line and the place passed, in the result's local.
+-- A walk of its MIR, by hand. A reader is made of the line and the place passed, in the result's local.
 -- A `&[u8]` is Copy, so what it owns is had twice: once for the line at exit, and once inside the result, beside the place's facts.
 -- Assumes nothing.
 use mathlib.Core.Path.{refl}

@@ -1,4 +1,4 @@
--- `forms::reader::take` meets its contract: a walk of its MIR, by hand. The reader is taken apart, `after_part` is called on the line, the place and the kind, and a reader at the place that it
+-- A walk of its MIR, by hand. The reader is taken apart, `after_part` is called on the line, the place and the kind, and a reader at the place that it
 -- returns is handed back. All that the proof knows of `after_part` is that it meets its contract. The struct is Copy: what it owns is had twice, one copy is kept whole for the exit, and of the
 -- other what the line owns goes to the callee. Assumes nothing.
 use mathlib.Core.Path.{_≡_, refl, ap}
@@ -44,7 +44,7 @@ use denote.Triple.Walked.{says, needs, Stays, stay-none, walkOf, goes-none, Walk
 use denote.Exit.{yes}
 use denote.Triple.Clauses.{ensured, lasts}
 use Rattle.forms.specs.Kind.{endBy}
-use Rattle.forms.specs.Reader.{Takes}
+use Rattle.forms.specs.How.Reader.{Takes}
 use Rattle.forms.specs.declared.reader.LineReader.{LineReader}
 use Rattle.forms.proofs.reader.LineReader as T
 use Rattle.forms.proofs.reader.LineReader.Laws as T′

@@ -1,4 +1,4 @@
--- `forms::text::line_ok` meets its contract. The loop's invariant: the test of what is left is the test of the whole.
+-- The loop's invariant: the test of what is left is the test of the whole.
 use Prim.Native.Nat.{_≤_, _-_}
 use mathlib.Core.Path.{_≡_, refl, sym, _∙_}
 use native.Mathlib.Omega.{arith}

@@ -1,6 +1,6 @@
--- `forms::tree::put_tail` meets its contract. It calls itself on the tail: the bytes left of the line fall.
-use Prim.Native.Nat.{_+_, _-_, _*_, _≤_}
-use mathlib.Core.Path.{_≡_, refl, sym, ap, _∙_}
+-- It calls itself on the tail: the bytes left of the line fall.
+use Prim.Native.Nat.{_-_, _*_}
+use mathlib.Core.Path.{sym, ap, _∙_}
 use mathlib.Core.List.{List}
 use native.Mathlib.Omega.{arith}
 use borrow.Author.Needs.{needs}

@@ -1,12 +1,11 @@
--- `forms::tree::tail_end` meets its contract. It calls itself on the tail: the bytes left of the line fall.
-use Prim.Native.Nat.{_+_, _-_, _≤_}
-use mathlib.Core.Path.{_≡_, refl, sym, ap, _∙_}
+-- It calls itself on the tail: the bytes left of the line fall.
+use mathlib.Core.Path.{sym, _∙_}
 use mathlib.Core.List.{List}
 use native.Mathlib.Omega.{arith}
 use borrow.Author.Needs.{needs}
-use lib.ListN.{length, take, drop}
+use lib.ListN.{length}
 use Rattle.rights.proofs.Lists.{rest-of}
-use Rattle.forms.proofs.TreeLaws.{rest-length, opened, end-bad, end-none, end-other, end-unopened, end-last, end-close, end-open}
+use Rattle.forms.proofs.TreeLaws.{rest-length, end-bad, end-none, end-other, end-unopened, end-last, end-close, end-open}
 use Prim.Native.Nat.{ℕ, _<_}
 use borrow.Fn.Kinds.{In}
 use borrow.Fn.PlainCycle.{Measures, is, falls, and}

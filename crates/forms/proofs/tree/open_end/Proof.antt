@@ -1,8 +1,5 @@
--- `forms::tree::open_end` meets its contract.
-use mathlib.Core.Path.{_≡_, refl, sym, ap, _∙_}
 use mathlib.Core.List.{List}
 use native.Mathlib.Omega.{arith}
-use Rattle.rights.specs.declared.path.Read.the-variants.{At}
 use Prim.Native.Nat.{ℕ}
 use Rattle.rights.proofs.PathLaws.{bad-onward, earlier, past}
 use Rattle.forms.proofs.PartLaws.{open-not, open-label}

@@ -1,6 +1,6 @@
--- `forms::word::right_at` meets its contract: what the number finds, the letters find.
-use mathlib.Core.Path.{refl, sym, ap, _∙_}
-use Rattle.forms.specs.Word.{numbered, rights, rightAt}
+-- What the number finds, the letters find.
+use mathlib.Core.Path.{refl, ap, _∙_}
+use Rattle.forms.specs.Word.{byNumber, rights, rightAt}
 use Rattle.forms.proofs.WordLaws.{numbered-among}
 use Rattle.rights.specs.Labels.{labelByte}
 use Rattle.rights.specs.Bytes.{all}
@@ -18,7 +18,7 @@ returns : tie.Need-returns
 unfolding rightAt labelByte all
 returns c =
     let at-number-at = c .before in let start = at-number-at .before .before in
-    c .numbered-right .ensures ∙ ap (numbered 0 rights) (at-number-at .number-at .ensures) ∙ numbered-among 0 rights refl (start .args .s .now) (start .args .at)
+    c .numbered-right .ensures ∙ ap (byNumber 0 rights) (at-number-at .number-at .ensures) ∙ numbered-among 0 rights refl (start .args .s .now) (start .args .at)
 
 pub right-at-spec : {M : Type 1} → statement M
 right-at-spec = tie.close (tie.spec number-at-requires numbered-right-requires returns)

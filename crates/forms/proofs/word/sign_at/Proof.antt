@@ -1,6 +1,6 @@
--- `forms::word::sign_at` meets its contract: what the number finds, the letters find.
-use mathlib.Core.Path.{refl, sym, ap, _∙_}
-use Rattle.forms.specs.Word.{numbered, signs, signAt}
+-- What the number finds, the letters find.
+use mathlib.Core.Path.{refl, ap, _∙_}
+use Rattle.forms.specs.Word.{byNumber, signs, signAt}
 use Rattle.forms.proofs.WordLaws.{numbered-among}
 use Rattle.rights.specs.Labels.{labelByte}
 use Rattle.rights.specs.Bytes.{all}
@@ -18,7 +18,7 @@ returns : tie.Need-returns
 unfolding signAt labelByte all
 returns c =
     let at-number-at = c .before in let start = at-number-at .before .before in
-    c .numbered-sign .ensures ∙ ap (numbered 0 signs) (at-number-at .number-at .ensures) ∙ numbered-among 0 signs refl (start .args .s .now) (start .args .at)
+    c .numbered-sign .ensures ∙ ap (byNumber 0 signs) (at-number-at .number-at .ensures) ∙ numbered-among 0 signs refl (start .args .s .now) (start .args .at)
 
 pub sign-at-spec : {M : Type 1} → statement M
 sign-at-spec = tie.close (tie.spec number-at-requires numbered-sign-requires returns)

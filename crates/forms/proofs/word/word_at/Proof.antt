@@ -1,6 +1,6 @@
--- `forms::word::word_at` meets its contract: what the number finds, the letters find.
-use mathlib.Core.Path.{refl, sym, ap, _∙_}
-use Rattle.forms.specs.Word.{numbered, words, wordAt}
+-- What the number finds, the letters find.
+use mathlib.Core.Path.{refl, ap, _∙_}
+use Rattle.forms.specs.Word.{byNumber, words, wordAt}
 use Rattle.forms.proofs.WordLaws.{numbered-among}
 use Rattle.rights.specs.Labels.{labelByte}
 use Rattle.rights.specs.Bytes.{all}
@@ -19,7 +19,7 @@ returns : tie.Need-returns
 unfolding wordAt labelByte all
 returns c =
     let at-number-at = c .before in let start = at-number-at .before .before in
-    c .numbered-word .ensures ∙ ap (numbered Other words) (at-number-at .number-at .ensures) ∙ numbered-among Other words refl (start .args .s .now) (start .args .at)
+    c .numbered-word .ensures ∙ ap (byNumber Other words) (at-number-at .number-at .ensures) ∙ numbered-among Other words refl (start .args .s .now) (start .args .at)
 
 pub word-at-spec : {M : Type 1} → statement M
 word-at-spec = tie.close (tie.spec number-at-requires numbered-word-requires returns)

@@ -1,9 +1,9 @@
--- `forms::word::word_number` meets its contract: n is the number of the bytes from i on, and fits in as many bytes.
+-- N is the number of the bytes from i on, and fits in as many bytes.
 use Prim.Native.Nat.{ℕ, suc, _+_, _-_, _*_, _^_, _≤_, _<_}
-use mathlib.Core.Path.{_≡_, refl, sym, ap, _∙_}
+use mathlib.Core.Path.{_≡_, sym, ap, _∙_}
 use mathlib.Core.List.{List}
 use native.Mathlib.Omega.{arith}
-use lib.ListN.{length, getD, take, drop}
+use lib.ListN.{getD, take, drop}
 use Rattle.forms.specs.Word.{number}
 use Rattle.forms.proofs.WordLaws.{number-more, more-fits, few-fit}
 use Rattle.forms.proofs.word.word_number.Statement.{statement}

@@ -1,4 +1,4 @@
--- `rights::policy_edit::add_isa` meets its contract: two stores at the line's place, then the count is raised.
+-- Two stores at the line's place, then the count is raised.
 use native.Mathlib.Omega.{arith}
 use lib.ListN.{length-set}
 use Rattle.lines.proofs.EditBytes.{isa-written}

@@ -1,4 +1,4 @@
--- `rights::policy_edit::add_rule` meets its contract: the steps are put, then the head before them, then the count is raised.
+-- The steps are put, then the head before them, then the count is raised.
 use native.Mathlib.Omega.{arith}
 use lib.ListN.{length-set}
 use Rattle.lines.specs.PolicyEdit.{stepsIn}

@@ -1,4 +1,4 @@
--- `rights::policy_edit::add_subject` meets its contract: the record is put, then the count is raised.
+-- The record is put, then the count is raised.
 use native.Mathlib.Omega.{arith}
 use lib.ListN.{take, drop}
 use Rattle.lines.proofs.EditBytes.{subject-written}

@@ -1,5 +1,5 @@
 -- A step begins at `at`, and the steps from there on have a bracket exactly if the path has.
-use Prim.Native.Nat.{_+_, _-_}
+use Prim.Native.Nat.{_-_}
 use mathlib.Core.Path.{sym}
 use native.Mathlib.Omega.{arith}
 use lib.ListN.{length}

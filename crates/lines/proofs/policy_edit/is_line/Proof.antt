@@ -1,4 +1,4 @@
--- `rights::policy_edit::is_line` meets its contract: the two bytes of the line.
+-- The two bytes of the line.
 use mathlib.Core.Path.{_≡_, sym, _∙_}
 use borrow.Author.Tests.{eq-eqb, ne-eqb}
 use Rattle.rights.specs.PolicyBytes.{isaN}

@@ -1,4 +1,4 @@
--- `rights::policy_edit::isa_held` meets its contract: the line is looked for among those from line k on.
+-- The line is looked for among those from line k on.
 use mathlib.Core.Path.{_≡_, sym, _∙_}
 use Prim.Native.Nat.{_-_, _≤_}
 use native.Mathlib.Omega.{arith}

@@ -1,4 +1,4 @@
--- `rights::policy_edit::put_head` meets its contract: eight stores in a row.
+-- Eight stores in a row.
 use native.Mathlib.Omega.{arith}
 use lib.ListN.{length-set}
 use native.Mathlib.Numerals.{add-one, add-two, add-three, add-four, add-five, add-six, add-seven}

@@ -1,9 +1,6 @@
-use mathlib.Core.Path.{_≡_, sym, ap, _∙_}
 use native.Mathlib.Omega.{arith}
 use borrow.Author.Needs.{needs}
-use lib.ListN.{length, drop}
 use Rattle.rights.specs.PathReader.{pathOf}
-use Rattle.lines.specs.ChangeRoom.{Chosen}
 use Rattle.lines.proofs.StateLaws.{store-held}
 use Rattle.lines.proofs.UserViewLaws.{user-some, shown-long, shown-fits, shown-view, subject-asks, picked-are, path-read}
 use Rattle.lines.proofs.queries.select_user.Statement.{statement}

@@ -1,13 +1,9 @@
-use mathlib.Core.List.{_++_}
-use mathlib.Core.Path.{_≡_, sym, ap, _∙_}
 use native.Mathlib.Omega.{arith}
 use borrow.Author.Needs.{needs}
-use lib.ListN.{drop, length}
+use lib.ListN.{drop}
 use Rattle.rights.specs.Table.{count}
-use Rattle.views.specs.Shown.{shownNumbers}
 use Rattle.lines.proofs.UserViewLaws.{asked-cover, asked-shown, asked-held, user-some, rights-asks}
 use Rattle.rights.proofs.Facts.{table-few}
-use Rattle.rights.proofs.Lists.{rest-of}
 use Rattle.lines.proofs.StateLaws.{store-held}
 use Rattle.lines.proofs.queries.show_user.Statement.{statement}
 use Rattle.lines.proofs.queries.show_user.Tie as tie

@@ -1,3 +1,4 @@
+-- No record before j has that label, so those from j on decide.
 use Prim.Native.Nat.{_≤_, _-_, _*_}
 use mathlib.Core.Path.{_≡_, sym, _∙_}
 use native.Mathlib.Omega.{arith}

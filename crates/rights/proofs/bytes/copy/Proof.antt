@@ -1,3 +1,4 @@
+-- The first j bytes are copied, and no other byte has changed.
 use Prim.Native.Nat.{_≤_, _-_}
 use mathlib.Core.Path.{_≡_, refl}
 use lib.ListN.{length, drop, length-set}

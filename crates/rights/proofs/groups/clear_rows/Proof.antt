@@ -1,3 +1,4 @@
+-- The first i rows are zero, and the rest is as it was.
 use Prim.Native.Nat.{ℕ, _≤_, _-_}
 use mathlib.Core.Path.{_≡_, refl}
 use native.Mathlib.Omega.{arith}

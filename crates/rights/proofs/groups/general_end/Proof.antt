@@ -1,4 +1,5 @@
-use Prim.Native.Nat.{_≤_, _-_}
+-- No rule from k on is general, so the answer lies below k.
+use Prim.Native.Nat.{_≤_}
 use native.Mathlib.Omega.{arith}
 use Rattle.rights.proofs.groups.general_end.Statement.{statement}
 use Rattle.rights.proofs.groups.general_end.Tie as tie

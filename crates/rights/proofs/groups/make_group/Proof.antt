@@ -1,11 +1,12 @@
+-- The group holds the rules from `from` up to k in numbers; a rule more keeps what it holds and adds its own bits above.
 use Prim.Native.Nat.{suc, _+_, _-_, _≤_}
 use mathlib.Core.Path.{_≡_, sym, _∙_}
 use native.Mathlib.Omega.{arith}
 use Rattle.rights.specs.PolicyBytes.{stepCount, stepsAt}
-use Rattle.rights.specs.Roles.{nameAmong}
-use Rattle.rights.specs.Vocabulary.{wordAt, numberIn}
-use Rattle.rights.specs.Groups.{laneAt, Grouped}
-use Rattle.rights.proofs.Lanes.{length-steps}
+use Rattle.rights.specs.How.Roles.{nameAmong}
+use Rattle.rights.specs.How.Vocabulary.{wordAt, numberIn}
+use Rattle.rights.specs.How.Groups.{rulingAt, Grouped}
+use Rattle.rights.proofs.StateMasks.{length-steps}
 use Rattle.rights.proofs.VocabularyLaws.{number-low}
 use Rattle.rights.proofs.GroupLaws.{group-none, size-more, size-within}
 use Rattle.rights.proofs.groups.make_group.Statement.{statement}
@@ -15,7 +16,7 @@ abbrev Inv-loop : tie.InvT-loop
 Inv-loop policy own words n roles right from to rows₀ g₀ k₀ rows g k =
     (from ≤ k)
     × (k ≤ to)
-    × Grouped (numberIn policy words n) (laneAt policy own roles right) right from (k - from) (g .deep) (g .every) (g .start) (g .yes) (g .noes) (g .used) rows
+    × Grouped (numberIn policy words n) (rulingAt policy own roles right) right from (k - from) (g .deep) (g .every) (g .start) (g .yes) (g .noes) (g .used) rows
 
 abbrev μ-loop : tie.MeasureT-loop
 μ-loop policy own words n roles right from to rows₀ g₀ k₀ rows g k = to - k
@@ -38,16 +39,16 @@ loop-holds c =
     let p = a .policy .now in
     let r = at-clear-rows .clear-rows .ensures in
     let z : a .from - a .from ≡ 0 = omega arith in
-    (omega arith, omega arith, rw z (group-none (numberIn p (a .words .now) (a .n)) (laneAt p (a .own .now) (a .roles .now) (a .right)) (a .right) (a .from) _ (r .long ∙ g .5) (λ x. r .at _ (omega (arith, number-low (wordAt p (a .words .now)) (a .n) x)))))
+    (omega arith, omega arith, rw z (group-none (numberIn p (a .words .now) (a .n)) (rulingAt p (a .own .now) (a .roles .now) (a .right)) (a .right) (a .from) _ (r .long ∙ g .5) (λ x. r .at _ (omega (arith, number-low (wordAt p (a .words .now)) (a .n) x)))))
 
-with-lane-requires : tie.Need-with-lane-requires Inv-loop μ-loop
-with-lane-requires c κs =
+with-ruling-requires : tie.Need-with-ruling-requires Inv-loop μ-loop
+with-ruling-requires c κs =
     let at-loop = c .before .before in let start-2 = at-loop .before .before .before .before .before .before .before .before .before in
     let a = start-2 .args in
     let g = start-2 .pre in
     let l = at-loop .loop in
     let p = a .policy .now in
-    let q = laneAt p (a .own .now) (a .roles .now) (a .right) in
+    let q = rulingAt p (a .own .now) (a .roles .now) (a .right) in
     (g .0, omega arith, g .3, omega (arith, l .inv .2 .used-is, size-more q (a .from) (l .k) (stepCount p (l .k)) (l .inv .0) (length-steps (nameAmong p (a .own .now)) p (stepsAt (l .k)) (stepCount p (l .k)) 0), size-within q (a .from) (l .k + 1) (a .to) (omega arith) (omega arith), g .4), l .inv .2 .packed .long)
 
 add-k : tie.Need-add-k Inv-loop μ-loop
@@ -57,12 +58,12 @@ add-k c =
 
 loop-again : tie.Need-loop-again Inv-loop μ-loop
 loop-again c =
-    let at-with-lane = c .before .before in let at-loop = at-with-lane .before .before .before in
+    let at-with-ruling = c .before .before in let at-loop = at-with-ruling .before .before .before in
     let start-2 = at-loop .before .before .before .before .before .before .before .before .before in
     let a = start-2 .args in
     let l = at-loop .loop in
     let y : suc (l .k - a .from) ≡ l .k + 1 - a .from = omega arith in
-    (omega arith, omega arith, rw y at (at-with-lane .with-lane .ensures .0 (a .from) (l .k - a .from) (omega arith) (l .inv .2)))
+    (omega arith, omega arith, rw y at (at-with-ruling .with-ruling .ensures .0 (a .from) (l .k - a .from) (omega arith) (l .inv .2)))
 
 same-length : tie.Need-same-length Inv-loop μ-loop
 same-length c =
@@ -79,5 +80,5 @@ returns c =
 pub make-group-spec : {M : Type 1} → statement M
 make-group-spec =
     tie.close
-    (tie.spec Inv-loop μ-loop add-clear-rows clear-rows-requires loop-holds with-lane-requires add-k (λ c. omega arith)
+    (tie.spec Inv-loop μ-loop add-clear-rows clear-rows-requires loop-holds with-ruling-requires add-k (λ c. omega arith)
     loop-again same-length returns)

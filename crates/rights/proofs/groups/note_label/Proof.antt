@@ -1,5 +1,4 @@
 use native.Mathlib.Omega.{arith}
-use mathlib.Core.Path.{_∙_, sym}
 use borrow.Author.Needs.{needs}
 use Rattle.rights.specs.Table.{recAt, label}
 use Rattle.rights.proofs.PackedLaws.{noted-label}

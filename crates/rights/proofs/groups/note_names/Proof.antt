@@ -1,11 +1,11 @@
-use Prim.Native.Nat.{ℕ, _+_, _-_, _≤_}
-use mathlib.Core.Path.{_≡_, refl, sym, _∙_}
-use mathlib.Core.List.{List}
+-- The rows of the names of the first i subjects have the step's bit, and no other bit has changed.
+use Prim.Native.Nat.{_-_, _≤_}
+use mathlib.Core.Path.{_∙_}
 use native.Mathlib.Omega.{arith}
 use lib.ListN.{length, take}
-use Rattle.rights.specs.Roles.{nameAmong}
-use Rattle.rights.specs.Vocabulary.{numberIn}
-use Rattle.rights.specs.Groups.{Noted}
+use Rattle.rights.specs.How.Roles.{nameAmong}
+use Rattle.rights.specs.How.Vocabulary.{numberIn}
+use Rattle.rights.specs.How.Groups.{Noted}
 use Rattle.rights.proofs.OwnNames.{names-more, names-all, names-none}
 use Rattle.rights.proofs.PackedLaws.{sorted-name, noted-none, noted-then, noted-alike}
 use Rattle.rights.proofs.groups.note_names.Statement.{statement}

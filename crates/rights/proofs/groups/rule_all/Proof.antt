@@ -1,8 +1,9 @@
+-- The first i sets have the right set or cleared, and the rest is as it was.
 use Prim.Native.Nat.{ℕ, _-_, _≤_, _<_}
 use mathlib.Core.Path.{_≡_, refl, subst}
 use native.Mathlib.Omega.{arith}
 use lib.ListN.{length, drop, getD, length-set}
-use Rattle.rights.specs.Rights.{withRule}
+use Rattle.rights.specs.Rights.{ruledSet}
 use Rattle.rights.proofs.Eaches.{Done, untouched, done-more, drop-more, below-more}
 use Rattle.rights.proofs.groups.rule_all.Statement.{statement}
 use Rattle.rights.proofs.groups.rule_all.Tie as tie
@@ -12,7 +13,7 @@ Inv-loop right accept n out₀ i₀ out i =
     (i ≤ n)
     × (length out ≡ length out₀)
     × (drop i out ≡ drop i out₀)
-    × Done (λ (q x : ℕ). withRule x right accept) out₀ out i
+    × Done (λ (q x : ℕ). ruledSet x right accept) out₀ out i
     × ((q : ℕ) → q < i → getD out₀ q 0 < 256)
 
 abbrev μ-loop : tie.MeasureT-loop
@@ -30,7 +31,7 @@ loop-again c =
       omega arith,
       simp length-set (l .inv .1),
       drop-more (a .out .now) (l .out) (l .i) (l .inv .2) _,
-      done-more (a .out .now) (l .out) (l .i) (l .inv .2) (λ (q x : ℕ). withRule x (a .right) (a .accept)) _ (omega arith) (l .inv .3) (r .0),
+      done-more (a .out .now) (l .out) (l .i) (l .inv .2) (λ (q x : ℕ). ruledSet x (a .right) (a .accept)) _ (omega arith) (l .inv .3) (r .0),
       below-more (a .out .now) (l .i) (l .inv .4) (subst (λ (k : ℕ). k < 256) (untouched (a .out .now) (l .out) (l .i) (l .inv .2)) (r .1)),
     )
 

@@ -4,9 +4,9 @@ use mathlib.Core.Path.{_≡_, refl, sym, _∙_}
 use native.Mathlib.Numerals.{add-one}
 use native.Mathlib.Omega.{arith}
 use lib.ListN.{length, drop, getD, length-set}
-use Rattle.rights.specs.Vocabulary.{wordAt, numberIn}
-use Rattle.rights.specs.Groups.{laneAt, laid, firsts, ruled}
-use Rattle.rights.specs.Automaton.{chainOf, chainTo}
+use Rattle.rights.specs.How.Vocabulary.{wordAt, numberIn}
+use Rattle.rights.specs.How.Groups.{rulingAt, laid, firsts, ruled}
+use Rattle.rights.specs.How.Automaton.{chainOf, chainTo}
 use Rattle.rights.specs.Table.{recordAt, label}
 use Rattle.rights.proofs.PackedLaws.{row-at}
 use Rattle.rights.proofs.VocabularyLaws.{number-low}
@@ -22,9 +22,9 @@ Inv-loop policy own words count roles right from to t n numbers rows out₀ deep
     (i ≤ n)
     × (length out ≡ length out₀)
     × (drop i out ≡ drop i out₀)
-    × Done (λ (j x : ℕ). ruled (laneAt policy own roles right) right (chainOf t j) from (to - from) x) out₀ out i
+    × Done (λ (j x : ℕ). ruled (rulingAt policy own roles right) right (chainOf t j) from (to - from) x) out₀ out i
     × (length st ≡ 13)
-    × Levels (laid (laneAt policy own roles right) from (to - from)) (firsts (laneAt policy own roles right) from (to - from)) st (chainTo t i)
+    × Levels (laid (rulingAt policy own roles right) from (to - from)) (firsts (rulingAt policy own roles right) from (to - from)) st (chainTo t i)
 
 abbrev μ-loop : tie.MeasureT-loop
 μ-loop policy own words count roles right from to t n numbers rows out₀ deep every yes' noes st₀ i₀ out st i = n - i
@@ -46,7 +46,7 @@ returns c =
     let at-make-group = c .before .before .before .before in
     let start = at-make-group .before .before .before .before .before .before .before .before .before in
     let a = start .args in
-    let q = laneAt (a .policy .now) (a .own .now) (a .roles .now) (a .right) in
+    let q = rulingAt (a .policy .now) (a .own .now) (a .roles .now) (a .right) in
     let made = at-make-group .make-group .ensures in
     let z = sym (made .used-is) ∙ c .if1 .taken in
     (made .packed .long, record { long = refl; at = λ i h. ruled-none q (a .from) (a .right) (chainOf (a .t .now) i) (a .to - a .from) (getD (a .out .now) i 0) z; rest = refl })
@@ -56,7 +56,7 @@ loop-holds c =
     let at-make-group = c .before .before .before .before in
     let start = at-make-group .before .before .before .before .before .before .before .before .before in
     let a = start .args in
-    let q = laneAt (a .policy .now) (a .own .now) (a .roles .now) (a .right) in
+    let q = rulingAt (a .policy .now) (a .own .now) (a .roles .now) (a .right) in
     (omega arith, refl, refl, (λ j h. absurd (omega arith)), refl, levels-start (laid q (a .from) (a .to - a .from)) (firsts q (a .from) (a .to - a .from)) _ (a .t .now) (at-make-group .make-group .ensures .start-is))
 
 mul-wide : tie.Need-mul-wide Inv-loop μ-loop
@@ -166,7 +166,7 @@ loop-again c =
     let made = at-make-group .make-group .ensures in
     let p = a .policy .now in
     let t = a .t .now in
-    let q = laneAt p (a .own .now) (a .roles .now) (a .right) in
+    let q = rulingAt p (a .own .now) (a .roles .now) (a .right) in
     let ss = laid q (a .from) (a .to - a .from) in
     let s = firsts q (a .from) (a .to - a .from) in
     let m = at-next-states .next-states .result in

@@ -1,9 +1,10 @@
+-- The rules before k have been tried on every node, in groups; each group goes on with what those before it left.
 use Prim.Native.Nat.{ℕ, _-_, _≤_}
 use mathlib.Core.Path.{_≡_, refl, sym, _∙_, ap}
 use native.Mathlib.Omega.{arith}
 use lib.ListN.{length}
-use Rattle.rights.specs.Groups.{laneAt, ruled}
-use Rattle.rights.specs.Automaton.{chainOf, Each}
+use Rattle.rights.specs.How.Groups.{rulingAt, ruled}
+use Rattle.rights.specs.How.Automaton.{chainOf, Each}
 use Rattle.rights.specs.PolicyBytes.{ruleCount}
 use Rattle.rights.proofs.FiveRights.{ruled-on, ruled-whole, ruled-zero}
 use Rattle.rights.proofs.Eaches.{each-then, each-alike}
@@ -12,7 +13,7 @@ use Rattle.rights.proofs.groups.try_right.Tie as tie
 
 abbrev Inv-loop : tie.InvT-loop
 Inv-loop policy own words count roles right t n numbers rows₀ out₀ rules k₀ rows out k =
-    (k₀ ≤ k) × (k ≤ rules) × (length rows ≡ 2113) × Each n out₀ out (λ (i x : ℕ). ruled (laneAt policy own roles right) right (chainOf t i) k₀ (k - k₀) x)
+    (k₀ ≤ k) × (k ≤ rules) × (length rows ≡ 2113) × Each n out₀ out (λ (i x : ℕ). ruled (rulingAt policy own roles right) right (chainOf t i) k₀ (k - k₀) x)
 
 abbrev μ-loop : tie.MeasureT-loop
 μ-loop policy own words count roles right t n numbers rows₀ out₀ rules k₀ rows out k = rules - k
@@ -40,7 +41,7 @@ loop-holds c =
     let at-general-end = c .before .before .before .before in
     let start = at-general-end .before .before .before .before .before .before .before .before .before .before in
     let a = start .args in
-    let q = laneAt (a .policy .now) (a .own .now) (a .roles .now) (a .right) in
+    let q = rulingAt (a .policy .now) (a .own .now) (a .roles .now) (a .right) in
     let k = at-general-end .general-end .result in
     (omega arith, at-general-end .general-end .ensures .0, start .pre .2, record { long = refl; at = λ i h. ruled-zero q (a .right) (chainOf (a .t .now) i) k (k - k) _ (omega arith); rest = refl })
 
@@ -77,7 +78,7 @@ loop-again c =
     let to = at-group-end .group-end .result in
     let e = at-group-end .group-end .ensures in
     let r = at-try-group .try-group .ensures in
-    let q = laneAt (a .policy .now) (a .own .now) (a .roles .now) (a .right) in (
+    let q = rulingAt (a .policy .now) (a .own .now) (a .roles .now) (a .right) in (
       omega (arith, e .0),
       omega (arith, e .1),
       r .0,
@@ -107,7 +108,7 @@ returns c =
     let a = start .args in
     let l = at-loop .loop in
     let from = at-general-end .general-end .result in
-    let q = laneAt (a .policy .now) (a .own .now) (a .roles .now) (a .right) in
+    let q = rulingAt (a .policy .now) (a .own .now) (a .roles .now) (a .right) in
     let e : l .k ≡ ruleCount (a .policy .now) = omega (arith, at-wide .wide .ensures) in (
       l .inv .2,
       each-alike (a .n) _ _

@@ -1,13 +1,14 @@
+-- The steps before j stand in the marks and rows, one bit each.
 use Prim.Native.Nat.{_-_, _≤_}
 use mathlib.Core.Path.{_≡_, sym, _∙_}
 use mathlib.Core.List.{List, _++_, append-nil}
 use native.Mathlib.Omega.{arith}
 use lib.ListN.{length}
-use Rattle.rights.specs.Roles.{nameAmong}
+use Rattle.rights.specs.How.Roles.{nameAmong}
 use Rattle.rights.specs.Rights.{Step}
-use Rattle.rights.specs.Automaton.{stepsFor}
-use Rattle.rights.specs.Vocabulary.{numberIn}
-use Rattle.rights.specs.Groups.{Packed}
+use Rattle.rights.specs.How.Automaton.{stepsFor}
+use Rattle.rights.specs.How.Vocabulary.{numberIn}
+use Rattle.rights.specs.How.Groups.{Packed}
 use Rattle.rights.proofs.PackedLaws.{path-more, path-length}
 use Rattle.rights.proofs.groups.with_path.Statement.{statement}
 use Rattle.rights.proofs.groups.with_path.Tie as tie

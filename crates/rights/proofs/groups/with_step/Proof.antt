@@ -1,10 +1,10 @@
 use mathlib.Core.Path.{sym, _∙_}
 use borrow.Author.Needs.{needs}
 use Rattle.rights.specs.PolicyBytes.{stepOf}
-use Rattle.rights.specs.Roles.{nameAmong}
+use Rattle.rights.specs.How.Roles.{nameAmong}
 use Rattle.rights.specs.Rights.{stepFor}
 use Rattle.rights.specs.Table.{recAt}
-use Rattle.rights.specs.Vocabulary.{numberIn}
+use Rattle.rights.specs.How.Vocabulary.{numberIn}
 use Rattle.rights.proofs.Texts.{text-first}
 use Rattle.rights.proofs.PackedLaws.{packed-every, packed-noted, step-deep, step-every, step-own, step-label}
 use Rattle.rights.proofs.groups.with_step.Statement.{statement}

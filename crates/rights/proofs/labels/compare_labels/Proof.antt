@@ -4,7 +4,7 @@ use mathlib.Core.Path.{_≡_, sym, _∙_}
 use native.Mathlib.Omega.{arith}
 use borrow.Author.Needs.{needs}
 use lib.ListN.{take, drop}
-use Rattle.rights.specs.Vocabulary.{labelOrder}
+use Rattle.rights.specs.How.Vocabulary.{labelOrder}
 use Rattle.rights.proofs.LabelLaws.{rest, rest-none, rest-stop, rest-next, longer, shorter, level-with}
 use Rattle.rights.proofs.labels.compare_labels.Statement.{statement}
 use Rattle.rights.proofs.labels.compare_labels.Tie as tie

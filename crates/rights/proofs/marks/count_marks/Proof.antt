@@ -1,5 +1,6 @@
+-- k is how many of the first i nodes are marked.
 use Prim.Native.Nat.{_≤_, _-_}
-use mathlib.Core.Path.{_≡_, refl, _∙_}
+use mathlib.Core.Path.{_≡_, _∙_}
 use mathlib.Core.Logic.{⊎-elim}
 use Rattle.rights.proofs.MarkLaws.{marked-more, marked-same}
 use native.Mathlib.Omega.{arith}

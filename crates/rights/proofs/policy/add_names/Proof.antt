@@ -6,7 +6,7 @@ use native.Mathlib.Omega.{arith}
 use Rattle.rights.specs.Labels.{sameLabel}
 use Rattle.rights.specs.Policy.{some}
 use Rattle.rights.specs.PolicyBytes.{subjectCount, namesFrom}
-use Rattle.rights.specs.Vocabulary.{Added}
+use Rattle.rights.specs.How.Vocabulary.{Added}
 use Rattle.rights.proofs.PolicyWords.{names-last}
 use Rattle.rights.proofs.VocabularyLaws.{added-none, added-then}
 use Rattle.rights.proofs.policy.add_names.Statement.{statement}

@@ -8,7 +8,7 @@ use native.Mathlib.Omega.{arith}
 use borrow.Author.Needs.{needs}
 use borrow.Author.Tests.{ne-eqb, eq-eqb}
 use lib.Dec.{eqb}
-use lib.ListN.{length, take, drop, getD}
+use lib.ListN.{length, take, drop}
 use Rattle.rights.specs.Bytes.{all, isZero, orAll}
 use Rattle.rights.specs.Labels.{sameLabel, restricted}
 use Rattle.rights.proofs.LabelLaws.{labelCount, count-step, count-end, count-label}

@@ -1,9 +1,10 @@
+-- The words hold the names of the first i subjects; each adds one word at most.
 use Prim.Native.Nat.{_+_, _-_, _≤_}
 use mathlib.Core.Path.{sym, _∙_}
 use native.Mathlib.Omega.{arith}
 use lib.ListN.{length, take}
-use Rattle.rights.specs.Roles.{nameAmong}
-use Rattle.rights.specs.Vocabulary.{Added}
+use Rattle.rights.specs.How.Roles.{nameAmong}
+use Rattle.rights.specs.How.Vocabulary.{Added}
 use Rattle.rights.proofs.OwnNames.{names-more, names-all, names-none}
 use Rattle.rights.proofs.VocabularyLaws.{added-none, added-then, added-alike}
 use Rattle.rights.proofs.vocabulary.add_own.Statement.{statement}

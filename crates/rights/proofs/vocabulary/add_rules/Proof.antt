@@ -6,7 +6,7 @@ use mathlib.Core.List.{List}
 use native.Mathlib.Omega.{arith}
 use Rattle.rights.specs.Policy.{Rule, some, uses}
 use Rattle.rights.specs.PolicyBytes.{ruleCount, rulesFrom}
-use Rattle.rights.specs.Vocabulary.{Added}
+use Rattle.rights.specs.How.Vocabulary.{Added}
 use Rattle.rights.proofs.PolicyWords.{rules-last}
 use Rattle.rights.proofs.VocabularyLaws.{added-none, added-then}
 use Rattle.rights.proofs.vocabulary.add_rules.Statement.{statement}

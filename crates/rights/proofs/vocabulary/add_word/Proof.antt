@@ -2,7 +2,7 @@ use mathlib.Core.Path.{subst}
 use native.Mathlib.Omega.{arith}
 use borrow.Author.Needs.{needs}
 use Rattle.rights.specs.Table.{recAt, label}
-use Rattle.rights.specs.Vocabulary.{wordAt, Stands}
+use Rattle.rights.specs.How.Vocabulary.{wordAt, Stands}
 use Rattle.rights.proofs.LabelLaws.{order-same}
 use Rattle.rights.proofs.VocabularyLaws.{added-old, added-new}
 use Rattle.rights.proofs.vocabulary.add_word.Statement.{statement}

@@ -5,7 +5,7 @@ use borrow.Author.Needs.{needs}
 use lib.ListN.{getD}
 use Rattle.rights.specs.PolicyBytes.{Text}
 use Rattle.rights.specs.Table.{recAt, label}
-use Rattle.rights.specs.Vocabulary.{labelOrder}
+use Rattle.rights.specs.How.Vocabulary.{labelOrder}
 use Rattle.rights.proofs.Texts.{text-eq}
 use Rattle.rights.proofs.vocabulary.compare_word.Statement.{statement}
 use Rattle.rights.proofs.vocabulary.compare_word.Tie as tie

@@ -4,7 +4,7 @@ use mathlib.Core.Path.{_≡_, refl, _∙_}
 use native.Mathlib.Omega.{arith}
 use lib.ListN.{length, drop, length-set}
 use Rattle.rights.specs.Table.{recordAt, label}
-use Rattle.rights.specs.Vocabulary.{numberIn}
+use Rattle.rights.specs.How.Vocabulary.{numberIn}
 use Rattle.rights.proofs.Chains.{record-text}
 use Rattle.rights.proofs.Eaches.{Done, done-more, drop-more}
 use Rattle.rights.proofs.vocabulary.number_nodes.Statement.{statement}

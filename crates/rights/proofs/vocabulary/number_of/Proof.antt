@@ -3,7 +3,7 @@ use mathlib.Core.Path.{_∙_, subst, sym}
 use native.Mathlib.Numerals.{add-one}
 use native.Mathlib.Omega.{arith}
 use borrow.Author.Needs.{needs}
-use Rattle.rights.specs.Vocabulary.{Stands, wordAt}
+use Rattle.rights.specs.How.Vocabulary.{Stands, wordAt}
 use Rattle.rights.specs.Table.{recAt, label}
 use Rattle.rights.proofs.VocabularyLaws.{number-found, number-missing}
 use Rattle.rights.proofs.vocabulary.number_of.Statement.{statement}

@@ -3,7 +3,7 @@ use Prim.Native.Nat.{ℕ, _+_, _-_, _/_, _≤_, _<_}
 use mathlib.Core.Path.{_≡_, sym, _∙_}
 use native.Mathlib.Omega.{arith}
 use Rattle.rights.specs.Table.{recAt, label}
-use Rattle.rights.specs.Vocabulary.{labelOrder, wordAt}
+use Rattle.rights.specs.How.Vocabulary.{labelOrder, wordAt}
 use Rattle.rights.proofs.VocabularyLaws.{low-raised, high-lowered, order-most, halved}
 use Rattle.rights.proofs.vocabulary.search.Statement.{statement}
 use Rattle.rights.proofs.vocabulary.search.Tie as tie

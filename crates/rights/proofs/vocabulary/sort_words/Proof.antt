@@ -1,8 +1,8 @@
 use mathlib.Core.Bool.{Bool, _||_}
 use mathlib.Core.Path.{sym, _∙_, ap}
 use native.Mathlib.Omega.{arith}
-use Rattle.rights.specs.Roles.{nameAmong}
-use Rattle.rights.specs.Vocabulary.{named}
+use Rattle.rights.specs.How.Roles.{nameAmong}
+use Rattle.rights.specs.How.Vocabulary.{named}
 use Rattle.rights.proofs.VocabularyLaws.{words-none, none-word}
 use Rattle.rights.proofs.vocabulary.sort_words.Statement.{statement}
 use Rattle.rights.proofs.vocabulary.sort_words.Tie as tie

@@ -1,4 +1,3 @@
-use mathlib.Core.Path.{_≡_, refl, sym, ap, _∙_}
 use borrow.Author.Needs.{needs}
 use Rattle.views.proofs.done.is_done.Statement.{statement}
 use Rattle.views.proofs.done.is_done.Tie as tie

@@ -1,4 +1,4 @@
-use mathlib.Core.Path.{_≡_, refl, sym, ap, _∙_}
+use mathlib.Core.Path.{refl}
 use borrow.Author.Needs.{needs}
 use Rattle.views.proofs.done.is_inner.Statement.{statement}
 use Rattle.views.proofs.done.is_inner.Tie as tie

@@ -1,6 +1,6 @@
 use lib.ListN.{List·getD-eq-default}
 use mathlib.Core.Bool.{and-false}
-use mathlib.Core.Path.{_≡_, refl, sym, ap, _∙_}
+use mathlib.Core.Path.{refl}
 use borrow.Author.Needs.{needs}
 use Rattle.views.proofs.done.mark_at.Statement.{statement}
 use Rattle.views.proofs.done.mark_at.Tie as tie

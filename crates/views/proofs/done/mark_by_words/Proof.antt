@@ -1,6 +1,7 @@
+-- The first i records are decided. The slots of a level say of the node above the next node of that level whether it is selected and whether the user has insert on it; the depth is that of the shown chain.
 use Rattle.rights.specs.Marks.{bit}
 use Prim.Native.Nat.{_-_}
-use mathlib.Core.Path.{_≡_, refl, sym, ap, _∙_}
+use mathlib.Core.Path.{_≡_, ap, _∙_}
 use native.Mathlib.Omega.{arith}
 use borrow.Author.Needs.{needs}
 use Rattle.rights.specs.Policy.{policyWord}

@@ -1,3 +1,4 @@
+-- The first i records have their marks; shown node j is the next whose record is still to come.
 use borrow.Author.Needs.{needs}
 use Rattle.views.proofs.MarkLaws.{left, left-step, left-end}
 use Rattle.views.proofs.Fill.{push-take, push-drop, put-next, filled}
@@ -8,7 +9,7 @@ use native.Mathlib.Nat.{sub-zero}
 use mathlib.Core.List.{_++_, map}
 use Prim.Native.Nat.{_≤_, _-_}
 use native.Mathlib.Omega.{arith}
-use mathlib.Core.Path.{_≡_, refl, sym, ap, _∙_}
+use mathlib.Core.Path.{_≡_, refl, sym, _∙_}
 use Rattle.views.proofs.done.mark_records.Statement.{statement}
 use Rattle.views.proofs.done.mark_records.Tie as tie
 

@@ -1,4 +1,4 @@
-use mathlib.Core.Path.{_≡_, refl, sym, ap, _∙_}
+use mathlib.Core.Path.{refl}
 use borrow.Author.Needs.{needs}
 use Rattle.views.proofs.done.next_of.Statement.{statement}
 use Rattle.views.proofs.done.next_of.Tie as tie

@@ -1,11 +1,12 @@
+-- The slots deeper than the level, up to l, hold v, and every other slot is as it was.
 use borrow.Author.Needs.{needs}
 use Rattle.views.proofs.MarkLaws.{slots-start, slots-more, slots-end}
 use lib.ListN.{length, getD, length-set}
 use lib.Dec.{ltb, leb}
 use mathlib.Core.Bool.{cond, _&&_}
-use Prim.Native.Nat.{ℕ, _+_, _-_, _≤_, _<_}
+use Prim.Native.Nat.{ℕ, _-_, _≤_, _<_}
 use native.Mathlib.Omega.{arith}
-use mathlib.Core.Path.{_≡_, refl, sym, ap, _∙_}
+use mathlib.Core.Path.{_≡_}
 use Rattle.views.proofs.done.pass_down.Statement.{statement}
 use Rattle.views.proofs.done.pass_down.Tie as tie
 

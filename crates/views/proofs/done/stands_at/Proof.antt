@@ -1,5 +1,5 @@
 use borrow.Author.Tests.{le-ltb, lt-ltb}
-use mathlib.Core.Path.{_≡_, refl, sym, ap, _∙_}
+use mathlib.Core.Path.{refl}
 use borrow.Author.Needs.{needs}
 use Rattle.views.proofs.done.stands_at.Statement.{statement}
 use Rattle.views.proofs.done.stands_at.Tie as tie

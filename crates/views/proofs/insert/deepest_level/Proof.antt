@@ -1,3 +1,4 @@
+-- `deep` is the deepest level of the records from m - j on.
 use Prim.Native.Nat.{_≤_, _-_, _*_, _<_}
 use mathlib.Core.Path.{_≡_, refl, _∙_}
 use lib.ListN.{drop}

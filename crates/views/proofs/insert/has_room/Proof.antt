@@ -15,24 +15,21 @@ capacity-of-requires c κs =
 
 mul-result : tie.Need-mul-result
 mul-result c =
-    let at-capacity-of = c .before in let at-count-of = at-capacity-of .before in let at-before = at-count-of .before .before in
-    let s = at-before .before in
+    let at-capacity-of = c .before in let at-count-of = at-capacity-of .before in let s = at-count-of .before .before .before in
     let a = s .args in
     let k = c .count-marks in
     record { fits = product-fits (at-count-of .count-of .result) (at-capacity-of .capacity-of .result) (k .result) (a .m) (a .t .now) (a .marks .now) (s .pre .0) (at-count-of .count-of .ensures) (at-capacity-of .capacity-of .ensures) (k .ensures .0) (k .ensures .1) (s .pre .2) }
 
 sub-result : tie.Need-sub-result
 sub-result c =
-    let at-capacity-of = c .before in let at-count-of = at-capacity-of .before in let at-before = at-count-of .before .before in
-    let s = at-before .before in
+    let at-capacity-of = c .before in let at-count-of = at-capacity-of .before in let s = at-count-of .before .before .before in
     let a = s .args in
     let k = c .count-marks in
     held-fits (at-count-of .count-of .result) (at-capacity-of .capacity-of .result) (k .result) (a .m) (a .t .now) (a .marks .now) (s .pre .0) (at-count-of .count-of .ensures) (at-capacity-of .capacity-of .ensures) (k .ensures .0) (k .ensures .1) (s .pre .2)
 
 returns : tie.Need-returns
 returns c =
-    let at-capacity-of = c .before in let at-count-of = at-capacity-of .before in let at-before = at-count-of .before .before in
-    let s = at-before .before in
+    let at-capacity-of = c .before in let at-count-of = at-capacity-of .before in let s = at-count-of .before .before .before in
     let a = s .args in
     let k = c .count-marks in
     room-is (at-count-of .count-of .result) (at-capacity-of .capacity-of .result) (k .result) (a .m) (a .t .now) (a .marks .now) (s .pre .0) (at-count-of .count-of .ensures) (at-capacity-of .capacity-of .ensures) (k .ensures .0) (k .ensures .1) (s .pre .2)

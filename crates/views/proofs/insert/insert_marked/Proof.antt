@@ -16,8 +16,7 @@ count-marks-requires c κs = search needs
 
 mul-gap : tie.Need-mul-gap
 mul-gap c =
-    let at-count-of = c .before in let at-before = at-count-of .before .before .before .before in
-    let s = at-before .before in
+    let at-count-of = c .before in let s = at-count-of .before .before .before .before .before in
     let a = s .args in
     let n = at-count-of .count-of in
     let k = c .count-marks in
@@ -25,8 +24,7 @@ mul-gap c =
 
 fill-requires : tie.Need-fill-requires
 fill-requires c κs =
-    let at-count-marks = c .before in let at-count-of = at-count-marks .before in let at-before = at-count-of .before .before .before .before in
-    let s = at-before .before in
+    let at-count-marks = c .before in let at-count-of = at-count-marks .before in let s = at-count-of .before .before .before .before .before in
     let a = s .args in
     let n = at-count-of .count-of in
     let k = at-count-marks .count-marks in

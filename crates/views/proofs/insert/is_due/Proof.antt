@@ -4,7 +4,7 @@ use native.Mathlib.Omega.{arith}
 use borrow.Author.Needs.{needs}
 use Rattle.views.proofs.insert.is_due.Statement.{statement}
 use Rattle.views.proofs.insert.is_due.Tie as tie
-use Rattle.views.specs.Pass.{stack}
+use Rattle.views.specs.How.Pass.{stack}
 
 sub-result : tie.Need-sub-result
 sub-result c = search needs

@@ -1,3 +1,4 @@
+-- The first j records of the tree stand at their places, k levels deeper; the bytes around them are as they were.
 use Prim.Native.Nat.{_≤_, _-_, _+_, _*_}
 use mathlib.Core.Path.{_≡_, refl, _∙_}
 use mathlib.Core.List.{_++_}
@@ -27,8 +28,7 @@ loop-holds c =
 
 put-raised-requires : tie.Need-put-raised-requires Inv-loop μ-loop
 put-raised-requires c κs =
-    let at-loop = c .before .before in let at-before = at-loop .before .before in
-    let s = at-before .before in
+    let at-loop = c .before .before in let s = at-loop .before .before .before in
     (search needs, search needs, s .pre .2 (at-loop .loop .j) (omega arith))
 
 loop-again : tie.Need-loop-again Inv-loop μ-loop

@@ -1,3 +1,4 @@
+-- At no marked record before i the tree would be too deep, so those from i on decide.
 use Prim.Native.Nat.{_≤_, _-_, _+_, _*_}
 use mathlib.Core.Path.{_≡_, sym, _∙_}
 use lib.ListN.{drop}

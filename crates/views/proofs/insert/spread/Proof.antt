@@ -1,3 +1,4 @@
+-- What is written, what waits and what is still to be taken make the whole insertion: each turn flushes a tree that is due or takes a record.
 use Prim.Native.Nat.{_-_, _+_}
 use mathlib.Core.Path.{_≡_, refl, ap, _∙_}
 use lib.ListN.{length}
@@ -7,7 +8,7 @@ use native.Mathlib.Omega.{arith}
 use borrow.Author.Needs.{needs}
 use Rattle.views.proofs.insert.spread.Statement.{statement}
 use Rattle.views.proofs.insert.spread.Tie as tie
-use Rattle.views.specs.Pass.{behind, rest, passing, Between}
+use Rattle.views.specs.How.Pass.{behind, rest, passing, Between}
 
 abbrev Inv-loop : tie.InvT-loop
 Inv-loop t₀ marks tree m up n gap st₀ i₀ w₀ d₀ t st i w d =
@@ -34,8 +35,7 @@ add-loop c =
 
 turn-requires : tie.Need-turn-requires Inv-loop μ-loop
 turn-requires c κs =
-    let at-loop = c .before .before .before in let at-before = at-loop .before .before .before in
-    let s = at-before .before in
+    let at-loop = c .before .before .before in let s = at-loop .before .before .before .before in
     let a = s .args in
     let l = at-loop .loop in (
       (fixed-same (a .n) (a .gap) (a .m) (a .t .now) (l .t) (a .marks .now) (a .tree .now) (l .inv .1) (s .pre .0 .0), s .pre .0 .1),
@@ -51,8 +51,7 @@ loop-again c =
 
 returns : tie.Need-returns Inv-loop μ-loop
 returns c =
-    let at-loop = c .before in let at-before = at-loop .before .before .before in
-    let s = at-before .before in
+    let at-loop = c .before in let s = at-loop .before .before .before .before in
     let a = s .args in
     let l = at-loop .loop in
     ends (a .n) (a .gap) (a .up) (a .m) (a .tree .now) (a .marks .now) (l .t) (l .st) (l .i) (l .w) (l .d) _ (l .inv .0 .place) (omega arith) (l .inv .2) (s .pre .1 .2)

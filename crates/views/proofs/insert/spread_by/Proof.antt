@@ -9,26 +9,23 @@ use Rattle.views.proofs.insert.spread_by.Statement.{statement}
 use Rattle.views.proofs.insert.spread_by.Tie as tie
 use Rattle.views.specs.Change.{placed, lower}
 use Rattle.rights.specs.Marks.{marksOf}
-use Rattle.views.specs.Pass.{rest, AtDone, Shallow}
+use Rattle.views.specs.How.Pass.{rest, AtDone, Shallow}
 
 spread-requires : tie.Need-spread-requires
 spread-requires c κs =
-    let at-enum-told = c .before in let at-before = at-enum-told .before .before .before .before in
-    let s = at-before .before in
+    let at-enum-told = c .before in let s = at-enum-told .before .before .before .before .before in
     let a = s .args in
     ((s .pre .0, omega arith), (s .pre .1 .0, subst (λ (z : Place). AtDone (λ r. Shallow (lower z) (a .m) (a .tree .now) (level r)) (marksOf (a .marks .now)) (rest (a .n) (a .gap) 0 (a .t .now))) (at-enum-told .enum-told .given .1) (s .pre .1 .1), ap length (is-append (a .m) (a .tree .now) (a .marks .now) (rest (a .n) (a .gap) 0 (a .t .now))) ∙ ap (λ (z : Place). length (placed z (a .m) (a .tree .now) (a .marks .now) (rest (a .n) (a .gap) 0 (a .t .now)))) (sym (at-enum-told .enum-told .given .1)) ∙ s .pre .1 .2))
 
 spread-requires-2 : tie.Need-spread-requires-2
 spread-requires-2 c κs =
-    let at-enum-told2 = c .before in let at-before = at-enum-told2 .before .before .before .before in
-    let s = at-before .before in
+    let at-enum-told2 = c .before in let s = at-enum-told2 .before .before .before .before .before in
     let a = s .args in
     ((s .pre .0, omega arith), (s .pre .1 .0, subst (λ (z : Place). AtDone (λ r. Shallow (lower z) (a .m) (a .tree .now) (level r)) (marksOf (a .marks .now)) (rest (a .n) (a .gap) 0 (a .t .now))) (at-enum-told2 .enum-told2 .given .1) (s .pre .1 .1), ap length (is-after (a .m) (a .tree .now) (a .marks .now) (rest (a .n) (a .gap) 0 (a .t .now))) ∙ ap (λ (z : Place). length (placed z (a .m) (a .tree .now) (a .marks .now) (rest (a .n) (a .gap) 0 (a .t .now)))) (sym (at-enum-told2 .enum-told2 .given .1)) ∙ s .pre .1 .2))
 
 spread-front-requires : tie.Need-spread-front-requires
 spread-front-requires c κs =
-    let at-enum-told3 = c .before in let at-before = at-enum-told3 .before .before .before .before in
-    let s = at-before .before in
+    let at-enum-told3 = c .before in let s = at-enum-told3 .before .before .before .before .before in
     let a = s .args in
     (s .pre .0, (subst (λ (z : Place). AtDone (λ r. Shallow (lower z) (a .m) (a .tree .now) (level r)) (marksOf (a .marks .now)) (rest (a .n) (a .gap) 0 (a .t .now))) (at-enum-told3 .enum-told3 .given .1) (s .pre .1 .1), ap (λ (z : Place). length (placed z (a .m) (a .tree .now) (a .marks .now) (rest (a .n) (a .gap) 0 (a .t .now)))) (sym (at-enum-told3 .enum-told3 .given .1)) ∙ s .pre .1 .2))
 

@@ -1,3 +1,4 @@
+-- What is written and what is still to be taken make the whole insertion: each turn puts a tree, if its place is marked, and takes a record.
 use Prim.Native.Nat.{_≤_, _-_}
 use mathlib.Core.Path.{_≡_, refl, ap, _∙_}
 use lib.ListN.{length, drop}
@@ -8,7 +9,7 @@ use borrow.Author.Needs.{needs}
 use Rattle.views.proofs.insert.spread_front.Statement.{statement}
 use Rattle.views.proofs.insert.spread_front.Tie as tie
 use Rattle.rights.specs.Table.{level}
-use Rattle.views.specs.Pass.{AtDone, Shallow, inFront, rest, passingFront}
+use Rattle.views.specs.How.Pass.{AtDone, Shallow, inFront, rest, passingFront}
 
 abbrev Inv-loop : tie.InvT-loop
 Inv-loop t₀ marks tree m n gap i₀ w₀ t i w =
@@ -26,8 +27,7 @@ loop-holds c =
 
 step-front-requires : tie.Need-step-front-requires Inv-loop μ-loop
 step-front-requires c κs =
-    let at-loop = c .before .before in let at-before = at-loop .before .before .before in
-    let s = at-before .before in
+    let at-loop = c .before .before in let s = at-loop .before .before .before .before in
     let a = s .args in
     let l = at-loop .loop in (
       fixed-same (a .n) (a .gap) (a .m) (a .t .now) (l .t) (a .marks .now) (a .tree .now) (l .inv .2) (s .pre .0),
@@ -43,8 +43,7 @@ loop-again c =
 
 returns : tie.Need-returns Inv-loop μ-loop
 returns c =
-    let at-loop = c .before in let at-before = at-loop .before .before .before in
-    let s = at-before .before in
+    let at-loop = c .before in let s = at-loop .before .before .before .before in
     let a = s .args in
     let l = at-loop .loop in
     ends-front (a .n) (a .gap) (a .m) (a .tree .now) (a .marks .now) (l .t) (l .i) (l .w) _ (omega arith) (l .inv .3) (s .pre .1 .1)

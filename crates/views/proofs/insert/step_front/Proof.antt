@@ -13,8 +13,7 @@ tree-in-front-requires c κs =
 returns : tie.Need-returns
 returns c =
     let at-move-record = c .before .before in let at-tree-in-front = at-move-record .before .before .before .before in
-    let at-before = at-tree-in-front .before .before .before .before .before in
-    let s = at-before .before in
+    let s = at-tree-in-front .before .before .before .before .before .before in
     let a = s .args in
     let f = at-tree-in-front .tree-in-front in
     let g = at-move-record .move-record in (

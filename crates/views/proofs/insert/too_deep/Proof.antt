@@ -13,8 +13,7 @@ count-of-requires c κs =
 
 some-too-deep-requires : tie.Need-some-too-deep-requires
 some-too-deep-requires c κs =
-    let at-levels-down = c .before in let at-count-of = at-levels-down .before in let at-before = at-count-of .before .before .before in
-    let s = at-before .before in
+    let at-levels-down = c .before in let at-count-of = at-levels-down .before in let s = at-count-of .before .before .before .before in
     let f = facts (s .args .t .now) (s .pre .0) in
     let n = at-count-of .count-of .ensures in
     (omega (arith, n, f .size), omega (arith, n, s .pre .1), omega (arith, at-levels-down .levels-down .ensures .1, c .deepest-level .ensures .1))

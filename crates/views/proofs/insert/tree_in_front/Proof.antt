@@ -13,8 +13,7 @@ shared-slice-read-if1 c = search needs
 
 put-tree-requires : tie.Need-put-tree-requires
 put-tree-requires c κs =
-    let at-if1 = c .before in let at-before = at-if1 .before .before .before .before in
-    let s = at-before .before in
+    let at-if1 = c .before in let s = at-if1 .before .before .before .before .before in
     let r = s .pre .1 .0 (at-if1 .if1 .taken) in
     (omega (arith, r), search needs, λ j h. omega (arith, s .pre .1 .1 (at-if1 .if1 .taken) j h))
 
@@ -26,8 +25,7 @@ same-length c = search needs
 
 returns : tie.Need-returns
 returns c =
-    let at-put-tree = c .before .before in let at-if1 = at-put-tree .before .before in let at-before = at-if1 .before .before .before .before in
-    let s = at-before .before in
+    let at-put-tree = c .before .before in let at-if1 = at-put-tree .before .before in let s = at-if1 .before .before .before .before .before in
     let a = s .args in
     let f = at-put-tree .put-tree in
     let z = at-if1 .if1 .taken in

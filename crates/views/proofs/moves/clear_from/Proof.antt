@@ -1,4 +1,5 @@
-use Prim.Native.Nat.{_≤_, _-_, _+_}
+-- The bytes from `from` up to i are zero, and the rest is as it was.
+use Prim.Native.Nat.{_≤_, _-_}
 use mathlib.Core.Path.{_≡_, refl}
 use mathlib.Core.List.{_++_}
 use lib.ListN.{length, take, replicate, length-set}

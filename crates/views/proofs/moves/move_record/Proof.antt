@@ -1,3 +1,4 @@
+-- The first j bytes of the record are moved; those behind it are as they were.
 use Prim.Native.Nat.{_≤_, _-_, _+_}
 use mathlib.Core.Path.{_≡_, refl}
 use mathlib.Core.List.{_++_}

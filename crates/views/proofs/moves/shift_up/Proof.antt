@@ -1,3 +1,4 @@
+-- The bytes from j to the end have moved up; those before j stand where they stood. Going down, no byte is overwritten before it is read.
 use Prim.Native.Nat.{_≤_, _-_}
 use mathlib.Core.Path.{_≡_, refl}
 use lib.ListN.{length, length-set}
@@ -6,7 +7,7 @@ use borrow.Author.Needs.{needs}
 use native.Mathlib.Omega.{arith}
 use Rattle.views.proofs.moves.shift_up.Statement.{statement}
 use Rattle.views.proofs.moves.shift_up.Tie as tie
-use Rattle.views.specs.Pass.{shifted}
+use Rattle.views.specs.How.Pass.{shifted}
 
 abbrev Inv-loop : tie.InvT-loop
 Inv-loop t₀ from end by j₀ t j = (from ≤ j) × (j ≤ end) × (length t ≡ length t₀) × (t ≡ shifted t₀ j end by)

@@ -1,3 +1,4 @@
+-- The records kept so far and what stays of those from i on make the whole removal; those deeper than `cut` at the front still go.
 use Prim.Native.Nat.{_≤_, _-_, _+_, _*_}
 use Rattle.rights.specs.Table.{level}
 use mathlib.Core.Path.{_≡_, refl, sym, _∙_}
@@ -8,7 +9,7 @@ use native.Mathlib.Omega.{arith}
 use Rattle.views.proofs.remove.compact.Statement.{statement}
 use Rattle.views.proofs.remove.compact.Tie as tie
 use Rattle.views.specs.Change.{removed, chunks}
-use Rattle.views.specs.Pass.{going, Under}
+use Rattle.views.specs.How.Pass.{going, Under}
 
 abbrev Inv-loop : tie.InvT-loop
 Inv-loop t₀ marks n i₀ w₀ cut₀ t i w cut =

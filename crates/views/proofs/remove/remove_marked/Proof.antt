@@ -15,8 +15,7 @@ count-of-requires c κs =
 
 compact-requires : tie.Need-compact-requires
 compact-requires c κs =
-    let at-count-of = c .before in let at-before = at-count-of .before .before .before in
-    let s = at-before .before in
+    let at-count-of = c .before in let s = at-count-of .before .before .before .before in
     let f = facts (s .args .t .now) (s .pre .0) in
     let e = at-count-of .count-of .ensures in
     (omega (arith, e, f .size), omega (arith, e, s .pre .1), rw e (f .low))
@@ -24,28 +23,24 @@ compact-requires c κs =
 mul-clear-from : tie.Need-mul-clear-from
 mul-clear-from c =
     let at-compact = c .before .before .before in let at-count-of = at-compact .before .before in
-    let at-before = at-count-of .before .before .before in
-    let s = at-before .before in
+    let s = at-count-of .before .before .before .before in
     record { fits = omega (arith, at-compact .compact .ensures .0, at-count-of .count-of .ensures, facts (s .args .t .now) (s .pre .0) .few) }
 
 add-clear-from : tie.Need-add-clear-from
 add-clear-from c =
     let at-compact = c .before .before .before in let at-count-of = at-compact .before .before in
-    let at-before = at-count-of .before .before .before in
-    let s = at-before .before in
+    let s = at-count-of .before .before .before .before in
     record { fits = omega (arith, at-compact .compact .ensures .0, at-count-of .count-of .ensures, facts (s .args .t .now) (s .pre .0) .few) }
 
 clear-from-requires : tie.Need-clear-from-requires
 clear-from-requires c κs =
     let at-compact = c .before .before .before in let at-count-of = at-compact .before .before in
-    let at-before = at-count-of .before .before .before in
-    let s = at-before .before in
+    let s = at-count-of .before .before .before .before in
     omega (arith, at-compact .compact .ensures .0, at-count-of .count-of .ensures, facts (s .args .t .now) (s .pre .0) .size)
 
 put-count-requires : tie.Need-put-count-requires
 put-count-requires c κs =
-    let at-before = c .before .before .before .before .before .before in
-    let k = at-before .before in
+    let k = c .before .before .before .before .before .before .before in
     let s = k .before .before .before .before .before .before in
     let f = facts (s .args .t .now) (s .pre .0) in
     (omega (arith, f .head), omega (arith, k .compact .ensures .0, k .before .before .count-of .ensures, f .few))
@@ -53,8 +48,7 @@ put-count-requires c κs =
 returns : tie.Need-returns
 returns c =
     let at-put-count = c .before .before in let at-clear-from = at-put-count .before .before .before .before in
-    let at-before = at-clear-from .before .before .before in
-    let k = at-before .before in
+    let k = at-clear-from .before .before .before .before in
     let a = k .before .before .before .before .before .before .args in
     let clear = at-clear-from .clear-from in
     let put = at-put-count .put-count in

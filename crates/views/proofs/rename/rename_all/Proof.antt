@@ -1,3 +1,4 @@
+-- The first i records have their labels, and the rest is as it was.
 use Prim.Native.Nat.{_≤_, _-_, _+_, _*_}
 use mathlib.Core.Path.{_≡_, refl, sym, _∙_}
 use lib.ListN.{length, take, drop}

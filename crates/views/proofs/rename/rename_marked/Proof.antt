@@ -18,8 +18,7 @@ count-of-requires c κs =
 
 rename-all-requires : tie.Need-rename-all-requires
 rename-all-requires c κs =
-    let at-count-of = c .before in let at-before = at-count-of .before .before .before .before in
-    let s = at-before .before in
+    let at-count-of = c .before in let s = at-count-of .before .before .before .before .before in
     let f = facts (s .args .t .now) (s .pre .0 .0) in
     let e = at-count-of .count-of .ensures in
     (omega (arith, e, f .size), omega (arith, e, s .pre .0 .1), s .pre .1 .0, s .pre .1 .1, s .pre .1 .2)
@@ -30,15 +29,15 @@ same-length c = search needs
 returns : tie.Need-returns
 returns c =
     let at-rename-all = c .before .before in let at-count-of = at-rename-all .before .before in
-    let at-before = at-count-of .before .before .before .before in
-    let s = at-before .before in
+    let at-slice-known = at-count-of .before .before .before .before in
+    let s = at-slice-known .before in
     let a = s .args in
     let n = at-count-of .count-of .ensures in
     let f = at-rename-all .rename-all in
     let lab = take (a .to - a .from) (drop (a .from) (a .s .now)) in
     let g = rw n at (f .ensures .0) in
     let b = rw n at (f .ensures .2) in
-    renamed-table (a .t .now) (f .last .0) (renamed lab (a .marks .now) (records (a .t .now))) (s .pre .0 .0) (λ i. omega (arith, at-before .slice-known .given i)) (search needs)
+    renamed-table (a .t .now) (f .last .0) (renamed lab (a .marks .now) (records (a .t .now))) (s .pre .0 .0) (λ i. omega (arith, at-slice-known .slice-known .given i)) (search needs)
     (length-renamed lab (a .marks .now) (records (a .t .now)) ∙ rw (all-chunks (a .t .now)) (length-chunks _ _))
     (g ∙ ap (renamed lab (a .marks .now)) (sym (all-chunks (a .t .now)))) (f .ensures .1) b
 

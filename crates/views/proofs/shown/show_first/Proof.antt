@@ -1,10 +1,8 @@
 use borrow.Author.Needs.{needs}
 use Rattle.views.proofs.StoredNodes.{Showing, showing-more, showing-end}
-use lib.ListN.{length, take, drop}
-use mathlib.Core.List.{_++_}
 use native.Mathlib.Omega.{arith}
-use mathlib.Core.Path.{_≡_, refl, sym, ap, _∙_}
-use Prim.Native.Nat.{_≤_, _-_}
+use mathlib.Core.Path.{refl}
+use Prim.Native.Nat.{_-_}
 use Rattle.views.proofs.shown.show_first.Statement.{statement}
 use Rattle.views.proofs.shown.show_first.Tie as tie
 

@@ -12,7 +12,7 @@ use Rattle.rights.specs.Labels.{sameLabel, foldedLabel}
 use Rattle.rights.specs.Table.{recAt, label}
 use Rattle.rights.specs.Policy.{Rule, some, uses, policyWord}
 use Rattle.rights.specs.PolicyBytes.{policyOf, ruleCount, rulesFrom, Text}
-use Rattle.rights.specs.Roles.{nameAmong}
+use Rattle.rights.specs.How.Roles.{nameAmong}
 
 -- Which of two lists stands first, by the first place where they differ: 0 for the first list, 2 for the second, 1 where they are equal.
 unfoldable pub order : List ℕ → List ℕ → ℕ

@@ -1,7 +1,7 @@
 -- The parts of answers, by a node's place, as they are put one after the other.
 use Prim.Native.Nat.{ℕ, _+_}
 use mathlib.Core.Bool.{cond}
-use mathlib.Core.List.{List, [], _∷_, _++_}
+use mathlib.Core.List.{List, [], _++_}
 use lib.Dec.{eqb}
 use lib.ListN.{getD, drop}
 use Rattle.rights.specs.Nodes.{Node, node, levelOf, labelOf}

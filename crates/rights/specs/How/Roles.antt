@@ -1,7 +1,7 @@
 -- How what a subject is, and for whom `$` stands, are worked out from a policy's bytes. proofs/Roles.antt shows that the pass over the subjects finds what `is` says,
 -- proofs/OwnNames.antt that the names of the subjects for which `$` stands are what passes `$`.
 use Prim.Native.Nat.{ℕ, zero, suc, _≤_, _<_}
-use mathlib.Core.Bool.{Bool, cond}
+use mathlib.Core.Bool.{Bool, true, cond}
 use mathlib.Core.Path.{_≡_}
 use mathlib.Core.List.{List}
 use lib.Dec.{eqb}
@@ -9,7 +9,13 @@ use lib.ListN.{length, take, getD, set}
 use Rattle.rights.specs.Labels.{sameLabel}
 use Rattle.rights.specs.Policy.{some}
 use Rattle.rights.specs.Isa.{is, ownSubjects}
-use Rattle.rights.specs.PolicyBytes.{policyOf, isaCount, isaN, isaR, nameAt, Subject}
+use Rattle.rights.specs.PolicyCheck.{policyOk}
+use Rattle.rights.specs.PolicyBytes.{policyOf, subjectCount, isaCount, isaN, isaR, nameAt, Subject}
+
+-- a subject of a policy that passed its check
+pub record Declared (p : List ℕ) (u : ℕ) : Type 0 where
+  pub policy : policyOk p ≡ true
+  pub subject : u < subjectCount p
 
 -- what subject u is: 1 at each subject that it is, and 0 elsewhere
 pub record Roles (p : List ℕ) (u : ℕ) (roles : List ℕ) : Type 0 where

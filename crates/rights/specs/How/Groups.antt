@@ -7,25 +7,26 @@ use mathlib.Core.List.{List, [], _∷_, _++_}
 use lib.Bits.{bitAnd}
 use lib.Dec.{eqb, ltb}
 use lib.ListN.{length, getD, replicate}
+use Rattle.rights.specs.Limits.{recordsMax}
 use Rattle.rights.specs.PolicyBytes.{ruleCount, rightBit, whose, accepts}
-use Rattle.rights.specs.Roles.{Subjects}
+use Rattle.rights.specs.How.Roles.{Subjects}
 use Rattle.rights.specs.Policy.{Right, position, read, insert, update, delete, bitOf}
-use Rattle.rights.specs.Rights.{Step, withRule, tried, finds, holds}
-use Rattle.rights.specs.Automaton.{value, deeps, passedBy, rulePath, Sound}
+use Rattle.rights.specs.Rights.{Step, ruledSet, tried, reaches, holds}
+use Rattle.rights.specs.How.Automaton.{value, deeps, passedBy, rulePath, Sound}
 use Rattle.rights.specs.Table.{recAt, recordAt, recordsFrom, recordsOk, label}
-use Rattle.rights.specs.Vocabulary.{numberIn, Sorted}
+use Rattle.rights.specs.How.Vocabulary.{numberIn, Sorted}
 
 -- bit j of a number
-abbrev pub has : ℕ → ℕ → Bool
-has m j = eqb (m / 2 ^ j % 2) 1
+abbrev pub bitAt : ℕ → ℕ → Bool
+bitAt m j = eqb (m / 2 ^ j % 2) 1
 
 -- bit j is set in the rows of the labels that f passes; nothing else is changed
 pub record Noted (number : List ℕ → ℕ) (rows rows' : List ℕ) (j : ℕ) (f : List ℕ → Bool) : Type 0 where
   pub long : length rows' ≡ length rows
-  pub row : (x : List ℕ) (i : ℕ) → has (getD rows' (number x) 0) i ≡ has (getD rows (number x) 0) i || (f x && eqb i j)
+  pub row : (x : List ℕ) (i : ℕ) → bitAt (getD rows' (number x) 0) i ≡ bitAt (getD rows (number x) 0) i || (f x && eqb i j)
 
 -- a rule: whether it counts, its path, and what it says
-pub record Lane : Type 0 where
+pub record Ruling : Type 0 where
   pub on : Bool
   pub path : List Step
   pub accept : Bool
@@ -35,8 +36,8 @@ abbrev pub counts : List ℕ → List ℕ → ℕ → ℕ → Bool
 counts p roles b k = eqb (rightBit p k) b && not (eqb (getD roles (whose p k) 0) 0)
 
 -- rule k, for a subject with these roles, where `$` stands for the subjects own, and the right with bit b
-abbrev pub laneAt : List ℕ → List ℕ → List ℕ → ℕ → ℕ → Lane
-laneAt p own roles b k = record {
+abbrev pub rulingAt : List ℕ → List ℕ → List ℕ → ℕ → ℕ → Ruling
+rulingAt p own roles b k = record {
   on = counts p roles b k;
   path = rulePath p own k;
   accept = accepts p k;
@@ -47,44 +48,44 @@ abbrev pub never : Step
 never = record { deep = false; passed = λ x. false }
 
 -- what n rules from rule i on take, one after the other
-unfoldable pub cat : {A : Type 0} → (Lane → List A) → (ℕ → Lane) → ℕ → ℕ → List A
+unfoldable pub cat : {A : Type 0} → (Ruling → List A) → (ℕ → Ruling) → ℕ → ℕ → List A
 cat f q i zero = []
 cat f q i (suc n) = cond (q (i + n) .on) (cat f q i n ++ f (q (i + n))) (cat f q i n)
 
 -- their steps, and their first states
-abbrev pub stepsOf : Lane → List Step
+abbrev pub stepsOf : Ruling → List Step
 stepsOf l = l .path ++ (never ∷ [])
 
-abbrev pub firstOf : Lane → List Bool
+abbrev pub firstOf : Ruling → List Bool
 firstOf l = true ∷ replicate (length (l .path)) false
 
-abbrev pub laid : (ℕ → Lane) → ℕ → ℕ → List Step
+abbrev pub laid : (ℕ → Ruling) → ℕ → ℕ → List Step
 laid q i n = cat stepsOf q i n
 
-abbrev pub firsts : (ℕ → Lane) → ℕ → ℕ → List Bool
+abbrev pub firsts : (ℕ → Ruling) → ℕ → ℕ → List Bool
 firsts q i n = cat firstOf q i n
 
 -- the bit of rule i + k that says that its path finds the node
-abbrev pub endAt : (ℕ → Lane) → ℕ → ℕ → ℕ
+abbrev pub endAt : (ℕ → Ruling) → ℕ → ℕ → ℕ
 endAt q i k = length (laid q i k) + length (q (i + k) .path)
 
 -- the states m say of each rule whether its path finds the end of the chain c
-abbrev pub Agrees : (ℕ → Lane) → ℕ → ℕ → List (List ℕ) → ℕ → Type 0
-Agrees q i n c m = (k : ℕ) → k < n → q (i + k) .on ≡ true → has m (endAt q i k) ≡ finds (q (i + k) .path) c
+abbrev pub Agrees : (ℕ → Ruling) → ℕ → ℕ → List (List ℕ) → ℕ → Type 0
+Agrees q i n c m = (k : ℕ) → k < n → q (i + k) .on ≡ true → bitAt m (endAt q i k) ≡ reaches (q (i + k) .path) c
 
 -- the set after n rules from rule i on, on a node with the chain c
-unfoldable pub ruled : (ℕ → Lane) → ℕ → List (List ℕ) → ℕ → ℕ → ℕ → ℕ
+unfoldable pub ruled : (ℕ → Ruling) → ℕ → List (List ℕ) → ℕ → ℕ → ℕ → ℕ
 ruled q b c i zero x = x
 ruled q b c i (suc n) x = cond (q (i + n) .on) (tried (q (i + n) .path) c b (q (i + n) .accept) (ruled q b c i n x)) (ruled q b c i n x)
 
 -- a rule that counts and finds every node
-pub record General (l : Lane) : Type 0 where
+pub record General (l : Ruling) : Type 0 where
   pub on : l .on ≡ true
-  pub all : (c : List (List ℕ)) (x : List ℕ) → finds (l .path) (c ++ (x ∷ [])) ≡ true
+  pub all : (c : List (List ℕ)) (x : List ℕ) → reaches (l .path) (c ++ (x ∷ [])) ≡ true
 
 -- all rules of one right, if it is asked, and of the five rights in turn
 abbrev pub byRight : List ℕ → List ℕ → List ℕ → List (List ℕ) → ℕ → ℕ → ℕ
-byRight p own roles c b x = ruled (laneAt p own roles b) b c 0 (ruleCount p) x
+byRight p own roles c b x = ruled (rulingAt p own roles b) b c 0 (ruleCount p) x
 
 abbrev pub byAsked : List ℕ → List ℕ → List ℕ → List (List ℕ) → ℕ → Right → ℕ → ℕ
 byAsked p own roles c asked w x = cond (holds w asked) (byRight p own roles c (bitOf w) x) x
@@ -95,16 +96,16 @@ byFive p own roles c asked x =
 
 -- the later rule has the higher bit: the higher of the two numbers wins
 abbrev pub settled : ℕ → ℕ → ℕ → ℕ → ℕ
-settled b y n x = cond (ltb n y) (withRule x b true) (cond (ltb y n) (withRule x b false) x)
+settled b y n x = cond (ltb n y) (ruledSet x b true) (cond (ltb y n) (ruledSet x b false) x)
 
 -- The steps ss in numbers: the deep ones, those that all labels pass, and a row for each number of a label, with the steps that such a label passes.
 pub record Packed (number : List ℕ → ℕ) (ss : List Step) (deep every : ℕ) (rows : List ℕ) : Type 0 where
   pub long : length rows ≡ 2113
-  pub deep-bits : (j : ℕ) → has deep j ≡ getD (deeps ss) j false
-  pub row : (x : List ℕ) (j : ℕ) → getD (passedBy ss x) j false ≡ has every j || has (getD rows (number x) 0) j
+  pub deep-bits : (j : ℕ) → bitAt deep j ≡ getD (deeps ss) j false
+  pub row : (x : List ℕ) (j : ℕ) → getD (passedBy ss x) j false ≡ bitAt every j || bitAt (getD rows (number x) 0) j
 
 -- n rules from rule i on in numbers
-pub record Grouped (number : List ℕ → ℕ) (q : ℕ → Lane) (b i n : ℕ) (deep every start yes noes used : ℕ) (rows : List ℕ) : Type 0 where
+pub record Grouped (number : List ℕ → ℕ) (q : ℕ → Ruling) (b i n : ℕ) (deep every start yes noes used : ℕ) (rows : List ℕ) : Type 0 where
   pub packed : Packed number (laid q i n) deep every rows
   pub used-is : used ≡ length (laid q i n)
   pub start-is : start ≡ value (firsts q i n)
@@ -125,7 +126,7 @@ pub record Ready (p own ws : List ℕ) (n : ℕ) : Type 0 where
 
 -- the first n records of the table t with the numbers of their labels
 pub record Numbered (p ws : List ℕ) (count : ℕ) (t : List ℕ) (n : ℕ) (numbers : List ℕ) : Type 0 where
-  pub few : n ≤ 16384
+  pub few : n ≤ recordsMax
   pub room : 4 + n * 32 ≤ length t
   pub records : recordsOk 0 0 (recordsFrom t n 0) ≡ true
   pub long : n ≤ length numbers

@@ -10,9 +10,9 @@ use lib.Dec.{eqb}
 use lib.Pow.{pow-mono, shr-shr}
 use lib.ListN.{length, getD}
 use Rattle.rights.specs.Rights.{Step}
-use Rattle.rights.specs.Automaton.{value, meet, deeps, passedBy, moved, stepsFor}
+use Rattle.rights.specs.How.Automaton.{value, meet, deeps, passedBy, moved, stepsFor}
 use Rattle.rights.specs.Marks.{bit}
-use Rattle.rights.proofs.Masks.{bit-lt, value-lt, value-meet, value-join}
+use Rattle.rights.proofs.Masks.{bit-lt, value-lt, value-meet, value-union}
 
 -- a bit of a mask is an element of the set
 bit-of : (st : List Bool) (j : ℕ) → value st / 2 ^ j % 2 ≡ bit (getD st j false)
@@ -69,4 +69,4 @@ moved-mask ss st x m d p h em ed ep =
     let k : length a ≤ 63 = omega (arith, length-meet-r st (passedBy ss x), length-passedBy ss x) in
     let z : value a * 2 ≡ value (false ∷ a) = omega arith in
     ap₂ (λ (u v : ℕ). bitOr u v) (ap₂ (λ (u v : ℕ). bitAnd u v) em ed ∙ value-meet st (deeps ss)) (ap (λ (u : ℕ). u * 2 ^ 1 % 2 ^ 64) ep ∙ doubled a k ∙ z)
-    ∙ value-join (meet st (deeps ss)) (false ∷ a)
+    ∙ value-union (meet st (deeps ss)) (false ∷ a)

@@ -1,16 +1,16 @@
 -- How the rights are worked out: one automaton a rule, its states as a list of Bools and as a mask of bits (Groups: several rules in one mask). proofs/Chains.antt shows that it finds what
--- `finds` says.
+-- `reaches` says.
 use Prim.Native.Nat.{ℕ, zero, suc, _+_, _*_, _≤_, _<_}
-use mathlib.Core.Bool.{Bool, true, false, cond, _&&_, _||_}
+use mathlib.Core.Bool.{Bool, false, cond, _&&_, _||_}
 use mathlib.Core.Path.{_≡_}
 use mathlib.Core.List.{List, [], _∷_, _++_}
-use lib.Dec.{eqb}
-use lib.ListN.{length, getD, take, drop, set}
+use lib.ListN.{length, getD, take, drop}
+use Rattle.rights.specs.Limits.{policySize}
 use Rattle.rights.specs.Marks.{bit}
 use Rattle.rights.specs.Isa.{is}
 use Rattle.rights.specs.PolicyBytes.{stepOf, policyOf, isaCount, isaN, isaR, subjectCount, subjectAt, ruleCount, stepCount, stepsAt, whose, accepts, rightBit, Text}
-use Rattle.rights.specs.Roles.{nameAmong}
-use Rattle.rights.specs.Rights.{Step, stepFor, finds, tried}
+use Rattle.rights.specs.How.Roles.{nameAmong}
+use Rattle.rights.specs.Rights.{Step, stepFor, reaches, tried}
 use Rattle.rights.specs.Table.{recAt, recordAt, level, label}
 
 -- a set of states as a number, the first state in the lowest bit
@@ -24,10 +24,10 @@ meet [] ys = []
 meet (x ∷ xs) [] = []
 meet (x ∷ xs) (y ∷ ys) = (x && y) ∷ meet xs ys
 
-unfoldable pub join : List Bool → List Bool → List Bool
-join [] ys = ys
-join (x ∷ xs) [] = x ∷ xs
-join (x ∷ xs) (y ∷ ys) = (x || y) ∷ join xs ys
+unfoldable pub union : List Bool → List Bool → List Bool
+union [] ys = ys
+union (x ∷ xs) [] = x ∷ xs
+union (x ∷ xs) (y ∷ ys) = (x || y) ∷ union xs ys
 
 -- the deep steps, and the steps that a label passes
 unfoldable pub deeps : List Step → List Bool
@@ -40,13 +40,13 @@ passedBy (s ∷ ss) x = s .passed x ∷ passedBy ss x
 
 -- the states after a node with the label x
 abbrev pub moved : List Step → List Bool → List ℕ → List Bool
-moved ss st x = join (meet st (deeps ss)) (false ∷ meet st (passedBy ss x))
+moved ss st x = union (meet st (deeps ss)) (false ∷ meet st (passedBy ss x))
 
 -- some state of the set finds the rest of the chain
 unfoldable pub someState : List Step → List Bool → List (List ℕ) → Bool
 someState ss [] xs = false
-someState [] (b ∷ bs) xs = b && finds [] xs
-someState (s ∷ ss) (b ∷ bs) xs = (b && finds (s ∷ ss) xs) || someState ss bs xs
+someState [] (b ∷ bs) xs = b && reaches [] xs
+someState (s ∷ ss) (b ∷ bs) xs = (b && reaches (s ∷ ss) xs) || someState ss bs xs
 
 -- the states after a chain of labels
 unfoldable pub states : List Step → List Bool → List (List ℕ) → List Bool
@@ -95,7 +95,7 @@ pub record Steps (p : List ℕ) (at n : ℕ) : Type 0 where
   pub texts : (j : ℕ) → j < n → Text p (at + j * 32)
 
 pub record Sound (p : List ℕ) : Type 0 where
-  pub size : 68872 ≤ length p
+  pub size : policySize ≤ length p
   pub subjects : subjectCount p ≤ 64
   pub names : (k : ℕ) → k < subjectCount p → Text p (subjectAt k)
   pub lines : isaCount p ≤ 128
