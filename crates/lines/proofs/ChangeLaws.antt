@@ -15,16 +15,16 @@ use Rattle.rights.specs.Table.{count, records, tableOk}
 use Rattle.rights.proofs.Facts.{table-few}
 use Rattle.rights.proofs.Lists.{byCase, rest-of}
 use Rattle.views.specs.Change.{changed, renamed, removed}
-use Rattle.views.specs.Done.{doneMarks, isNext, byNumbers}
+use Rattle.views.specs.Done.{doneMarks, shownByNumbers, byNumbers, DoneBy}
 use Rattle.rights.specs.Marks.{marksOf, markCount, marked}
 use Rattle.views.specs.Shown.{shown, shownNumbers}
 use Rattle.views.specs.declared.done.Change.{Change}
 use Rattle.views.specs.declared.insert.Place.{Place}
-use Rattle.views.proofs.DoneLaws.{numbers-in-table, done-length}
+use Rattle.views.proofs.DoneLaws.{numbers-shown, numbers-in-table, done-length}
 use Rattle.rights.proofs.MarkLaws.{marks-bits}
 use Rattle.answers.specs.Answer.{doneText}
-use Rattle.answers.specs.How.AnswerArea.{Answered, written}
-use Rattle.lines.specs.How.ChangeRoom.{Chosen, Selected, Decided}
+use Rattle.answers.specs.AnswerArea.{Answered, written}
+use Rattle.lines.specs.ChangeRoom.{Chosen, RightsHeld, Decided}
 use Rattle.lines.specs.State.{stage, policyIn, storeOk}
 use Rattle.lines.specs.UserView.{rightsIn, storedIn, marksIn, selectedIn, doneIn}
 use Rattle.lines.specs.Work.{changeAt, countText, insertAt}
@@ -44,84 +44,45 @@ part-is xs more ys n e h =
 answered-as : (a b before after : List ℕ) (need : ℕ) → a ≡ b → Answered a before after need → Answered b before after need
 answered-as a b before after need e r = record { size = r .size ∙ ap length e; area = r .area ∙ ap (λ x. written x before) e }
 
-numbers-length : (xs : List ℕ) (ms : List Bool) (n i : ℕ) → length (byNumbers xs ms n i) ≡ n
-unfolding byNumbers
-numbers-length xs ms zero i = refl
-numbers-length xs ms (suc n) i =
-    byCase (isNext xs i)
-    (λ e. rw e (ap suc (numbers-length (drop 1 xs) (drop 1 ms) n (suc i))))
-    (λ e. rw e (ap suc (numbers-length xs ms n (suc i))))
+-- What is selected and done
+module _ (s t path : List ℕ) (ok : storeOk s t ≡ true) (rights shown marks rights' shown' marks' : List ℕ) (k : ℕ)
+    (r : Chosen s t path shown marks k shown' marks') (held : RightsHeld s t rights rights') where
+  pub selected-count : (n : ℕ) → n ≡ marked k marks' → n ≡ markCount (marksOf (marksIn s t path))
+  selected-count n e =
+      let z : take k marks' ≡ marksIn s t path = ap (take k) (r .picked) ∙ take-at (marksIn s t path) (drop k marks) k (marks-size s t path ok ∙ sym (r .size)) in
+      e ∙ ap (λ l. markCount (marksOf l)) z
 
--- What is selected
-module _ (s t path : List ℕ) (ok : storeOk s t ≡ true) where
-  selected-numbers : byNumbers (shownNumbers (storedIn s t)) (marksOf (marksIn s t path)) (count t) 0 ≡ selectedIn s t path
-  selected-numbers = numbers-in-table t (rightsIn s t) (marksOf (marksIn s t path)) (store-held s t ok .table) (omega (arith, rights-length s t))
-
-  -- a mark for each record
-  pub selected-size : length (map bit (selectedIn s t path)) ≡ count t
-  selected-size =
-      length-map (selectedIn s t path) bit
-      ∙ sym (ap length selected-numbers)
-      ∙ numbers-length (shownNumbers (storedIn s t)) (marksOf (marksIn s t path)) (count t) 0
-
-  module _ (shown marks shown' marks' : List ℕ) (k : ℕ) (r : Chosen s t path shown marks k shown' marks') where
-    pub selected-count : (n : ℕ) → n ≡ marked k marks' → n ≡ markCount (marksOf (marksIn s t path))
-    selected-count n e =
-        let z : take k marks' ≡ marksIn s t path = ap (take k) (r .picked) ∙ take-at (marksIn s t path) (drop k marks) k (marks-size s t path ok ∙ sym (r .size)) in
-        e ∙ ap (λ l. markCount (marksOf l)) z
-
-    pub selected-records : (selected selected' : List ℕ) (n : ℕ) → n ≡ count t
-        → selected' ≡ map bit (byNumbers (take k shown') (marksOf (take (k - 0) (drop 0 marks'))) n 0) ++ drop n selected
-        → selected' ≡ map bit (selectedIn s t path) ++ drop (count t) selected
-    selected-records selected selected' n e q =
-        let x : take k shown' ≡ shownNumbers (storedIn s t) = ap (take k) (r .numbers) ∙ take-at (shownNumbers (storedIn s t)) (drop k shown) k (sym (r .size)) in
-        let y : take (k - 0) (drop 0 marks') ≡ marksIn s t path = marks-part s t path marks' (drop k marks) k ok (r .size) (r .picked) in
-        q
-        ∙ ap (λ m. map bit (byNumbers (take k shown') (marksOf (take (k - 0) (drop 0 marks'))) m 0) ++ drop m selected) e
-        ∙ ap (λ l. map bit (byNumbers l (marksOf (take (k - 0) (drop 0 marks'))) (count t) 0) ++ drop (count t) selected) x
-        ∙ ap (λ l. map bit (byNumbers (shownNumbers (storedIn s t)) (marksOf l) (count t) 0) ++ drop (count t) selected) y
-        ∙ ap (λ l. map bit l ++ drop (count t) selected) selected-numbers
-
-  -- What is done
-  module _ (rights rights' selected selected' : List ℕ) (k n : ℕ) (r : Selected s t path rights selected k rights' selected') (e : n ≡ count t) where
+  module _ (n : ℕ) (e : n ≡ count t) where
     pub rights-part : take (n - 0) (drop 0 rights') ≡ rightsIn s t
-    rights-part = part-is (rightsIn s t) (drop (count t) rights) rights' n (r .held) (rights-length s t ∙ sym e)
-
-    pub selected-part : take (n - 0) (drop 0 selected') ≡ map bit (selectedIn s t path)
-    selected-part = part-is (map bit (selectedIn s t path)) (drop (count t) selected) selected' n (r .picked) (selected-size ∙ sym e)
+    rights-part = part-is (rightsIn s t) (drop (count t) rights) rights' n held (rights-length s t ∙ sym e)
 
     pub rights-reach : n ≤ length rights'
-    rights-reach = part-fits (rightsIn s t) (drop (count t) rights) rights' n (r .held) (rights-length s t ∙ sym e)
-
-    pub selected-reach : n ≤ length selected'
-    selected-reach = part-fits (map bit (selectedIn s t path)) (drop (count t) selected) selected' n (r .picked) (selected-size ∙ sym e)
+    rights-reach = part-fits (rightsIn s t) (drop (count t) rights) rights' n held (rights-length s t ∙ sym e)
 
     pub done-asks : (done : List ℕ) → length done ≡ 16384
-        → (policyOk (take (length s - 8) (drop 8 s)) ≡ true) × (tableOk t ≡ true) × (count t ≤ length (take (n - 0) (drop 0 rights'))) × (count t ≤ length (take (n - 0) (drop 0 selected'))) × (count t ≤ length done)
+        → (policyOk (take (length s - 8) (drop 8 s)) ≡ true) × (tableOk t ≡ true) × (count t ≤ length (take (n - 0) (drop 0 rights'))) × (count t ≤ length done)
     done-asks done h =
         let g = store-held s t ok in
         let p : policyOk (take (length s - 8) (drop 8 s)) ≡ true = rw (rest-of s 8) (g .policy) in
-        (p, g .table, omega (arith, ap length rights-part, rights-length s t), omega (arith, ap length selected-part, selected-size), omega (arith, table-few t (g .table), h))
+        (p, g .table, omega (arith, ap length rights-part, rights-length s t), omega (arith, table-few t (g .table), h))
 
     pub done-records : (c : Change) (done done' : List ℕ)
-        → done' ≡ map bit (doneMarks c (policyWord (policyOf (take (length s - 8) (drop 8 s)))) t (take (n - 0) (drop 0 rights')) (marksOf (take (n - 0) (drop 0 selected')))) ++ drop (count t) done
-        → Decided c s t path done k done'
+        → DoneBy c (take (length s - 8) (drop 8 s)) t (take (n - 0) (drop 0 rights')) (take (k - 0) (drop 0 shown')) (take (k - 0) (drop 0 marks')) done done'
+        → done' ≡ doneIn c s t path ++ drop (count t) done
     done-records c done done' q =
-        record {
-          size = r .size;
-          marks =
-              q
-              ∙ ap (λ p. map bit (doneMarks c (policyWord (policyOf p)) t (take (n - 0) (drop 0 rights')) (marksOf (take (n - 0) (drop 0 selected')))) ++ drop (count t) done) (rest-of s 8)
-              ∙ ap (λ l. map bit (doneMarks c (policyWord (policyIn s)) t l (marksOf (take (n - 0) (drop 0 selected')))) ++ drop (count t) done) rights-part
-              ∙ ap (λ l. map bit (doneMarks c (policyWord (policyIn s)) t (rightsIn s t) (marksOf l)) ++ drop (count t) done) selected-part
-              ∙ ap (λ l. map bit (doneMarks c (policyWord (policyIn s)) t (rightsIn s t) l) ++ drop (count t) done) (marks-bits (selectedIn s t path));
-        }
+        let g = store-held s t ok in
+        let few : count t ≤ length (rightsIn s t) = omega (arith, rights-length s t) in
+        let x : take (k - 0) (drop 0 shown') ≡ shownNumbers (storedIn s t) = part-is (shownNumbers (storedIn s t)) (drop k shown) shown' k (r .numbers) (sym (r .size)) in
+        let y : take (k - 0) (drop 0 marks') ≡ marksIn s t path = marks-part s t path marks' (drop k marks) k ok (r .size) (r .picked) in
+        q
+        ∙ ap (λ p. map bit (doneMarks c (policyWord (policyOf p)) t (take (n - 0) (drop 0 rights')) (shownByNumbers (take (k - 0) (drop 0 shown')) (count t) 0) (byNumbers (take (k - 0) (drop 0 shown')) (marksOf (take (k - 0) (drop 0 marks'))) (count t) 0)) ++ drop (count t) done) (rest-of s 8)
+        ∙ rw (rights-part, x, y, numbers-shown t (rightsIn s t) (g .table) few, numbers-in-table t (rightsIn s t) (g .table) few (marksOf (marksIn s t path)))
 
 -- The marks of the records that are done
 pub done-size : (c : Change) (s t path : List ℕ) → length (doneIn c s t path) ≡ count t
 done-size c s t path =
-    length-map (doneMarks c (policyWord (policyIn s)) t (rightsIn s t) (selectedIn s t path)) bit
-    ∙ done-length c (policyWord (policyIn s)) t (rightsIn s t) (selectedIn s t path)
+    length-map (doneMarks c (policyWord (policyIn s)) t (rightsIn s t) (shown (storedIn s t)) (selectedIn s t path)) bit
+    ∙ done-length c (policyWord (policyIn s)) t (rightsIn s t) (shown (storedIn s t)) (selectedIn s t path)
 
 module _ (c : Change) (s t path done done' : List ℕ) (k n : ℕ) (r : Decided c s t path done k done') (e : n ≡ count t) where
   pub done-part : take (n - 0) (drop 0 done') ≡ doneIn c s t path

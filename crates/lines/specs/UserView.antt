@@ -46,4 +46,4 @@ abbrev pub selectedIn : List ℕ → List ℕ → List ℕ → List Bool
 selectedIn s t path = inTable (shown (storedIn s t)) (marksOf (marksIn s t path))
 
 abbrev pub doneIn : Change → List ℕ → List ℕ → List ℕ → List ℕ
-doneIn c s t path = map bit (doneMarks c (policyWord (policyIn s)) t (rightsIn s t) (selectedIn s t path))
+doneIn c s t path = map bit (doneMarks c (policyWord (policyIn s)) t (rightsIn s t) (shown (storedIn s t)) (selectedIn s t path))

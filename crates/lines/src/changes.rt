@@ -16,7 +16,6 @@ use rights::policy::is_policy_word;
 use rights::table::count_of;
 use views::done::Change;
 use views::done::mark_done;
-use views::done::mark_records;
 use views::insert::Place;
 use views::insert::insert_marked;
 use views::remove::remove_marked;
@@ -31,41 +30,12 @@ ghost use Rattle.rights.specs.Policy.{policyWord};
 ghost use Rattle.rights.specs.Table.{count, tableOk};
 ghost use Rattle.rights.specs.Marks.{marked};
 ghost use Rattle.answers.specs.Answer.{doneText};
-ghost use Rattle.answers.specs.How.AnswerArea.{Answered};
-ghost use Rattle.lines.specs.How.ChangeRoom.{Selected, Decided};
+ghost use Rattle.answers.specs.AnswerArea.{Answered};
+ghost use Rattle.lines.specs.ChangeRoom.{Decided};
 ghost use Rattle.lines.specs.Effect.{Performs};
 ghost use Rattle.lines.specs.Refusal.{Passed, firstRefusal};
 ghost use Rattle.lines.specs.State.{stage, policyIn, storeOk};
 ghost use Rattle.lines.specs.Work.{onView, renameChecks, treeChecks, changeAt, insertAt, workRename, workInsert, workRemove};
-
-// Writes the user's rights on each record and the marks of the records that a path selects, and returns how many are selected.
-fn mark_selected(
-    state: &[u8],
-    table: &[u8],
-    path: &[u8],
-    rights: &mut [u8],
-    selected: &mut [u8],
-) -> usize
-    requires { ⌜ (storeOk (now state) (now table) ≡ true) × Passed (onView (now path) (now state))
-        × (length (now rights) ≡ recordsMax) × (length (now selected) ≡ recordsMax) ⌝ }
-    ensures { λ r. ⌜ Selected (now (state .entry)) (now (table .entry)) (now (path .entry)) (now (rights .entry)) (now (selected .entry)) r
-        (now (rights .exit)) (now (selected .exit)) ⌝ }
-{
-    let mut shown = [0u16; RECORDS_MAX];
-    let mut marks = [0u8; RECORDS_MAX];
-    let k = select_user(
-        state,
-        table,
-        path,
-        ALL_RIGHTS,
-        rights,
-        &mut shown,
-        &mut marks,
-    );
-    let n = count_of(table);
-    mark_records(&shown, k, &marks[0..k], n, selected);
-    count_marks(&marks, k)
-}
 
 // Writes the marks of the records that the change does, and returns how many nodes are selected.
 fn mark_change(state: &[u8], table: &[u8], change: Change, path: &[u8], done: &mut [u8]) -> usize
@@ -73,18 +43,28 @@ fn mark_change(state: &[u8], table: &[u8], change: Change, path: &[u8], done: &m
     ensures { λ r. ⌜ Decided change (now (state .entry)) (now (table .entry)) (now (path .entry)) (now (done .entry)) r (now (done .exit)) ⌝ }
 {
     let mut rights = [0u8; RECORDS_MAX];
-    let mut selected = [0u8; RECORDS_MAX];
-    let k = mark_selected(state, table, path, &mut rights, &mut selected);
+    let mut shown = [0u16; RECORDS_MAX];
+    let mut marks = [0u8; RECORDS_MAX];
+    let k = select_user(
+        state,
+        table,
+        path,
+        ALL_RIGHTS,
+        &mut rights,
+        &mut shown,
+        &mut marks,
+    );
     let n = count_of(table);
     mark_done(
         change,
         &state[POLICY_AT..],
         table,
         &rights[0..n],
-        &selected[0..n],
+        &shown[0..k],
+        &marks[0..k],
         done,
     );
-    k
+    count_marks(&marks, k)
 }
 
 // Answers a change of which `selected` nodes are selected and the marked records done.

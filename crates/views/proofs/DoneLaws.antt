@@ -8,9 +8,10 @@ use borrow.Author.Tests.{eq-eqb, ne-eqb}
 use lib.ListN.{length, take, drop, getD, length-map}
 use lib.Seq.{take-at}
 use Rattle.rights.specs.Marks.{bit, marksOf, markCount, marked, eachFrom}
-use Rattle.rights.specs.Table.{recordsFrom, count, tableOk}
+use Rattle.rights.specs.Table.{recordsFrom, records, count, tableOk}
 use Rattle.views.specs.Shown.{Stored, storedFrom, stored, storedLevel, granted, shownAfter, shown, keep, numberOf, shownNumbers}
-use Rattle.views.specs.Done.{does, askedOf, doneMarks, inTable, isNext, byNumbers}
+use Rattle.views.specs.Done.{does, askedOf, doneMarks, inTable}
+use Rattle.views.specs.How.Numbers.{isNext, shownByNumbers, byNumbers}
 use Rattle.views.specs.declared.done.Change.{Change}
 use Rattle.rights.proofs.MarkLaws.{marks-bits, each-at}
 use Rattle.views.proofs.TableFacts.{facts}
@@ -18,19 +19,19 @@ use Rattle.views.proofs.TableKept.{length-records}
 use Rattle.views.proofs.ViewLaws.{Every, every-keep, every-map, number-mod}
 
 -- Record i is done exactly if the change does a node with its level, rights and label, shown and selected as it is, under its parent.
-pub done-at : (c : Change) (word : List ℕ → Bool) (t ss : List ℕ) (ms : List Bool) (i : ℕ) → i < count t
-    → getD (doneMarks c word t ss ms) i false ≡ does c (askedOf word t ss ms i)
-done-at c word t ss ms i h =
+pub done-at : (c : Change) (word : List ℕ → Bool) (t ss : List ℕ) (bs ms : List Bool) (i : ℕ) → i < count t
+    → getD (doneMarks c word t ss bs ms) i false ≡ does c (askedOf word t ss bs ms i)
+done-at c word t ss bs ms i h =
     let z : 0 + i ≡ i = omega arith in
-    rw z at (each-at (λ k. does c (askedOf word t ss ms k)) false 0 (count t) i h)
+    rw z at (each-at (λ k. does c (askedOf word t ss bs ms k)) false 0 (count t) i h)
 
 each-length : {A : Type 0} (f : ℕ → A) (i n : ℕ) → length (eachFrom f i n) ≡ n
 unfolding eachFrom
 each-length f i zero = refl
 each-length f i (suc n) = ap suc (each-length f (suc i) n)
 
-pub done-length : (c : Change) (word : List ℕ → Bool) (t ss : List ℕ) (ms : List Bool) → length (doneMarks c word t ss ms) ≡ count t
-done-length c word t ss ms = each-length (λ k. does c (askedOf word t ss ms k)) 0 (count t)
+pub done-length : (c : Change) (word : List ℕ → Bool) (t ss : List ℕ) (bs ms : List Bool) → length (doneMarks c word t ss bs ms) ≡ count t
+done-length c word t ss bs ms = each-length (λ k. does c (askedOf word t ss bs ms k)) 0 (count t)
 
 -- S and D: the marks that were written, counted
 pub marked-bits : (bs : List Bool) (s : List ℕ) (n : ℕ) → length bs ≡ n → marked n (map bit bs ++ s) ≡ markCount bs
@@ -80,6 +81,15 @@ from i j [] ss h k = tt
 from i j (r ∷ rs) [] h k = tt
 from i j (r ∷ rs) (s ∷ ss) h k = ((h, omega arith), from (suc i) j rs ss (omega arith) (omega arith))
 
+-- none of the nodes behind node i is node i
+later-numbers : (bs : List Bool) (i : ℕ) (rs : List (List ℕ)) (ss : List ℕ) → suc i + length rs ≤ 16384
+    → isNext (map numberOf (keep bs (storedFrom (suc i) rs ss))) i ≡ false
+later-numbers bs i rs ss h =
+    not-next (map numberOf (keep bs (storedFrom (suc i) rs ss))) i
+    (every-map (From (suc i)) (λ x. i < x % 16384) numberOf (λ x p. rw (number-mod x (p .1)) (p .0))
+    (keep bs (storedFrom (suc i) rs ss))
+    (every-keep (From (suc i)) bs (storedFrom (suc i) rs ss) (from (suc i) (suc i) rs ss (omega arith) (omega arith))))
+
 by-numbers : (bs ms : List Bool) (i : ℕ) (rs : List (List ℕ)) (ss : List ℕ) → length rs ≤ length ss → i + length rs ≤ 16384 → length bs ≡ length rs
     → byNumbers (map numberOf (keep bs (storedFrom i rs ss))) ms (length rs) i ≡ inTable bs ms
 unfolding byNumbers inTable keep storedFrom
@@ -91,12 +101,20 @@ by-numbers (true ∷ bs) ms i (r ∷ rs) (s ∷ ss) a b e =
     rw (eq-eqb _ i (number-mod (record { number = i; bytes = r; rights = s }) (omega arith)))
     (ap (λ l. getD ms 0 false ∷ l) (by-numbers bs (drop 1 ms) (suc i) rs ss (omega arith) (omega arith) (omega (arith, e))))
 by-numbers (false ∷ bs) ms i (r ∷ rs) (s ∷ ss) a b e =
-    rw
-    (not-next (map numberOf (keep bs (storedFrom (suc i) rs ss))) i
-    (every-map (From (suc i)) (λ x. i < x % 16384) numberOf (λ x p. rw (number-mod x (p .1)) (p .0))
-    (keep bs (storedFrom (suc i) rs ss))
-    (every-keep (From (suc i)) bs (storedFrom (suc i) rs ss) (from (suc i) (suc i) rs ss (omega arith) (omega arith)))))
-    (ap (λ l. false ∷ l) (by-numbers bs ms (suc i) rs ss (omega arith) (omega arith) (omega (arith, e))))
+    rw (later-numbers bs i rs ss (omega arith)) (ap (λ l. false ∷ l) (by-numbers bs ms (suc i) rs ss (omega arith) (omega arith) (omega (arith, e))))
+
+shown-by-numbers : (bs : List Bool) (i : ℕ) (rs : List (List ℕ)) (ss : List ℕ) → length rs ≤ length ss → i + length rs ≤ 16384 → length bs ≡ length rs
+    → shownByNumbers (map numberOf (keep bs (storedFrom i rs ss))) (length rs) i ≡ bs
+unfolding shownByNumbers keep storedFrom
+shown-by-numbers [] i [] ss a b e = refl
+shown-by-numbers [] i (r ∷ rs) ss a b e = absurd (omega (arith, e))
+shown-by-numbers (x ∷ bs) i [] ss a b e = absurd (omega (arith, e))
+shown-by-numbers (x ∷ bs) i (r ∷ rs) [] a b e = absurd (omega arith)
+shown-by-numbers (true ∷ bs) i (r ∷ rs) (s ∷ ss) a b e =
+    rw (eq-eqb _ i (number-mod (record { number = i; bytes = r; rights = s }) (omega arith)))
+    (ap (λ l. true ∷ l) (shown-by-numbers bs (suc i) rs ss (omega arith) (omega arith) (omega (arith, e))))
+shown-by-numbers (false ∷ bs) i (r ∷ rs) (s ∷ ss) a b e =
+    rw (later-numbers bs i rs ss (omega arith)) (ap (λ l. false ∷ l) (shown-by-numbers bs (suc i) rs ss (omega arith) (omega arith) (omega (arith, e))))
 
 shown-length : (before : List (ℕ × Bool)) (i : ℕ) (rs : List (List ℕ)) (ss : List ℕ) → length rs ≤ length ss
     → length (shownAfter storedLevel granted before (storedFrom i rs ss)) ≡ length rs
@@ -105,11 +123,22 @@ shown-length before i [] ss h = refl
 shown-length before i (r ∷ rs) [] h = absurd (omega arith)
 shown-length before i (r ∷ rs) (s ∷ ss) h = ap suc (shown-length _ (suc i) rs ss (omega arith))
 
--- the marks of the shown nodes, at the places that their numbers name, are at the places of their records
-pub numbers-in-table : (t ss : List ℕ) (ms : List Bool) → tableOk t ≡ true → count t ≤ length ss
-    → byNumbers (shownNumbers (stored t ss)) ms (count t) 0 ≡ inTable (shown (stored t ss)) ms
-numbers-in-table t ss ms ok h =
-    let g = facts t ok in
-    let n = length-records t in
-    ap (λ k. byNumbers (shownNumbers (stored t ss)) ms k 0) (sym n)
-    ∙ by-numbers (shown (stored t ss)) ms 0 (recordsFrom t (count t) 0) ss (omega (arith, n, h)) (omega (arith, n, g .few)) (shown-length [] 0 (recordsFrom t (count t) 0) ss (omega (arith, n, h)))
+-- The numbers of the shown nodes say which records are shown, and the marks of the shown nodes are at the places of their records.
+module _ (t ss : List ℕ) (ok : tableOk t ≡ true) (h : count t ≤ length ss) where
+  size : length (records t) ≡ count t
+  size = length-records t
+
+  shown-size : length (shown (stored t ss)) ≡ length (records t)
+  shown-size = shown-length [] 0 (records t) ss (omega (arith, size, h))
+
+  pub numbers-shown : shownByNumbers (shownNumbers (stored t ss)) (count t) 0 ≡ shown (stored t ss)
+  numbers-shown =
+      let g = facts t ok in
+      ap (λ k. shownByNumbers (shownNumbers (stored t ss)) k 0) (sym size)
+      ∙ shown-by-numbers (shown (stored t ss)) 0 (records t) ss (omega (arith, size, h)) (omega (arith, size, g .few)) shown-size
+
+  pub numbers-in-table : (ms : List Bool) → byNumbers (shownNumbers (stored t ss)) ms (count t) 0 ≡ inTable (shown (stored t ss)) ms
+  numbers-in-table ms =
+      let g = facts t ok in
+      ap (λ k. byNumbers (shownNumbers (stored t ss)) ms k 0) (sym size)
+      ∙ by-numbers (shown (stored t ss)) ms 0 (records t) ss (omega (arith, size, h)) (omega (arith, size, g .few)) shown-size

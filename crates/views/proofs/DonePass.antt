@@ -1,5 +1,5 @@
 -- The pass that marks what a change does: its step and its end. Assumes nothing.
-use Prim.Native.Nat.{ℕ, _+_, _*_, _-_, _≤_, _<_}
+use Prim.Native.Nat.{ℕ, zero, suc, _+_, _*_, _-_, _%_, _≤_, _<_}
 use mathlib.Core.Bool.{Bool, true, false, cond, not, _&&_}
 use mathlib.Core.Path.{_≡_, refl, sym, ap, _∙_}
 use mathlib.Core.List.{List, _∷_, _++_, map}
@@ -12,14 +12,16 @@ use lib.Seq.{drop-drop, getD-drop}
 use Rattle.rights.specs.Marks.{bit, marksOf, eachFrom}
 use Rattle.rights.specs.Policy.{insert}
 use Rattle.rights.specs.Rights.{holds}
-use Rattle.rights.specs.Table.{recordAt, level, label, count, tableOk}
+use Rattle.rights.specs.Table.{recordAt, level, label}
 use Rattle.rights.proofs.Lists.{byCase}
-use Rattle.views.specs.Shown.{atParent, nearestFirst, stored, storedLevel, grants, granted, depthAfter, shown, shownFrom}
-use Rattle.views.specs.Done.{does, askedOf, doneMarks}
+use Rattle.views.specs.Shown.{atParent, nearestFirst}
+use Rattle.views.specs.Done.{does, askedOf}
+use Rattle.views.specs.How.Numbers.{shownByNumbers, byNumbers}
 use Rattle.views.specs.declared.done.Change.{Change}
 use Rattle.views.proofs.Fill.{push-take, push-drop, filled}
-use Rattle.rights.proofs.MarkLaws.{mark-at, each-step, each-end}
-use Rattle.views.proofs.StoredNodes.{level-at, rest, rest-step, rest-whole, table-by-depth}
+use Rattle.rights.proofs.MarkLaws.{each-step, each-end}
+use Rattle.views.proofs.MarkLaws.{shown-step, marks-step}
+use Rattle.views.proofs.StoredNodes.{level-at}
 
 pub set-bit : (x : ℕ) (b : Bool) → x ≡ bit b → not (eqb x 0) ≡ b
 set-bit x true e = rw e
@@ -42,50 +44,58 @@ module _ (lv : ℕ → ℕ) (f : ℕ → Bool) where
       ∙ rw (p, q, inv l h, add-one i)
       (byCase (ltb (lv i) l) (λ e. rw e) (λ e. rw e))
 
-module _ (c : Change) (word : List ℕ → Bool) (t ss m d₀ : List ℕ) (n : ℕ) where
+-- the next of the marks
+mark-next : (i : ℕ) (s tl : List Bool) (b : Bool) → drop i s ≡ b ∷ tl → (getD s i false ≡ b) × (drop (i + 1) s ≡ tl)
+mark-next i s tl b e =
+    let z : i + 0 ≡ i = omega arith in
+    ((rw z at (sym (getD-drop i s 0 false))) ∙ ap (λ l. getD l 0 false) e, sym (drop-drop 1 i s) ∙ ap (drop 1) e)
+
+module _ (c : Change) (word : List ℕ → Bool) (t ss xs m d₀ : List ℕ) (n : ℕ) where
+  abbrev shownMarks : List Bool
+  shownMarks = shownByNumbers xs n 0
+
+  abbrev selectedMarks : List Bool
+  selectedMarks = byNumbers xs (marksOf m) n 0
+
   abbrev pub isDoneAt : ℕ → Bool
-  isDoneAt i = does c (askedOf word t ss (marksOf m) i)
+  isDoneAt i = does c (askedOf word t ss shownMarks selectedMarks i)
 
   abbrev pub levelIn : ℕ → ℕ
   levelIn k = level (recordAt t k)
 
   abbrev pub selectedIn : ℕ → Bool
-  selectedIn k = getD (marksOf m) k false
+  selectedIn k = getD selectedMarks k false
 
   abbrev pub insertIn : ℕ → Bool
   insertIn k = holds insert (getD ss k 0)
 
-  pub record Marking (o a b : List ℕ) (d i : ℕ) : Type 0 where
+  pub record Marking (o a b : List ℕ) (j i : ℕ) : Type 0 where
     pub within : i ≤ n
+    pub behind : j ≤ i
     pub size : length o ≡ length d₀
     pub after : drop i o ≡ drop i d₀
     pub chosen : length a ≡ 16
     pub granting : length b ≡ 16
     pub chosen-is : Slots levelIn selectedIn a i
     pub granting-is : Slots levelIn insertIn b i
-    pub depth-is : drop i (shown (stored t ss)) ≡ shownFrom storedLevel granted d (rest t ss n i)
+    pub shown-is : drop i shownMarks ≡ shownByNumbers (drop j xs) (n - i) i
+    pub selected-is : drop i selectedMarks ≡ byNumbers (drop j xs) (drop j (marksOf m)) (n - i) i
     pub written : take i o ++ map bit (eachFrom isDoneAt i (n - i)) ≡ map bit (eachFrom isDoneAt 0 n)
 
   -- what is asked of a node is what the pass finds
-  found : (i k s : ℕ) (on sel up may z : Bool) → k ≡ levelIn i → s ≡ getD ss i 0 → on ≡ getD (shown (stored t ss)) i false → sel ≡ selectedIn i
+  found : (i k s : ℕ) (on sel up may z : Bool) → k ≡ levelIn i → s ≡ getD ss i 0 → on ≡ getD shownMarks i false → sel ≡ selectedIn i
       → up ≡ atParent false (nearestFirst (λ j. (levelIn j, selectedIn j)) i) (levelIn i)
       → may ≡ atParent false (nearestFirst (λ j. (levelIn j, insertIn j)) i) (levelIn i)
       → z ≡ does c (record { level = k; rights = s; shown = on; selected = sel; word = word (label (recordAt t i)); parentSelected = up; parentInsert = may })
       → z ≡ isDoneAt i
   found i k s on sel up may z p q r e u w x = x ∙ rw (p, q, r, e, u, w) refl
 
-  -- the next of the shown marks
-  shown-next : (i : ℕ) (s tl : List Bool) (b : Bool) → drop i s ≡ b ∷ tl → (getD s i false ≡ b) × (drop (i + 1) s ≡ tl)
-  shown-next i s tl b e =
-      let z : i + 0 ≡ i = omega arith in
-      ((rw z at (sym (getD-drop i s 0 false))) ∙ ap (λ l. getD l 0 false) e, sym (drop-drop 1 i s) ∙ ap (drop 1) e)
-
-  pub marking-more : (o a b a' b' : List ℕ) (d i k e v u w : ℕ) (on sel up may z : Bool) → i < n → n ≤ length d₀ → n ≤ length ss
+  pub marking-more : (o a b a' b' : List ℕ) (j i k e v u w : ℕ) (on sel up may z : Bool) → i < n → n ≤ length d₀
       → getD t (4 + i * 32) 0 < 12
       → k ≡ getD t (4 + i * 32) 0
-      → Marking o a b d i
-      → on ≡ (grants (getD ss i 0) && leb (getD t (4 + i * 32) 0) d)
-      → sel ≡ not (eqb (getD m i 0) 0)
+      → Marking o a b j i
+      → on ≡ (ltb j (length xs) && eqb (getD xs j 0 % 16384) i)
+      → sel ≡ (on && not (eqb (getD m j 0) 0))
       → up ≡ not (eqb (getD a k 0) 0)
       → may ≡ not (eqb (getD b k 0) 0)
       → z ≡ does c (record { level = getD t (4 + i * 32) 0; rights = getD ss i 0; shown = on; selected = sel; word = word (label (recordAt t i)); parentSelected = up; parentInsert = may })
@@ -94,28 +104,29 @@ module _ (c : Change) (word : List ℕ → Bool) (t ss m d₀ : List ℕ) (n : �
       → w ≡ bit (insertIn i)
       → (length a' ≡ 16) × ((l : ℕ) → l < 16 → getD a' l 0 ≡ cond (ltb k l) u (getD a l 0))
       → (length b' ≡ 16) × ((l : ℕ) → l < 16 → getD b' l 0 ≡ cond (ltb k l) w (getD b l 0))
-      → e ≡ depthAfter d (getD t (4 + i * 32) 0) on
+      → e ≡ cond on (j + 1) j
       → Marking (set o i v) a' b' e (i + 1)
-  unfolding shownFrom
-  marking-more o a b a' b' d i k e v u w on sel up may z h hd hs low ke g p q r x y vv uu ww ga gb ee =
+  marking-more o a b a' b' j i k e v u w on sel up may z h hd low ke g p q r x y vv uu ww ga gb ee =
       let lv : getD t (4 + i * 32) 0 ≡ levelIn i = sym (level-at t i) in
       let kl : k ≡ levelIn i = ke ∙ lv in
       let size = g .size in
-      let here : drop i (shown (stored t ss)) ≡ on ∷ shownFrom storedLevel granted e (rest t ss n (i + 1)) = g .depth-is ∙ rw (rest-step t ss n i h (omega arith), level-at t i, ee, p) refl in
-      let nx = shown-next i (shown (stored t ss)) (shownFrom storedLevel granted e (rest t ss n (i + 1))) on here in
-      let se : sel ≡ selectedIn i = q ∙ sym (mark-at m i) in
+      let sn = mark-next i shownMarks (shownByNumbers (drop e xs) (n - (i + 1)) (i + 1)) on (g .shown-is ∙ shown-step xs n j i e on h p ee) in
+      let mn = mark-next i selectedMarks (byNumbers (drop e xs) (drop e (marksOf m)) (n - (i + 1)) (i + 1)) sel (g .selected-is ∙ marks-step xs n j i e on h p ee m sel q) in
+      let se : sel ≡ selectedIn i = sym (mn .0) in
       let ue : up ≡ atParent false (nearestFirst (λ j. (levelIn j, selectedIn j)) i) (levelIn i) = r ∙ set-bit _ _ (g .chosen-is k (omega arith)) ∙ ap (atParent false (nearestFirst (λ j. (levelIn j, selectedIn j)) i)) kl in
       let me : may ≡ atParent false (nearestFirst (λ j. (levelIn j, insertIn j)) i) (levelIn i) = x ∙ set-bit _ _ (g .granting-is k (omega arith)) ∙ ap (atParent false (nearestFirst (λ j. (levelIn j, insertIn j)) i)) kl in
-      let f : z ≡ isDoneAt i = found i (getD t (4 + i * 32) 0) (getD ss i 0) on sel up may z lv refl (sym (nx .0)) se ue me y in
+      let f : z ≡ isDoneAt i = found i (getD t (4 + i * 32) 0) (getD ss i 0) on sel up may z lv refl (sym (sn .0)) se ue me y in
       record {
         within = omega arith;
+        behind = byCase on (λ o. omega (arith, g .behind, rw o at ee)) (λ o. omega (arith, g .behind, rw o at ee));
         size = length-set o i v ∙ size;
         after = push-drop o i v d₀ (g .after);
         chosen = ga .0;
         granting = gb .0;
         chosen-is = slots-next levelIn selectedIn a a' i k u kl (uu ∙ ap bit se) (g .chosen-is) (ga .1);
         granting-is = slots-next levelIn insertIn b b' i k w kl ww (g .granting-is) (gb .1);
-        depth-is = nx .1;
+        shown-is = sn .1;
+        selected-is = mn .1;
         written =
             sym
             (push-take o i v (omega arith)
@@ -123,28 +134,26 @@ module _ (c : Change) (word : List ℕ → Bool) (t ss m d₀ : List ℕ) (n : �
             ∙ g .written;
       }
 
-  pub marking-end : (o a b : List ℕ) (d i : ℕ) → n ≤ i → Marking o a b d i → o ≡ map bit (eachFrom isDoneAt 0 n) ++ drop n d₀
-  marking-end o a b d i h g =
-      let k = g .within in
-      let e : i ≡ n = omega arith in
-      filled o d₀ (map bit (eachFrom isDoneAt 0 n)) n
-      (ap (λ l. take n o ++ map bit l) (sym (each-end isDoneAt n n (omega arith))) ∙ (rw e at (g .written)))
-      (rw e at (g .after))
-
-  pub marking-start : n ≡ count t → tableOk t ≡ true → Marking d₀ (replicate 16 0) (replicate 16 0) 0 0
-  marking-start e ok =
+  pub marking-start : Marking d₀ (replicate 16 0) (replicate 16 0) 0 0
+  marking-start =
       record {
         within = omega arith;
+        behind = omega arith;
         size = refl;
         after = refl;
         chosen = refl;
         granting = refl;
         chosen-is = slots-first levelIn selectedIn;
         granting-is = slots-first levelIn insertIn;
-        depth-is = table-by-depth t ss ok ∙ rw e (ap (shownFrom storedLevel granted 0) (sym (rest-whole t ss (count t))));
+        shown-is = ap (λ k. shownByNumbers xs k 0) (sym (sub-zero n));
+        selected-is = ap (λ k. byNumbers xs (marksOf m) k 0) (sym (sub-zero n));
         written = ap (λ k. map bit (eachFrom isDoneAt 0 k)) (sub-zero n);
       }
 
-  pub marking-gives : (o a b : List ℕ) (d i : ℕ) → n ≡ count t → n ≤ i → Marking o a b d i
-      → o ≡ map bit (doneMarks c word t ss (marksOf m)) ++ drop (count t) d₀
-  marking-gives o a b d i e h g = rw e at (marking-end o a b d i h g)
+  pub marking-end : (o a b : List ℕ) (j i : ℕ) → n ≤ i → Marking o a b j i → o ≡ map bit (eachFrom isDoneAt 0 n) ++ drop n d₀
+  marking-end o a b j i h g =
+      let k = g .within in
+      let e : i ≡ n = omega arith in
+      filled o d₀ (map bit (eachFrom isDoneAt 0 n)) n
+      (ap (λ l. take n o ++ map bit l) (sym (each-end isDoneAt n n (omega arith))) ∙ (rw e at (g .written)))
+      (rw e at (g .after))

@@ -1,5 +1,5 @@
--- Laws of the marks that are written for shown nodes and for parents; those of all marks stand in rights. Assumes nothing.
-use Prim.Native.Nat.{ℕ, suc, _+_, _-_, _%_, _≤_, _<_}
+-- Laws of the marks that are read for shown nodes and written for parents; those of all marks stand in rights. Assumes nothing.
+use Prim.Native.Nat.{ℕ, zero, suc, _+_, _-_, _%_, _≤_, _<_}
 use mathlib.Core.Bool.{Bool, true, false, cond, not, _&&_, and-true}
 use mathlib.Core.Path.{_≡_, sym, ap, _∙_}
 use mathlib.Core.List.{List, [], _∷_, map}
@@ -12,46 +12,38 @@ use lib.Seq.{drop-cons, drop-drop, getD-take, getD-drop, getD-set-same, getD-set
 use Rattle.rights.specs.Marks.{bit, marksOf}
 use Rattle.rights.proofs.Lists.{byCase}
 use Rattle.rights.proofs.MarkLaws.{mark-at}
-use Rattle.views.specs.Done.{isNext, byNumbers}
+pub use Rattle.rights.proofs.MarkLaws.{marks-bits}
+use Rattle.views.specs.How.Numbers.{isNext, shownByNumbers, byNumbers}
 
--- The numbers of the shown nodes, from shown node j on
-
-next-is : (s : List ℕ) (k j i : ℕ) → k ≤ length s → isNext (drop j (take k s)) i ≡ (ltb j k && eqb (getD s j 0 % 16384) i)
-next-is s k j i h =
-    byCase (ltb j k)
-    (λ e. let q : j < k = ltb-true j k e in
-    let l : j < length (take k s) = omega (arith, length-take-le k s h) in
-    rw (e, drop-cons (take k s) j 0 l, getD-take k s j 0 q))
-    (λ e. let q : k ≤ j = ltb-false j k e in
-    let l : length (take k s) ≤ j = omega (arith, length-take-le k s h) in
-    rw (e, drop-of-length-le (take k s) l))
-
--- the marks that are still to be written, from record i and shown node j on
-abbrev pub left : List ℕ → ℕ → List ℕ → ℕ → ℕ → ℕ → List Bool
-left s k m n j i = byNumbers (drop j (take k s)) (drop j (marksOf m)) (n - i) i
-
-drop-one : {A : Type 0} (j : ℕ) (l : List A) → drop 1 (drop j l) ≡ drop (j + 1) l
-drop-one j l = drop-drop 1 j l
-
+-- the first of the marks from j on
 front : (j : ℕ) (m : List ℕ) → getD (drop j (marksOf m)) 0 false ≡ not (eqb (getD m j 0) 0)
 front j m = getD-drop j (marksOf m) 0 false ∙ (let e : j + 0 ≡ j = omega arith in rw e (mark-at m j))
 
-pub left-step : (s : List ℕ) (k : ℕ) (m : List ℕ) (n j i e v : ℕ) (b : Bool) → k ≤ length s → i < n
-    → b ≡ (ltb j k && eqb (getD s j 0 % 16384) i)
-    → v ≡ bit (b && not (eqb (getD m j 0) 0))
-    → e ≡ cond b (j + 1) j
-    → map bit (left s k m n j i) ≡ v ∷ map bit (left s k m n e (i + 1))
-unfolding byNumbers
-left-step s k m n j i e v true h g p q r =
-    let z : n - i ≡ suc (n - (i + 1)) = omega arith in
-    rw (z, next-is s k j i h, ← p, q, r, drop-one j (take k s), drop-one j (marksOf m), front j m, add-one i)
-left-step s k m n j i e v false h g p q r =
-    let z : n - i ≡ suc (n - (i + 1)) = omega arith in
-    rw (z, next-is s k j i h, ← p, q, r, add-one i)
+-- One record more, where shown node j is the next: e is the next then
 
-pub left-end : (s : List ℕ) (k : ℕ) (m : List ℕ) (n j i : ℕ) → n ≤ i → map bit (left s k m n j i) ≡ []
-unfolding byNumbers
-left-end s k m n j i h = let e : n - i ≡ 0 = omega arith in rw e
+module _ (xs : List ℕ) (n j i e : ℕ) (on : Bool) (inside : i < n) (stands : on ≡ (ltb j (length xs) && eqb (getD xs j 0 % 16384) i)) (next : e ≡ cond on (j + 1) j) where
+  one-less : n - i ≡ suc (n - (i + 1))
+  one-less = omega arith
+
+  next-is : isNext (drop j xs) i ≡ on
+  next-is =
+      byCase (ltb j (length xs))
+      (λ q. let l : j < length xs = ltb-true j (length xs) q in rw (stands, q, drop-cons xs j 0 l))
+      (λ q. let l : length xs ≤ j = ltb-false j (length xs) q in rw (stands, q, drop-of-length-le xs l))
+
+  drop-next : {A : Type 0} (l : List A) → cond on (drop 1 (drop j l)) (drop j l) ≡ drop e l
+  drop-next l = byCase on (λ q. rw (next, q) (drop-drop 1 j l)) (λ q. rw (next, q))
+
+  pub shown-step : shownByNumbers (drop j xs) (n - i) i ≡ on ∷ shownByNumbers (drop e xs) (n - (i + 1)) (i + 1)
+  unfolding shownByNumbers
+  shown-step = rw (one-less, next-is, drop-next xs, add-one i)
+
+  pub marks-step : (m : List ℕ) (sel : Bool) → sel ≡ (on && not (eqb (getD m j 0) 0))
+      → byNumbers (drop j xs) (drop j (marksOf m)) (n - i) i ≡ sel ∷ byNumbers (drop e xs) (drop e (marksOf m)) (n - (i + 1)) (i + 1)
+  unfolding byNumbers
+  marks-step m sel q =
+      rw (one-less, next-is, q, add-one i, ← drop-next xs, ← drop-next (marksOf m))
+      (byCase on (λ o. rw (o, front j m)) (λ o. rw o))
 
 -- Slots: v at every level deeper than `level`, up to l
 

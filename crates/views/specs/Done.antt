@@ -1,15 +1,14 @@
 -- Which records a change does (document 01, "Changes"). "All selections and rights are taken before anything changes."
-use Prim.Native.Nat.{ℕ, zero, suc, _%_}
-use mathlib.Core.Bool.{Bool, true, false, cond, not, _&&_}
+use Prim.Native.Nat.{ℕ}
+use mathlib.Core.Bool.{Bool, true, false, not, _&&_}
 use mathlib.Core.List.{List, [], _∷_}
 use lib.Dec.{eqb}
 use lib.ListN.{getD, drop}
-use Rattle.rights.specs.Limits.{recordsMax}
 use Rattle.rights.specs.Table.{recordAt, level, label, count}
+use Rattle.rights.specs.Marks.{eachFrom}
 use Rattle.rights.specs.Policy.{read, insert, update, delete}
 use Rattle.rights.specs.Rights.{holds}
-use Rattle.rights.specs.Marks.{eachFrom}
-use Rattle.views.specs.Shown.{atParent, nearestFirst, stored, shown}
+use Rattle.views.specs.Shown.{atParent, nearestFirst}
 use Rattle.views.specs.declared.done.Change.{Change}
 use Rattle.views.specs.declared.done.Change.the-variants.{Rename, Update, Append, Before, After, Remove}
 
@@ -44,14 +43,14 @@ does Before a = a .selected && insertableBeside a
 does After a = a .selected && insertableBeside a
 does Remove a = a .selected && (holds delete (a .rights) && not (isRoot a))
 
--- Of record i, where `word` says which labels are policy words and `selected` has a mark for each record. The parent is the nearest record before
--- it at a smaller level; the root has none.
-abbrev pub askedOf : (List ℕ → Bool) → List ℕ → List ℕ → List Bool → ℕ → Asked
-askedOf word table rights selected i =
+-- Of record i, where `word` says which labels are policy words; `shown` and `selected` have a mark for each record. The parent is the nearest record
+-- before it at a smaller level; the root has none.
+abbrev pub askedOf : (List ℕ → Bool) → List ℕ → List ℕ → List Bool → List Bool → ℕ → Asked
+askedOf word table rights shown selected i =
     record {
       level = level (recordAt table i);
       rights = getD rights i 0;
-      shown = getD (shown (stored table rights)) i false;
+      shown = getD shown i false;
       selected = getD selected i false;
       word = word (label (recordAt table i));
       parentSelected =
@@ -61,21 +60,11 @@ askedOf word table rights selected i =
     }
 
 -- of each record whether the change does it
-abbrev pub doneMarks : Change → (List ℕ → Bool) → List ℕ → List ℕ → List Bool → List Bool
-doneMarks c word table rights selected = eachFrom (λ i. does c (askedOf word table rights selected i)) 0 (count table)
+abbrev pub doneMarks : Change → (List ℕ → Bool) → List ℕ → List ℕ → List Bool → List Bool → List Bool
+doneMarks c word table rights shown selected = eachFrom (λ i. does c (askedOf word table rights shown selected i)) 0 (count table)
 
 -- The marks of the shown nodes, at the places of their records; a node that is not shown is not selected.
 unfoldable pub inTable : List Bool → List Bool → List Bool
 inTable [] ms = []
 inTable (true ∷ bs) ms = getD ms 0 false ∷ inTable bs (drop 1 ms)
 inTable (false ∷ bs) ms = false ∷ inTable bs ms
-
--- The same by the numbers of the shown nodes, over n records from i on (proofs/DoneLaws.antt).
-abbrev pub isNext : List ℕ → ℕ → Bool
-isNext [] i = false
-isNext (x ∷ xs) i = eqb (x % recordsMax) i
-
-unfoldable pub byNumbers : List ℕ → List Bool → ℕ → ℕ → List Bool
-byNumbers xs ms zero i = []
-byNumbers xs ms (suc n) i =
-    cond (isNext xs i) (getD ms 0 false ∷ byNumbers (drop 1 xs) (drop 1 ms) n (suc i)) (false ∷ byNumbers xs ms n (suc i))

@@ -1,6 +1,4 @@
 // Which records a change does (document 01, "Changes"), decided before anything changes.
-use crate::shown::depth_after;
-use crate::shown::is_shown;
 use rights::bytes::wide;
 use rights::limits::COUNT_BYTES;
 use rights::limits::DELETE;
@@ -19,19 +17,18 @@ use rights::rights::holds_right;
 use rights::table::count_of;
 ghost use mathlib.Core.Path.{_≡_};
 ghost use mathlib.Core.Bool.{Bool, true, false, cond, not, _&&_};
-ghost use mathlib.Core.List.{List, [], _∷_, _++_, map};
 ghost use Prim.Native.Nat.{ℕ, _+_, _*_, _%_, _≤_, _<_};
 ghost use lib.Dec.{eqb, ltb};
 ghost use lib.ListN.{length, take, drop, getD};
-ghost use Rattle.rights.specs.Limits.{recordsMax};
-ghost use Rattle.rights.specs.Marks.{bit, marksOf};
 ghost use Rattle.rights.specs.Policy.{read, update, policyWord};
 ghost use Rattle.rights.specs.PolicyBytes.{policyOf, Text};
 ghost use Rattle.rights.specs.PolicyCheck.{policyOk};
 ghost use Rattle.rights.specs.Rights.{holds};
 ghost use Rattle.rights.specs.Table.{recordAt, label, count, tableOk};
+ghost use Rattle.rights.specs.Limits.{recordsMax};
 ghost use Rattle.rights.specs.How.Vocabulary.{PolicyWords};
-ghost use Rattle.views.specs.Done.{byNumbers, does, doneMarks};
+ghost use Rattle.views.specs.Done.{does};
+ghost use Rattle.views.specs.How.Numbers.{DoneBy};
 
 // Slots a level, 0 to 15: more than there are levels.
 const LAST_SLOT: usize = 15;
@@ -46,28 +43,27 @@ pub enum Change {
     Remove,
 }
 
-// Whether shown node j, of k, is record i.
-fn stands_at(shown: &[u16], k: usize, j: usize, i: usize) -> bool
-    requires { ⌜ k ≤ length (now shown) ⌝ }
-    ensures { λ r. ⌜ r ≡ (ltb j k && eqb (getD (now (shown .entry)) j 0 % recordsMax) i) ⌝ }
+// Whether shown node j is record i.
+fn stands_at(shown: &[u16], j: usize, i: usize) -> bool
+    ensures { λ r. ⌜ r ≡ (ltb j (length (now (shown .entry))) && eqb (getD (now (shown .entry)) j 0 % recordsMax) i) ⌝ }
 {
-    if k <= j {
+    if shown.len() <= j {
         return false;
     }
     wide_number(shown[j]) % RECORDS_MAX == i
 }
 
-// The mark of shown node j if it stands here, and otherwise none.
-fn mark_at(marks: &[u8], j: usize, stands: bool) -> u8
-    ensures { λ r. ⌜ r ≡ bit (stands && not (eqb (getD (now (marks .entry)) j 0) 0)) ⌝ }
+// Whether shown node j stands here and is marked.
+fn is_marked(marks: &[u8], j: usize, stands: bool) -> bool
+    ensures { λ r. ⌜ r ≡ (stands && not (eqb (getD (now (marks .entry)) j 0) 0)) ⌝ }
 {
     if marks.len() <= j {
-        return 0;
+        return false;
     }
     if stands {
-        return mark_of(is_set(marks[j]));
+        return is_set(marks[j]);
     }
-    0
+    false
 }
 
 // One further if it stands here.
@@ -79,22 +75,6 @@ fn next_of(j: usize, stands: bool, n: usize) -> usize
         return j + 1;
     }
     j
-}
-
-// Writes the marks of the k shown nodes to the places of their records, of n; no other record is marked.
-pub fn mark_records(shown: &[u16], k: usize, marks: &[u8], n: usize, selected: &mut [u8])
-    requires { ⌜ (k ≤ length (now shown)) × (n ≤ length (now selected)) ⌝ }
-    ensures { λ _. ⌜ now (selected .exit) ≡ map bit (byNumbers (take k (now (shown .entry))) (marksOf (now (marks .entry))) n 0) ++ drop n
-        (now (selected .entry)) ⌝ }
-{
-    let mut j = 0;
-    let mut i = 0;
-    while i < n {
-        let stands = stands_at(shown, k, j, i);
-        selected[i] = mark_at(marks, j, stands);
-        j = next_of(j, stands, n);
-        i += 1;
-    }
 }
 
 // Writes v at every deeper level than this one: what the children of a node at this level find.
@@ -200,8 +180,8 @@ fn is_done(
     }
 }
 
-// Writes for each record whether the change does it, where words are the k policy words. A slot a level says of the node above, which is the
-// parent of the next node at that level, whether it is selected, and whether the user has insert on it.
+// Writes for each record whether the change does it, where words are the k policy words. The next shown node is j. A slot a level says of the
+// node above, which is the parent of the next node at that level, whether it is selected, and whether the user has insert on it.
 fn mark_by_words(
     change: Change,
     policy: &[u8],
@@ -209,25 +189,26 @@ fn mark_by_words(
     k: usize,
     table: &[u8],
     rights: &[u8],
-    selected: &[u8],
+    shown: &[u16],
+    marks: &[u8],
     done: &mut [u8],
 )
     requires { ⌜ PolicyWords (now policy) (now words) k × (tableOk (now table) ≡ true) × (count (now table) ≤ length (now rights))
-        × (count (now table) ≤ length (now selected)) × (count (now table) ≤ length (now done)) ⌝ }
-    ensures { λ _. ⌜ now (done .exit) ≡ map bit (doneMarks change (policyWord (policyOf (now (policy .entry)))) (now (table .entry))
-        (now (rights .entry)) (marksOf (now (selected .entry)))) ++ drop (count (now (table .entry))) (now (done .entry)) ⌝ }
+        × (count (now table) ≤ length (now done)) ⌝ }
+    ensures { λ _. ⌜ DoneBy change (now (policy .entry)) (now (table .entry)) (now (rights .entry)) (now (shown .entry))
+        (now (marks .entry)) (now (done .entry)) (now (done .exit)) ⌝ }
 {
     let n = count_of(table);
     let mut chosen = [0u8; 16];
     let mut granting = [0u8; 16];
-    let mut depth = 0;
+    let mut j = 0;
     let mut i = 0;
     while i < n {
         let level = table[COUNT_BYTES + i * RECORD_BYTES];
         let l = wide(level);
         let set = rights[i];
-        let on = is_shown(depth, level, set);
-        let sel = is_set(selected[i]);
+        let on = stands_at(shown, j, i);
+        let sel = is_marked(marks, j, on);
         let up = is_set(chosen[l]);
         let may = is_set(granting[l]);
         let does = is_done(
@@ -247,26 +228,38 @@ fn mark_by_words(
         done[i] = mark_of(does);
         pass_down(&mut chosen, l, mark_of(sel));
         pass_down(&mut granting, l, mark_of(holds_right(set, INSERT)));
-        depth = depth_after(depth, level, on);
+        j = next_of(j, on, n);
         i += 1;
     }
 }
 
-// Writes for each record whether the change does it. `selected` has a mark for each record.
+// Writes for each record whether the change does it. `shown` has the numbers of the shown nodes, in document order, and `marks` says which of
+// them are selected.
 pub fn mark_done(
     change: Change,
     policy: &[u8],
     table: &[u8],
     rights: &[u8],
-    selected: &[u8],
+    shown: &[u16],
+    marks: &[u8],
     done: &mut [u8],
 )
     requires { ⌜ (policyOk (now policy) ≡ true) × (tableOk (now table) ≡ true) × (count (now table) ≤ length (now rights))
-        × (count (now table) ≤ length (now selected)) × (count (now table) ≤ length (now done)) ⌝ }
-    ensures { λ _. ⌜ now (done .exit) ≡ map bit (doneMarks change (policyWord (policyOf (now (policy .entry)))) (now (table .entry))
-        (now (rights .entry)) (marksOf (now (selected .entry)))) ++ drop (count (now (table .entry))) (now (done .entry)) ⌝ }
+        × (count (now table) ≤ length (now done)) ⌝ }
+    ensures { λ _. ⌜ DoneBy change (now (policy .entry)) (now (table .entry)) (now (rights .entry)) (now (shown .entry))
+        (now (marks .entry)) (now (done .entry)) (now (done .exit)) ⌝ }
 {
     let mut words = [0u32; WORDS_MAX];
     let k = sort_policy_words(policy, &mut words);
-    mark_by_words(change, policy, &words, k, table, rights, selected, done);
+    mark_by_words(
+        change,
+        policy,
+        &words,
+        k,
+        table,
+        rights,
+        shown,
+        marks,
+        done,
+    );
 }

@@ -30,7 +30,7 @@ fn is_granted(set: u8) -> bool
 }
 
 // Whether a node at this level is shown, below a shown chain of this depth.
-pub fn is_shown(depth: usize, level: u8, set: u8) -> bool
+fn is_shown(depth: usize, level: u8, set: u8) -> bool
     ensures { λ r. ⌜ r ≡ (grants set && leb level depth) ⌝ }
 {
     if depth < wide(level) {
@@ -40,7 +40,7 @@ pub fn is_shown(depth: usize, level: u8, set: u8) -> bool
 }
 
 // The depth of the shown chain after a node at this level.
-pub fn depth_after(depth: usize, level: u8, shown: bool) -> usize
+fn depth_after(depth: usize, level: u8, shown: bool) -> usize
     ensures { λ r. ⌜ r ≡ depthAfter depth level shown ⌝ }
 {
     let l = wide(level);

@@ -33,12 +33,6 @@ pub record Chosen (s t path shown marks : List ℕ) (k : ℕ) (shown' marks' : L
   pub numbers : shown' ≡ shownNumbers (storedIn s t) ++ drop k shown
   pub picked : marks' ≡ marksIn s t path ++ drop k marks
 
--- the records that a path selects, and k, how many nodes are selected; the rest of each area is as it was
-pub record Selected (s t path rights selected : List ℕ) (k : ℕ) (rights' selected' : List ℕ) : Type 0 where
-  pub size : k ≡ markCount (marksOf (marksIn s t path))
-  pub held : RightsHeld s t rights rights'
-  pub picked : selected' ≡ map bit (selectedIn s t path) ++ drop (count t) selected
-
 -- the records that a change does, and k, how many nodes are selected
 pub record Decided (c : Change) (s t path done : List ℕ) (k : ℕ) (done' : List ℕ) : Type 0 where
   pub size : k ≡ markCount (marksOf (marksIn s t path))
