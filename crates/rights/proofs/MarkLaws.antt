@@ -42,6 +42,11 @@ module _ (ms : List ℕ) (i k : ℕ) (inside : i < length ms) (e : k ≡ marked 
   pub marked-same : getD ms i 0 ≡ 0 → k ≡ marked (i + 1) ms
   marked-same z = omega (arith, e, rw (eq-eqb (getD ms i 0) 0 z) at marked-suc)
 
+pub each-length : {A : Type 0} (f : ℕ → A) (i n : ℕ) → length (eachFrom f i n) ≡ n
+unfolding eachFrom
+each-length f i zero = refl
+each-length f i (suc n) = ap suc (each-length f (suc i) n)
+
 -- what a loop over the first n nodes has still to write
 pub each-step : {A : Type 0} (f : ℕ → A) (n i : ℕ) → i < n → eachFrom f i (n - i) ≡ f i ∷ eachFrom f (i + 1) (n - (i + 1))
 unfolding eachFrom

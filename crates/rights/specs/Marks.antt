@@ -29,7 +29,8 @@ unfoldable pub eachFrom : {A : Type 0} → (ℕ → A) → ℕ → ℕ → List 
 eachFrom f i zero = []
 eachFrom f i (suc n) = f i ∷ eachFrom f (suc i) n
 
--- for each of the n nodes from i on, 1 where it is in f, else 0
-unfoldable pub bitsFrom : (ℕ → Bool) → ℕ → ℕ → List ℕ
-bitsFrom f i zero = []
-bitsFrom f i (suc n) = bit (f i) ∷ bitsFrom f (suc i) n
+-- the elements that are marked, in order
+unfoldable pub keep : {A : Type 0} → List Bool → List A → List A
+keep [] xs = []
+keep (b ∷ bs) [] = []
+keep (b ∷ bs) (x ∷ xs) = cond b (x ∷ keep bs xs) (keep bs xs)

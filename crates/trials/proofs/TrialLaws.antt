@@ -2,7 +2,7 @@
 use Prim.Native.Nat.{ℕ, zero, suc, _≤_, _<_}
 use mathlib.Core.Bool.{Bool, true, false, and-eq-true-iff}
 use mathlib.Core.Path.{_≡_, refl, sym}
-use mathlib.Core.List.{List, [], _∷_, _++_}
+use mathlib.Core.List.{List, [], _∷_, _++_, map}
 use native.Mathlib.Omega.{arith}
 use borrow.Author.Tests.{leb-true, ltb-true, le-leb, lt-leb, lt-ltb, le-ltb}
 use lib.Dec.{leb}
@@ -22,6 +22,7 @@ use Rattle.rights.specs.PolicyBytes.{policyOf, subjectCount}
 use Rattle.rights.specs.How.Roles.{Declared}
 use Rattle.rights.specs.PolicyCheck.{policyOk}
 use Rattle.rights.specs.Rights.{rightsOn}
+use Rattle.rights.specs.Marks.{bit}
 use Rattle.rights.specs.How.Selection.{selection, Selects}
 use Rattle.rights.specs.Table.{tableOk, count, records}
 use Rattle.rights.specs.declared.path.Read.the-variants.{At, Bad}
@@ -139,11 +140,11 @@ module _ (p : List ℕ) (u : ℕ) (t : List ℕ) (before : List ℕ) where
         let g = nodes-gives p u t (length before) shown e in
         record {
           answer = rw (e, either-read (pathOf s) i (pos (length shown)) notWellFormed q) (counted (length shown) (g .1));
-          marks = rw (e, ← (view-length t shown), either-read (pathOf s) i (selection s (passesOwn (policyOf p) u) (viewOf t shown) ++ drop (length (viewOf t shown)) before) before q) h;
+          marks = rw (e, ← (view-length t shown), either-read (pathOf s) i (map bit (selection s (passesOwn (policyOf p) u) (viewOf t shown)) ++ drop (length (viewOf t shown)) before) before q) h;
         }
 
     pub nodes-bad : asksNodes p u t shown (length before) ≡ true → placeOf (pathOf s) ≡ Bad → SelectionTried p u t shown s before before notWellFormed
-    nodes-bad e q = record { answer = rw (e, either-bad (pathOf s) (pos (length shown)) notWellFormed q); marks = rw (e, either-bad (pathOf s) (selection s (passesOwn (policyOf p) u) (viewOf t shown) ++ drop (length shown) before) before q) }
+    nodes-bad e q = record { answer = rw (e, either-bad (pathOf s) (pos (length shown)) notWellFormed q); marks = rw (e, either-bad (pathOf s) (map bit (selection s (passesOwn (policyOf p) u) (viewOf t shown)) ++ drop (length shown) before) before q) }
 
     pub nodes-refused : asksNodes p u t shown (length before) ≡ false → SelectionTried p u t shown s before before refused
     nodes-refused e = record { answer = rw e; marks = rw e }

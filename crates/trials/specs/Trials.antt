@@ -2,7 +2,7 @@
 use Prim.Native.Nat.{ℕ, _%_}
 use mathlib.Core.Path.{_≡_}
 use mathlib.Core.Bool.{Bool, cond, _&&_}
-use mathlib.Core.List.{List, _++_}
+use mathlib.Core.List.{List, _++_, map}
 use lib.Dec.{leb, ltb}
 use lib.IntN.{ℤ, pos, negsuc}
 use lib.ListN.{length, drop}
@@ -16,6 +16,7 @@ use Rattle.rights.specs.Policy.{policyWord}
 use Rattle.rights.specs.PolicyBytes.{policyOf, subjectCount}
 use Rattle.rights.specs.PolicyCheck.{policyOk}
 use Rattle.rights.specs.Rights.{rightsOn}
+use Rattle.rights.specs.Marks.{bit}
 use Rattle.rights.specs.How.Selection.{selection}
 use Rattle.rights.specs.Table.{tableOk, count, records}
 
@@ -70,4 +71,4 @@ asksNodes policy u table shown room =
 -- of it is used.").
 pub record SelectionTried (policy : List ℕ) (u : ℕ) (table shown path before after : List ℕ) (r : ℤ) : Type 0 where
   pub answer : r ≡ cond (asksNodes policy u table shown (length before)) (either (pathOf path) (pos (length shown)) notWellFormed) refused
-  pub marks : after ≡ cond (asksNodes policy u table shown (length before)) (either (pathOf path) (selection path (passesOwn (policyOf policy) u) (viewOf table shown) ++ drop (length shown) before) before) before
+  pub marks : after ≡ cond (asksNodes policy u table shown (length before)) (either (pathOf path) (map bit (selection path (passesOwn (policyOf policy) u) (viewOf table shown)) ++ drop (length shown) before) before) before

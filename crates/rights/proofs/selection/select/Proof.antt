@@ -1,11 +1,12 @@
 use Prim.Native.Nat.{ℕ}
 use mathlib.Core.Path.{refl, ap, _∙_}
-use mathlib.Core.List.{List, _++_}
+use mathlib.Core.List.{List, _++_, map}
 use mathlib.Core.Bool.{Bool}
 use native.Mathlib.Omega.{arith}
 use borrow.Author.Needs.{needs}
 use lib.ListN.{length, drop}
 use Rattle.rights.specs.Nodes.{viewOf}
+use Rattle.rights.specs.Marks.{bit}
 use Rattle.rights.specs.How.Selection.{selection}
 use Rattle.rights.proofs.Sounds.{policy-sound}
 use Rattle.rights.proofs.OwnNames.{part-sound, part-passes}
@@ -28,7 +29,7 @@ returns c =
     let a = c .before .before .before .before .before .before .before .before .before .before .before .before .before .before .before .before .before .before .before .args in
     let t = viewOf (a .table .now) (a .shown .now) in
     c .before .before .before .before .select-with .ensures
-    ∙ ap (λ (mine : List ℕ → Bool). selection (a .path .now) mine t ++ drop (length t) (a .marks .now)) (part-passes (c .before .before .before .before .before .before .before .before .before .before .own-subjects .ensures))
+    ∙ ap (λ (mine : List ℕ → Bool). map bit (selection (a .path .now) mine t) ++ drop (length t) (a .marks .now)) (part-passes (c .before .before .before .before .before .before .before .before .before .before .own-subjects .ensures))
 
 pub select-spec : {M : Type 1} → statement M
 select-spec =
