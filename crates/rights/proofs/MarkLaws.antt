@@ -7,9 +7,9 @@ use native.Mathlib.Numerals.{add-one}
 use native.Mathlib.Omega.{arith}
 use borrow.Author.Tests.{eq-eqb, ne-eqb}
 use lib.Dec.{eqb}
-use lib.ListN.{length, getD}
+use lib.ListN.{length, take, getD}
 use lib.Seq.{take-suc}
-use Rattle.rights.specs.Marks.{bit, marksOf, markCount, marked, eachFrom}
+use Rattle.rights.specs.Marks.{bit, marksOf, markCount, eachFrom}
 
 -- the mark of a node
 pub mark-at : (m : List ℕ) (i : ℕ) → getD (marksOf m) i false ≡ not (eqb (getD m i 0) 0)
@@ -23,24 +23,30 @@ marks-bits [] = refl
 marks-bits (true ∷ bs) = ap (λ l. true ∷ l) (marks-bits bs)
 marks-bits (false ∷ bs) = ap (λ l. false ∷ l) (marks-bits bs)
 
-marksOf-append : (a b : List ℕ) → marksOf (a ++ b) ≡ marksOf a ++ marksOf b
-marksOf-append [] b = refl
-marksOf-append (x ∷ a) b = ap (λ l. not (eqb x 0) ∷ l) (marksOf-append a b)
+pub marks-length : (m : List ℕ) → length (marksOf m) ≡ length m
+marks-length [] = refl
+marks-length (x ∷ m) = ap suc (marks-length m)
 
+pub marks-take : (n : ℕ) (m : List ℕ) → marksOf (take n m) ≡ take n (marksOf m)
+marks-take zero m = refl
+marks-take (suc n) [] = refl
+marks-take (suc n) (x ∷ m) = ap (λ l. not (eqb x 0) ∷ l) (marks-take n m)
+
+-- how many are set of those that a loop has seen
 markCount-append : (a b : List Bool) → markCount (a ++ b) ≡ markCount a + markCount b
 markCount-append [] b = omega arith
 markCount-append (true ∷ a) b = let h = markCount-append a b in omega arith
 markCount-append (false ∷ a) b = markCount-append a b
 
-module _ (ms : List ℕ) (i k : ℕ) (inside : i < length ms) (e : k ≡ marked i ms) where
-  marked-suc : marked (i + 1) ms ≡ marked i ms + markCount (not (eqb (getD ms i 0) 0) ∷ [])
-  marked-suc = rw (add-one i, take-suc ms i 0 inside, marksOf-append, markCount-append)
+module _ (ms : List ℕ) (i k : ℕ) (inside : i < length ms) (e : k ≡ markCount (take i (marksOf ms))) where
+  count-next : markCount (take (i + 1) (marksOf ms)) ≡ markCount (take i (marksOf ms)) + markCount (not (eqb (getD ms i 0) 0) ∷ [])
+  count-next = let h : i < length (marksOf ms) = omega (arith, marks-length ms) in rw (add-one i, take-suc (marksOf ms) i false h, markCount-append, mark-at ms i)
 
-  pub marked-more : (getD ms i 0 ≡ 0 → ⊥) → k + 1 ≡ marked (i + 1) ms
-  marked-more z = omega (arith, e, rw (ne-eqb (getD ms i 0) 0 z) at marked-suc)
+  pub count-more : (getD ms i 0 ≡ 0 → ⊥) → k + 1 ≡ markCount (take (i + 1) (marksOf ms))
+  count-more z = omega (arith, e, rw (ne-eqb (getD ms i 0) 0 z) at count-next)
 
-  pub marked-same : getD ms i 0 ≡ 0 → k ≡ marked (i + 1) ms
-  marked-same z = omega (arith, e, rw (eq-eqb (getD ms i 0) 0 z) at marked-suc)
+  pub count-same : getD ms i 0 ≡ 0 → k ≡ markCount (take (i + 1) (marksOf ms))
+  count-same z = omega (arith, e, rw (eq-eqb (getD ms i 0) 0 z) at count-next)
 
 pub each-length : {A : Type 0} (f : ℕ → A) (i n : ℕ) → length (eachFrom f i n) ≡ n
 unfolding eachFrom

@@ -3,7 +3,6 @@ use Prim.Native.Nat.{ℕ, zero, suc}
 use mathlib.Core.Bool.{Bool, true, false, not, cond}
 use mathlib.Core.List.{List, [], _∷_}
 use lib.Dec.{eqb}
-use lib.ListN.{take}
 
 -- the byte that is written for a mark
 abbrev pub bit : Bool → ℕ
@@ -19,10 +18,6 @@ abbrev pub markCount : List Bool → ℕ
 markCount [] = 0
 markCount (true ∷ bs) = suc (markCount bs)
 markCount (false ∷ bs) = markCount bs
-
--- how many of the first n nodes are marked
-abbrev pub marked : ℕ → List ℕ → ℕ
-marked n ms = markCount (marksOf (take n ms))
 
 -- f at i, .., i + n - 1
 unfoldable pub eachFrom : {A : Type 0} → (ℕ → A) → ℕ → ℕ → List A

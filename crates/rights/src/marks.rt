@@ -3,8 +3,8 @@ ghost use mathlib.Core.Path.{_≡_};
 ghost use mathlib.Core.Bool.{Bool, not};
 ghost use Prim.Native.Nat.{_≤_};
 ghost use lib.Dec.{eqb};
-ghost use lib.ListN.{length};
-ghost use Rattle.rights.specs.Marks.{bit, marked};
+ghost use lib.ListN.{length, take};
+ghost use Rattle.rights.specs.Marks.{bit, marksOf, markCount};
 
 // The mark that stands for yes or no.
 pub fn mark_of(b: bool) -> u8
@@ -26,7 +26,7 @@ pub fn is_set(mark: u8) -> bool
 // How many of the first n nodes are marked.
 pub fn count_marks(marks: &[u8], n: usize) -> usize
     requires { ⌜ n ≤ length (now marks) ⌝ }
-    ensures { λ r. ⌜ (r ≡ marked n (now (marks .entry))) × (r ≤ n) ⌝ }
+    ensures { λ r. ⌜ (r ≡ markCount (take n (marksOf (now (marks .entry))))) × (r ≤ n) ⌝ }
 {
     let mut k = 0;
     let mut i = 0;

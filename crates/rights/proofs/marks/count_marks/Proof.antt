@@ -2,15 +2,16 @@
 use Prim.Native.Nat.{_≤_, _-_}
 use mathlib.Core.Path.{_≡_, _∙_}
 use mathlib.Core.Logic.{⊎-elim}
-use Rattle.rights.proofs.MarkLaws.{marked-more, marked-same}
+use Rattle.rights.proofs.MarkLaws.{count-more, count-same}
 use native.Mathlib.Omega.{arith}
 use borrow.Author.Needs.{needs}
 use Rattle.rights.proofs.marks.count_marks.Statement.{statement}
 use Rattle.rights.proofs.marks.count_marks.Tie as tie
-use Rattle.rights.specs.Marks.{marked}
+use lib.ListN.{take}
+use Rattle.rights.specs.Marks.{marksOf, markCount}
 
 abbrev Inv-loop : tie.InvT-loop
-Inv-loop marks n k₀ i₀ k i = (i ≤ n) × (k ≡ marked i marks) × (k ≤ i)
+Inv-loop marks n k₀ i₀ k i = (i ≤ n) × (k ≡ markCount (take i (marksOf marks))) × (k ≤ i)
 
 abbrev μ-loop : tie.MeasureT-loop
 μ-loop marks n k₀ i₀ k i = n - i
@@ -21,8 +22,8 @@ loop-again c =
     let a = start .args in
     let l = at-loop .loop in (
       search needs,
-      ⊎-elim (λ x. x .1 ∙ marked-more (a .marks .now) (l .i) (l .k) (omega arith) (l .inv .1) (x .0 .taken))
-          (λ x. x .1 ∙ marked-same (a .marks .now) (l .i) (l .k) (omega arith) (l .inv .1) (x .0 .left)) (c .if1 .came),
+      ⊎-elim (λ x. x .1 ∙ count-more (a .marks .now) (l .i) (l .k) (omega arith) (l .inv .1) (x .0 .taken))
+          (λ x. x .1 ∙ count-same (a .marks .now) (l .i) (l .k) (omega arith) (l .inv .1) (x .0 .left)) (c .if1 .came),
       ⊎-elim (λ x. omega arith) (λ x. omega arith) (c .if1 .came),
     )
 
