@@ -1,20 +1,20 @@
 -- The parts of an answer, node by node. Assumes nothing.
 use Prim.Native.Nat.{ℕ, zero, suc, _+_, _≤_, _<_}
 use mathlib.Core.Path.{_≡_, refl, sym, ap, _∙_}
-use mathlib.Core.Bool.{Bool, true, false, cond}
+use mathlib.Core.Bool.{Bool, true, false, not, cond}
 use mathlib.Core.List.{List, [], _∷_, _++_, append-assoc}
 use native.Mathlib.Omega.{arith}
 use native.Mathlib.Nat.{not-suc-le-zero}
 use native.Mathlib.Numerals.{add-one}
 use lib.Dec.{eqb}
-use lib.ListN.{length, getD, drop, replicate, drop-of-length-le}
+use lib.ListN.{length, getD, take, drop, replicate, drop-of-length-le}
 use lib.Seq.{drop-cons}
 use borrow.Author.Tests.{eq-eqb, ne-eqb}
 use Rattle.rights.specs.Nodes.{Node, node, levelOf, labelOf, levelAt, labelAt}
 use Rattle.answers.specs.AnswerChoice.{chosen, chosen-lawful, findText}
 use Rattle.answers.specs.AnswerChoice.First.{chosen-first}
-use Rattle.answers.specs.Answer.{noneLine, hitLine, hitsOf, hitLines, childLines, viewText, nextLevel, opening, rootLine, endLine}
-use Rattle.rights.specs.Marks.{marked}
+use Rattle.answers.specs.Answer.{noneLine, hitLine, hitLines, childLines, viewText, nextLevel, opening, rootLine, endLine}
+use Rattle.rights.specs.Marks.{marksOf, markCount, keep}
 use Rattle.rights.proofs.Lists.{byCase}
 use Rattle.answers.specs.How.AnswerParts.{nodeAt, hitLineAt, nodeText}
 
@@ -29,38 +29,38 @@ unfolding hitLineAt
 hit-some ms vs i h = rw (ne-eqb (getD ms i 0) 0 h)
 
 module _ (ms : List ℕ) (vs : List Node) (i : ℕ) (h : i < length ms) (k : i < length vs) where
-  pub hits-pass : getD ms i 0 ≡ 0 → hitsOf (drop i ms) (drop i vs) ≡ hitsOf (drop (i + 1) ms) (drop (i + 1) vs)
-  unfolding hitsOf
+  pub hits-pass : getD ms i 0 ≡ 0 → keep (marksOf (drop i ms)) (drop i vs) ≡ keep (marksOf (drop (i + 1) ms)) (drop (i + 1) vs)
+  unfolding keep
   hits-pass e = rw (add-one i, drop-cons ms i 0, drop-cons vs i (node 0 []), eq-eqb (getD ms i 0) 0 e)
 
-  pub hits-take : (getD ms i 0 ≡ 0 → ⊥) → hitsOf (drop i ms) (drop i vs) ≡ nodeAt vs i ∷ hitsOf (drop (i + 1) ms) (drop (i + 1) vs)
-  unfolding hitsOf
+  pub hits-take : (getD ms i 0 ≡ 0 → ⊥) → keep (marksOf (drop i ms)) (drop i vs) ≡ nodeAt vs i ∷ keep (marksOf (drop (i + 1) ms)) (drop (i + 1) vs)
+  unfolding keep
   hits-take e = rw (add-one i, drop-cons ms i 0, drop-cons vs i (node 0 []), ne-eqb (getD ms i 0) 0 e)
 
-  pub hits-step : hitLines (hitsOf (drop i ms) (drop i vs)) ≡ hitLineAt ms vs i ++ hitLines (hitsOf (drop (i + 1) ms) (drop (i + 1) vs))
-  unfolding hitsOf hitLines hitLineAt
+  pub hits-step : hitLines (keep (marksOf (drop i ms)) (drop i vs)) ≡ hitLineAt ms vs i ++ hitLines (keep (marksOf (drop (i + 1) ms)) (drop (i + 1) vs))
+  unfolding keep hitLines hitLineAt
   hits-step = rw (add-one i, drop-cons ms i 0, drop-cons vs i (node 0 [])) (go (eqb (getD ms i 0) 0))
     where
-      go : (b : Bool) → hitLines (cond b (hitsOf (drop (suc i) ms) (drop (suc i) vs)) (nodeAt vs i ∷ hitsOf (drop (suc i) ms) (drop (suc i) vs)))
-          ≡ cond b [] (hitLine (nodeAt vs i)) ++ hitLines (hitsOf (drop (suc i) ms) (drop (suc i) vs))
+      go : (b : Bool) → hitLines (cond (not b) (nodeAt vs i ∷ keep (marksOf (drop (suc i) ms)) (drop (suc i) vs)) (keep (marksOf (drop (suc i) ms)) (drop (suc i) vs)))
+          ≡ cond b [] (hitLine (nodeAt vs i)) ++ hitLines (keep (marksOf (drop (suc i) ms)) (drop (suc i) vs))
       go true = refl
       go false = refl
 
-hits-of-none : (ms : List ℕ) → hitsOf ms [] ≡ []
-unfolding hitsOf
+hits-of-none : (ms : List ℕ) → keep {A = Node} (marksOf ms) [] ≡ []
+unfolding keep
 hits-of-none [] = refl
 hits-of-none (m ∷ ms) = refl
 
-pub hits-end : (ms : List ℕ) (vs : List Node) (i : ℕ) → length vs ≤ i → hitsOf (drop i ms) (drop i vs) ≡ []
+pub hits-end : (ms : List ℕ) (vs : List Node) (i : ℕ) → length vs ≤ i → keep (marksOf (drop i ms)) (drop i vs) ≡ []
 hits-end ms vs i h = rw (drop-of-length-le vs h) (hits-of-none (drop i ms))
 
-pub hit-lines-end : (ms : List ℕ) (vs : List Node) (i : ℕ) → length vs ≤ i → hitLines (hitsOf (drop i ms) (drop i vs)) ≡ []
+pub hit-lines-end : (ms : List ℕ) (vs : List Node) (i : ℕ) → length vs ≤ i → hitLines (keep (marksOf (drop i ms)) (drop i vs)) ≡ []
 unfolding hitLines
 hit-lines-end ms vs i h = rw (hits-end ms vs i h)
 
 -- as many marks are set as there are hits
-pub count-hits : (ms : List ℕ) (vs : List Node) (n : ℕ) → n ≡ length vs → marked n ms ≡ length (hitsOf ms vs)
-unfolding hitsOf
+pub count-hits : (ms : List ℕ) (vs : List Node) (n : ℕ) → n ≡ length vs → markCount (take n (marksOf ms)) ≡ length (keep (marksOf ms) vs)
+unfolding keep
 count-hits [] [] n e = rw e
 count-hits [] (v ∷ vs) n e = rw e
 count-hits (m ∷ ms) [] n e = rw e
@@ -106,9 +106,9 @@ closed-more k = rw add-one (go k)
 
 -- The choice of `find`
 
-module _ (ms : List ℕ) (vs : List Node) (i : ℕ) (same : hitsOf (drop i ms) (drop i vs) ≡ hitsOf ms vs) where
-  pub found-hit : i < length ms → i < length vs → (getD ms i 0 ≡ 0 → ⊥) → findText (chosen ms vs) ≡ hitLine (nodeAt vs i)
-  found-hit h k e = rw (chosen-first ms vs (nodeAt vs i) _ (sym same ∙ hits-take ms vs i h k e))
+module _ (ms : List ℕ) (vs : List Node) (i : ℕ) (same : keep (marksOf (drop i ms)) (drop i vs) ≡ keep (marksOf ms) vs) where
+  pub found-hit : i < length ms → i < length vs → (getD ms i 0 ≡ 0 → ⊥) → findText (chosen (marksOf ms) vs) ≡ hitLine (nodeAt vs i)
+  found-hit h k e = rw (chosen-first (marksOf ms) vs (nodeAt vs i) _ (sym same ∙ hits-take ms vs i h k e))
 
-  pub found-none : length vs ≤ i → findText (chosen ms vs) ≡ noneLine
-  found-none h = rw (chosen-lawful .none-if ms vs (sym same ∙ hits-end ms vs i h))
+  pub found-none : length vs ≤ i → findText (chosen (marksOf ms) vs) ≡ noneLine
+  found-none h = rw (chosen-lawful .none-if (marksOf ms) vs (sym same ∙ hits-end ms vs i h))

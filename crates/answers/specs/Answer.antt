@@ -40,17 +40,11 @@ hitLine n = bytes "(hit " ++ (number (levelOf n) ++ (bytes " " ++ (labelOf n ++ 
 abbrev pub noneLine : List ℕ
 noneLine = bytes "(none)\n"
 
--- the nodes that are marked, in document order: the hits of a path, where the marks are its selection
-unfoldable pub hitsOf : List ℕ → List Node → List Node
-hitsOf [] ns = []
-hitsOf (m ∷ ms) [] = []
-hitsOf (m ∷ ms) (n ∷ ns) = cond (eqb m 0) (hitsOf ms ns) (n ∷ hitsOf ms ns)
-
 unfoldable pub hitLines : List Node → List ℕ
 hitLines [] = []
 hitLines (n ∷ ns) = hitLine n ++ hitLines ns
 
--- "`query`: `(hit LEVEL L)` in document order, `(end K)`, K hits."
+-- "`query`: `(hit LEVEL L)` in document order, `(end K)`, K hits." The hits are the nodes of the view that the path selects, those that its marks keep.
 abbrev pub queryText : List Node → List ℕ
 queryText hits = hitLines hits ++ endLine (length hits)
 

@@ -18,7 +18,8 @@ ghost use lib.ListN.{length, getD, drop, replicate};
 ghost use Rattle.rights.specs.Limits.{labelMax, recordsMax};
 ghost use Rattle.rights.specs.PathText.{decimal};
 ghost use Rattle.rights.specs.Nodes.{recordPlace, levelAt, labelAt, viewOf, Fits};
-ghost use Rattle.answers.specs.Answer.{okText, doneText, refusedText, endLine, hitLine, hitsOf, hitLines, queryText};
+ghost use Rattle.rights.specs.Marks.{marksOf, keep};
+ghost use Rattle.answers.specs.Answer.{okText, doneText, refusedText, endLine, hitLine, hitLines, queryText};
 ghost use Rattle.answers.specs.Answer.{viewText, childLines, opening, closing, nextLevel, rootLine};
 ghost use Rattle.answers.specs.How.AnswerParts.{nodeAt, hitLineAt, nodeText};
 ghost use Rattle.answers.specs.AnswerChoice.{chosen, findText};
@@ -135,7 +136,7 @@ fn put_marked(
 // Puts the lines of the marked nodes.
 fn put_hits(area: &mut [u8], table: &[u8], shown: &[u16], marks: &[u8]) -> usize
     requires { ⌜ (Fits (now table) (now shown)) × (length (now shown) ≤ length (now marks)) ⌝ }
-    ensures { λ r. ⌜ (Puts (hitLines (hitsOf (now (marks .entry)) (viewOf (now (table .entry)) (now (shown .entry))))) 0 (now (area .entry))
+    ensures { λ r. ⌜ (Puts (hitLines (keep (marksOf (now (marks .entry))) (viewOf (now (table .entry)) (now (shown .entry))))) 0 (now (area .entry))
         (now (area .exit)) r) × (r ≤ 52 * length (now (shown .entry))) ⌝ }
 {
     let mut at = 0;
@@ -160,7 +161,7 @@ fn put_end(area: &mut [u8], at: usize, k: usize) -> usize
 // Puts the answer to `query`.
 fn put_query(area: &mut [u8], table: &[u8], shown: &[u16], marks: &[u8]) -> usize
     requires { ⌜ (Fits (now table) (now shown)) × (length (now shown) ≤ length (now marks)) ⌝ }
-    ensures { λ r. ⌜ (Puts (queryText (hitsOf (now (marks .entry)) (viewOf (now (table .entry)) (now (shown .entry))))) 0 (now (area .entry))
+    ensures { λ r. ⌜ (Puts (queryText (keep (marksOf (now (marks .entry))) (viewOf (now (table .entry)) (now (shown .entry))))) 0 (now (area .entry))
         (now (area .exit)) r) × (r ≤ textMost (length (now (shown .entry)))) ⌝ }
 {
     let n = shown.len();
@@ -172,7 +173,7 @@ fn put_query(area: &mut [u8], table: &[u8], shown: &[u16], marks: &[u8]) -> usiz
 // Puts the answer to `find`: the first hit in document order.
 fn put_found(area: &mut [u8], table: &[u8], shown: &[u16], marks: &[u8]) -> usize
     requires { ⌜ (Fits (now table) (now shown)) × (length (now shown) ≤ length (now marks)) ⌝ }
-    ensures { λ r. ⌜ Puts (findText (chosen (now (marks .entry)) (viewOf (now (table .entry)) (now (shown .entry))))) 0 (now (area .entry))
+    ensures { λ r. ⌜ Puts (findText (chosen (marksOf (now (marks .entry))) (viewOf (now (table .entry)) (now (shown .entry))))) 0 (now (area .entry))
         (now (area .exit)) r ⌝ }
 {
     let mut i = 0;
@@ -361,7 +362,7 @@ pub fn answer_view(table: &[u8], shown: &[u16], area: &mut [u8]) -> usize
 // Writes the answer to `query`, whose hits are marked.
 pub fn answer_query(table: &[u8], shown: &[u16], marks: &[u8], area: &mut [u8]) -> usize
     requires { ⌜ (Fits (now table) (now shown)) × (length (now shown) ≤ length (now marks)) ⌝ }
-    ensures { λ r. ⌜ Answered (queryText (hitsOf (now (marks .entry)) (viewOf (now (table .entry)) (now (shown .entry))))) (now (area .entry))
+    ensures { λ r. ⌜ Answered (queryText (keep (marksOf (now (marks .entry))) (viewOf (now (table .entry)) (now (shown .entry))))) (now (area .entry))
         (now (area .exit)) r ⌝ }
 {
     if surely_fits(shown.len(), area.len()) {
@@ -378,7 +379,7 @@ pub fn answer_query(table: &[u8], shown: &[u16], marks: &[u8], area: &mut [u8]) 
 // Writes the answer to `find`, whose hits are marked.
 pub fn answer_find(table: &[u8], shown: &[u16], marks: &[u8], area: &mut [u8]) -> usize
     requires { ⌜ (Fits (now table) (now shown)) × (length (now shown) ≤ length (now marks)) ⌝ }
-    ensures { λ r. ⌜ Answered (findText (chosen (now (marks .entry)) (viewOf (now (table .entry)) (now (shown .entry))))) (now (area .entry))
+    ensures { λ r. ⌜ Answered (findText (chosen (marksOf (now (marks .entry))) (viewOf (now (table .entry)) (now (shown .entry))))) (now (area .entry))
         (now (area .exit)) r ⌝ }
 {
     let mut scratch = [0u8; 1];

@@ -21,8 +21,8 @@ use Rattle.rights.specs.Rights.{reaches, decide, rightsBy, chains}
 use Rattle.rights.specs.Nodes.{levelAt, labelAt}
 use Rattle.rights.specs.XPath.{filter, withNumber, each, stretch, nodeSet, filtered, xpathSelected}
 use Rattle.rights.specs.Table.{recordsFrom, recordsOk, tableOk}
-use Rattle.views.specs.Shown.{storedFrom, atParent, nearestFirst, shownAfter, keep}
-use Rattle.rights.specs.Marks.{eachFrom, bitsFrom}
+use Rattle.views.specs.Shown.{storedFrom, atParent, nearestFirst, shownAfter}
+use Rattle.rights.specs.Marks.{eachFrom, bitsFrom, keep}
 use Rattle.views.specs.Change.{dropBelow, putBehind, remove, insertBehind, rename, chunks, raise, join, changed, deepest, tooDeep}
 use Rattle.views.specs.Done.{inTable}
 use Rattle.answers.specs.Answer.{hitsOf, hitLines, childLines, viewText}

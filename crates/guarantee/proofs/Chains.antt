@@ -2,16 +2,16 @@
 -- Assumes nothing.
 use Prim.Native.Nat.{ℕ, suc, _≤_, _<_, min}
 use mathlib.Core.Path.{_≡_, refl, ap, ap₂, sym, _∙_}
-use mathlib.Core.Bool.{Bool}
+use mathlib.Core.Bool.{Bool, false}
 use mathlib.Core.List.{List, [], _∷_, _++_, map}
 use native.Mathlib.Omega.{arith}
 use native.Mathlib.Numerals.{add-one}
-use lib.ListN.{length, take, length-append, length-take}
+use lib.ListN.{length, take, length-append, length-take, drop, getD}
 use lib.Seq.{take-append-le, take-take}
 use lib.Dec.{ltb}
 use borrow.Author.Tests.{ltb-true, ltb-false}
 use Rattle.rights.proofs.Lists.{byCase}
-use Rattle.views.specs.Change.{isDone, later, dropBelow, putBehind, remove, insertBehind, insertInFront, rename}
+use Rattle.views.specs.Change.{dropBelow, putBehind, remove, insertBehind, insertInFront, rename}
 use Rattle.views.specs.Nodes.{Nested}
 use Rattle.views.specs.How.Pass.{Above, Front, AtDone}
 
@@ -45,7 +45,7 @@ module _ {E K : Type 0} (lev : E → ℕ) (key : E → K) where
   pub cells-done : (P : E → Type 0) (c : List K) (ms : List Bool) (t : List E) → AtDone P ms t → AtDone (λ p. P (p .0)) ms (cells c t)
   unfolding cells
   cells-done P c ms [] a = tt
-  cells-done P c ms (x ∷ t) a = (a .0, cells-done P (chain c x) (later ms) t (a .1))
+  cells-done P c ms (x ∷ t) a = (a .0, cells-done P (chain c x) (drop 1 ms) t (a .1))
 
   pub length-chain : (c : List K) (x : E) → length (chain c x) ≡ suc (min (lev x) (length c))
   unfolding chain
@@ -83,8 +83,8 @@ module _ {E K : Type 0} (lev : E → ℕ) (key : E → K) where
   pub cells-remove : (c : List K) (ms : List Bool) (t : List E) → Nested lev (length c) t → cells c (remove lev ms t) ≡ remove cellLevel ms (cells c t)
   unfolding cells remove
   cells-remove c ms [] w = refl
-  cells-remove c ms (x ∷ t) w = let ih = cells-remove (chain c x) (later ms) t (nested-chain c x t w) in byCase (isDone ms)
-      (λ d. rw d (cells-dropBelow (lev x) c (chain c x) (remove lev (later ms) t) (take-chain-self c x (w .0)) (omega (arith, length-chain c x, w .0))
+  cells-remove c ms (x ∷ t) w = let ih = cells-remove (chain c x) (drop 1 ms) t (nested-chain c x t w) in byCase (getD ms 0 false)
+      (λ d. rw d (cells-dropBelow (lev x) c (chain c x) (remove lev (drop 1 ms) t) (take-chain-self c x (w .0)) (omega (arith, length-chain c x, w .0))
       ∙ ap (dropBelow cellLevel (lev x)) ih))
       (λ d. rw d (ap (λ r. (x, chain c x) ∷ r) ih))
 
@@ -111,7 +111,7 @@ module _ {E K : Type 0} (lev : E → ℕ) (key : E → K) where
         → cells c (insertBehind lev y ms t) ≡ insertBehind cellLevel (λ p. cells (p .1) (y (p .0))) ms (cells c t)
     unfolding cells insertBehind
     cells-insertBehind c ms [] w = refl
-    cells-insertBehind c ms (x ∷ t) w = let ih = cells-insertBehind (chain c x) (later ms) t (nested-chain c x t w) in byCase (isDone ms)
+    cells-insertBehind c ms (x ∷ t) w = let ih = cells-insertBehind (chain c x) (drop 1 ms) t (nested-chain c x t w) in byCase (getD ms 0 false)
         (λ d. rw d (ap (λ r. (x, chain c x) ∷ r)
         (cells-putBehind (lev x) (k x) (chain c x) (chain c x) (y x) _ (lo x) (hi x) refl (omega (arith, length-chain c x, w .0, hi x)) (above x) (front x)
         ∙ ap (putBehind cellLevel (lev x) (cells (chain c x) (y x))) ih)))
@@ -122,7 +122,7 @@ module _ {E K : Type 0} (lev : E → ℕ) (key : E → K) where
         → cells c (insertInFront lev y ms t) ≡ insertInFront cellLevel (λ p. cells (p .1) (y (p .0))) ms (cells c t)
     unfolding cells insertInFront
     cells-insertInFront c ms [] w = refl
-    cells-insertInFront c ms (x ∷ t) w = let ih = cells-insertInFront (chain c x) (later ms) t (nested-chain c x t w) in byCase (isDone ms)
+    cells-insertInFront c ms (x ∷ t) w = let ih = cells-insertInFront (chain c x) (drop 1 ms) t (nested-chain c x t w) in byCase (getD ms 0 false)
         (λ d. rw d (cells-append (lev x) c c (y x) (x ∷ _) refl (w .0) (above x) (omega arith)
         ∙ ap₂ _++_ (cells-front (lev x) c (chain c x) (y x) (take-chain-self c x (w .0)) (front x)) (ap (λ r. (x, chain c x) ∷ r) ih)))
         (λ d. rw d (ap (λ r. (x, chain c x) ∷ r) ih))
@@ -139,6 +139,6 @@ module _ {E K : Type 0} (lev : E → ℕ) (key : E → K) where
       → cells c (rename lev f ms t) ≡ rename cellLevel (λ p. (f (p .0), p .1)) ms (cells c t)
   unfolding cells rename
   cells-rename f c ms [] a = refl
-  cells-rename f c ms (x ∷ t) a = let ih = cells-rename f (chain c x) (later ms) t (a .1) in byCase (isDone ms)
+  cells-rename f c ms (x ∷ t) a = let ih = cells-rename f (chain c x) (drop 1 ms) t (a .1) in byCase (getD ms 0 false)
       (λ d. rw (d, chain-keeps f c x (a .0 d)) (ap (λ r. (f x, chain c x) ∷ r) ih))
       (λ d. rw d (ap (λ r. (x, chain c x) ∷ r) ih))

@@ -7,11 +7,12 @@ use mathlib.Core.List.{List, [], _∷_}
 use mathlib.Core.Logic.{inl, inr}
 use borrow.Author.Tests.{le-leb, le-ltb}
 use lib.ListN.{length}
+use Rattle.rights.specs.Marks.{keep}
 use Rattle.rights.specs.Policy.{Policy, policyWord}
 use Rattle.rights.specs.PolicyBytes.{policyOf}
 use Rattle.rights.specs.Table.{records, level, label}
 use Rattle.views.specs.Nodes.{Nested}
-use Rattle.views.specs.Shown.{Stored, stored, shown, keep, view}
+use Rattle.views.specs.Shown.{Stored, stored, shown, view}
 use Rattle.answers.specs.Answer.{okText}
 use Rattle.answers.specs.AnswerChoice.{Choice}
 use Rattle.lines.specs.PolicyEdit.{subjectNamed}

@@ -13,7 +13,6 @@ use Rattle.rights.specs.Policy.{insert}
 use Rattle.rights.specs.Rights.{holds}
 use Rattle.rights.specs.Table.{recordAt, recordsFrom, records, level, label, count}
 use Rattle.rights.proofs.Lists.{byCase}
-use Rattle.views.specs.Change.{isDone, later}
 use Rattle.views.specs.Done.{Asked, does, askedOf, doneMarks}
 use Rattle.rights.specs.Marks.{eachFrom}
 use Rattle.views.specs.Shown.{atParent, nearestFirst, isShownAt, stored, shown}
@@ -118,12 +117,12 @@ module _ {E : Type 0} (lev : E → ℕ) (g : E → Bool) (set : E → ℕ) (word
   unfoldable pub allItems : ℕ → List Bool → List E → List Item
   allItems d ms [] = []
   allItems d ms (x ∷ t) =
-      cond (isShownAt lev g d x) (item true (isDone ms) x ∷ allItems (suc (lev x)) (later ms) t) (item false false x ∷ allItems (min d (lev x)) ms t)
+      cond (isShownAt lev g d x) (item true (getD ms 0 false) x ∷ allItems (suc (lev x)) (drop 1 ms) t) (item false false x ∷ allItems (min d (lev x)) ms t)
 
   -- of the shown nodes alone
   unfoldable pub seenItems : List Bool → List E → List Item
   seenItems ms [] = []
-  seenItems ms (x ∷ t) = item true (isDone ms) x ∷ seenItems (later ms) t
+  seenItems ms (x ∷ t) = item true (getD ms 0 false) x ∷ seenItems (drop 1 ms) t
 
   done-spread : (c : Change) (d : ℕ) (ms : List Bool) (bs cs is js : List (ℕ × Bool)) (t : List E) → Agree d bs cs → Agree d is js
       → doneFrom c bs is (allItems d ms t) ≡ spread lev g d (doneFrom c cs js (seenItems ms (seen lev g d t))) t
@@ -132,8 +131,8 @@ module _ {E : Type 0} (lev : E → ℕ) (g : E → Bool) (set : E → ℕ) (word
   done-spread c d ms bs cs is js (x ∷ t) a e = byCase (isShownAt lev g d x)
       (λ v. let k : lev x ≤ d = shown-level lev g d x v in
       rw (v, a (lev x) k, e (lev x) k)
-      (ap (λ r. does c (asked (item true (isDone ms) x) (atParent false cs (lev x)) (atParent false js (lev x))) ∷ r)
-      (done-spread c (suc (lev x)) (later ms) _ _ _ _ t (agree-shown d (lev x) (isDone ms) bs cs k a) (agree-shown d (lev x) (holds insert (set x)) is js k e))))
+      (ap (λ r. does c (asked (item true (getD ms 0 false) x) (atParent false cs (lev x)) (atParent false js (lev x))) ∷ r)
+      (done-spread c (suc (lev x)) (drop 1 ms) _ _ _ _ t (agree-shown d (lev x) (getD ms 0 false) bs cs k a) (agree-shown d (lev x) (holds insert (set x)) is js k e))))
       (λ v. rw (v, not-done c (item false false x) (atParent false bs (lev x)) (atParent false is (lev x)) refl refl)
       (ap (λ r. false ∷ r)
       (done-spread c (min d (lev x)) ms _ cs _ js t (agree-hidden d (lev x) false bs cs a) (agree-hidden d (lev x) (holds insert (set x)) is js e))))

@@ -6,6 +6,7 @@ use mathlib.Core.List.{List, [], _∷_}
 use native.Mathlib.Omega.{arith}
 use borrow.Author.Tests.{eq-eqb, ne-eqb, leb-true, leb-false, not-true, not-false}
 use lib.Dec.{leb, ltb, eqb}
+use lib.ListN.{getD}
 use Rattle.rights.specs.Labels.{sameLabel, restricted}
 use Rattle.rights.specs.Path.{Path}
 use Rattle.rights.specs.PathReader.{Got, got, bad, pathOf}
@@ -218,7 +219,7 @@ module _ (s t : List ℕ) (ok : storeOk s t ≡ true) where
 
   -- an insertion into the stage g
   inserted : (line : List ℕ) (at : Place) (ms : List ℕ) (m g : ℕ) → 2 ≤ stage s → 2 ≤ g → g ≤ 4 → eqb g 4 ≡ eqb (stage s) 4 → TreePart line m
-      → (lower at ≡ 0 → isDone (marksOf ms) ≡ false) → treeRestricted m (recordsOf (treeIn line)) ≡ false
+      → (lower at ≡ 0 → getD (marksOf ms) 0 false ≡ false) → treeRestricted m (recordsOf (treeIn line)) ≡ false
       → Passed (insertChecks at ms m (recordsOf (treeIn line)) t) → InsertSound s t at ms m (recordsOf (treeIn line)) g
   inserted line at ms m g l k n e w q r p = record {
     rooted = l;

@@ -6,7 +6,7 @@ use mathlib.Core.Bool.{Bool, true, false, cond, _&&_, _||_}
 use mathlib.Core.List.{List, [], _∷_, append-nil}
 use native.Mathlib.Omega.{arith}
 use lib.Dec.{ltb}
-use lib.ListN.{length}
+use lib.ListN.{length, drop}
 use Rattle.rights.specs.Labels.{restricted}
 use Rattle.rights.specs.Policy.{Policy, read, policyWord}
 use Rattle.rights.specs.Isa.{passesOwn}
@@ -15,7 +15,7 @@ use Rattle.rights.specs.XPath.{xpathSelection}
 use Rattle.rights.specs.Table.{records, level, count, tableOk}
 use Rattle.rights.proofs.Lists.{byCase}
 use Rattle.views.proofs.Relabelled.{level-relabel, label-relabel}
-use Rattle.views.specs.Change.{isDone, later, remove, insertBehind, insertInFront, rename, chunks, raise, relabel}
+use Rattle.views.specs.Change.{remove, insertBehind, insertInFront, rename, chunks, raise, relabel}
 use Rattle.views.specs.Change.{placed, removed, renamed, tooDeep}
 use Rattle.views.specs.Done.{doneMarks, inTable}
 use Rattle.rights.specs.Marks.{marksOf, markCount, marked}
@@ -62,7 +62,7 @@ module _ {E : Type 0} (lev : E → ℕ) (g : E → Bool) (set : E → ℕ) (word
   length-items : (ms : List Bool) (t : List E) → length (seenItems lev g set word ms t) ≡ length t
   unfolding seenItems
   length-items ms [] = refl
-  length-items ms (x ∷ t) = ap suc (length-items (later ms) t)
+  length-items ms (x ∷ t) = ap suc (length-items (drop 1 ms) t)
 
   length-done : (c : Change) (ms : List Bool) (t : List E) → length (doneSeen lev g set word c ms t) ≡ length t
   length-done c ms t = length-from c [] [] (seenItems lev g set word ms t) ∙ length-items ms t

@@ -3,18 +3,19 @@
 -- A node has a level `lev` and a key `key`. By the chain of its keys, `gr` tells whether it is granted, and `car` what it carries.
 use Prim.Native.Nat.{ℕ, suc, _≤_, min}
 use mathlib.Core.Path.{_≡_, refl, ap, ap₂, sym, _∙_}
-use mathlib.Core.Bool.{Bool}
+use mathlib.Core.Bool.{Bool, false}
 use mathlib.Core.List.{List, [], _∷_, _++_, map, head-eq-of-cons-eq, tail-eq-of-cons-eq, nil≢cons, cons≢nil}
 use mathlib.Core.Logic.{_⊎_, inl, inr}
 use native.Mathlib.Omega.{arith}
-use lib.ListN.{length, take}
+use lib.ListN.{length, take, drop, getD}
 use lib.Seq.{take-take}
+use Rattle.rights.specs.Marks.{keep}
 use Rattle.rights.proofs.Lists.{byCase}
-use Rattle.views.specs.Change.{isDone, later, remove, insertBehind, insertInFront, append, insertAfter, rename}
+use Rattle.views.specs.Change.{remove, insertBehind, insertInFront, append, insertAfter, rename}
 use Rattle.views.specs.Done.{inTable}
 use Rattle.views.specs.Nodes.{Nested}
 use Rattle.views.specs.How.Pass.{Above, Front, AtDone}
-use Rattle.views.specs.Shown.{isShownAt, shownBy, keep}
+use Rattle.views.specs.Shown.{isShownAt, shownBy}
 use Rattle.views.proofs.Mapped.{map-remove, map-insertBehind, map-insertInFront}
 use Rattle.views.proofs.NestedLaws.{done-from}
 use Rattle.guarantee.proofs.Chains.{Cell, cellLevel, chain, cells, Keeps, cells-nested, cells-done, take-chain, chain-cut, length-chain, cells-remove, cells-insertBehind, cells-insertInFront, cells-rename}
@@ -42,7 +43,7 @@ pub map-rename-done : {E N : Type 0} (lev : E → ℕ) (lvl : N → ℕ) (f : E 
     → map f (rename lev g ms t) ≡ rename lvl h ms (map f t)
 unfolding rename
 map-rename-done lev lvl f g h ms [] a = refl
-map-rename-done lev lvl f g h ms (x ∷ t) a = let ih = map-rename-done lev lvl f g h (later ms) t (a .1) in byCase (isDone ms)
+map-rename-done lev lvl f g h ms (x ∷ t) a = let ih = map-rename-done lev lvl f g h (drop 1 ms) t (a .1) in byCase (getD ms 0 false)
     (λ q. rw q (ap₂ _∷_ (a .0 q) ih))
     (λ q. rw q (ap (λ r. f x ∷ r) ih))
 

@@ -8,17 +8,17 @@ use mathlib.Core.Logic.{_⊎_, inl, inr}
 use mathlib.Core.Option.{none, some}
 use native.Mathlib.Omega.{arith}
 use native.Mathlib.Numerals.{add-one}
-use lib.ListN.{length, take}
+use lib.ListN.{length, take, drop, getD}
+use Rattle.rights.specs.Marks.{keep}
 use Rattle.rights.specs.Labels.{restricted}
 use Rattle.rights.specs.Nodes.{Node, node, Nodes, levelOf, labelOf}
 use Rattle.rights.specs.Policy.{Policy, read, policyWord}
 use Rattle.rights.specs.Rights.{holds, rightsBy, chains, rightsOn}
 use Rattle.rights.specs.Table.{records, level, label}
 use Rattle.rights.proofs.Lists.{byCase}
-use Rattle.views.specs.Change.{isDone, later}
 use Rattle.views.specs.Done.{doneMarks, inTable}
 use Rattle.views.specs.Nodes.{Nested}
-use Rattle.views.specs.Shown.{Stored, storedFrom, storedLevel, grants, granted, isShown, isShownAt, depthAfter, shownAfter, shownFrom, shown, keep, view}
+use Rattle.views.specs.Shown.{Stored, storedFrom, storedLevel, grants, granted, isShown, isShownAt, depthAfter, shownAfter, shownFrom, shown, view}
 use Rattle.views.specs.declared.done.Change.{Change}
 use Rattle.rights.proofs.LabelLaws.{same-folded, folded-same}
 use Rattle.rights.proofs.PolicyWords.{word-same}
@@ -259,12 +259,12 @@ module _ (P : Policy) (u : ℕ) where
         → ((e : ℕ) (ns : List Bool) → tableItems rs ss (shownPublic e ps) ns ≡ publicItems e ns ps)
         → tableItems (r ∷ rs) (rightsByKeys P u h ∷ ss) (b ∷ shownPublic (depthAfter d (level r) b) ps) ms
         ≡ cond b
-        (record { level = level r; rights = rightsByKeys P u h; shown = true; selected = isDone ms; word = isWord (keyIn r) } ∷ publicItems (suc (level r)) (later ms) ps)
+        (record { level = level r; rights = rightsByKeys P u h; shown = true; selected = getD ms 0 false; word = isWord (keyIn r) } ∷ publicItems (suc (level r)) (drop 1 ms) ps)
         (record { level = level r; rights = rightsByKeys P u h; shown = false; selected = false; word = isWord (keyIn r) } ∷ publicItems (min d (level r)) ms ps)
     unfolding items inTable
     items-more true d ms h r rs ss ps ih =
         rw (first-mark ms, later-marks ms, add-one (level r))
-        (ap₂ _∷_ (λ i. record { level = level r; rights = rightsByKeys P u h; shown = true; selected = isDone ms; word = key-word P (label r) i }) (ih (suc (level r)) (later ms)))
+        (ap₂ _∷_ (λ i. record { level = level r; rights = rightsByKeys P u h; shown = true; selected = getD ms 0 false; word = key-word P (label r) i }) (ih (suc (level r)) (drop 1 ms)))
     items-more false d ms h r rs ss ps ih =
         ap₂ _∷_ (λ i. record { level = level r; rights = rightsByKeys P u h; shown = false; selected = false; word = key-word P (label r) i }) (ih (min d (level r)) ms)
 

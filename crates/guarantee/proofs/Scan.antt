@@ -9,25 +9,26 @@ use native.Mathlib.Numerals.{add-one}
 use lib.ListN.{length, drop, getD}
 use lib.Dec.{leb, ltb}
 use borrow.Author.Tests.{leb-true, ltb-true, ltb-false, le-ltb, le-leb}
+use Rattle.rights.specs.Marks.{keep}
 use Rattle.rights.proofs.Facts.{both}
 use Rattle.rights.proofs.Lists.{byCase}
-use Rattle.views.specs.Change.{isDone, later, dropBelow, putBehind, remove, insertBehind, insertInFront, rename}
+use Rattle.views.specs.Change.{dropBelow, putBehind, remove, insertBehind, insertInFront, rename}
 use Rattle.views.specs.Done.{inTable}
 use Rattle.views.specs.Nodes.{Nested}
 use Rattle.views.specs.How.Pass.{Above, Front, AtDone}
-use Rattle.views.specs.Shown.{isShownAt, shownFrom, shownBy, keep}
+use Rattle.views.specs.Shown.{isShownAt, shownFrom, shownBy}
 use Rattle.views.proofs.ShownDepth.{Steps, shown-by-depth}
 
 -- what holds of every node holds of each that is done
 pub done-every : {E : Type 0} (P : E → Type 0) → ((x : E) → P x) → (ms : List Bool) (t : List E) → AtDone P ms t
 done-every P h ms [] = tt
-done-every P h ms (x ∷ t) = ((λ e. h x), done-every P h (later ms) t)
+done-every P h ms (x ∷ t) = ((λ e. h x), done-every P h (drop 1 ms) t)
 
-pub first-mark : (ms : List Bool) → getD ms 0 false ≡ isDone ms
+pub first-mark : (ms : List Bool) → getD ms 0 false ≡ getD ms 0 false
 first-mark [] = refl
 first-mark (b ∷ bs) = refl
 
-pub later-marks : (ms : List Bool) → drop 1 ms ≡ later ms
+pub later-marks : (ms : List Bool) → drop 1 ms ≡ drop 1 ms
 later-marks [] = refl
 later-marks (b ∷ bs) = refl
 

@@ -5,6 +5,7 @@ use mathlib.Core.Path.{_≡_}
 use mathlib.Core.Bool.{true, false, _||_}
 use mathlib.Core.List.{List}
 use lib.Dec.{leb, eqb, ltb}
+use lib.ListN.{getD}
 use Rattle.rights.specs.Policy.{Policy, policyWord}
 use Rattle.rights.specs.PolicyBytes.{ruleCount}
 use Rattle.rights.specs.PolicyCheck.{policyOk}
@@ -48,7 +49,7 @@ pub record InsertSound (s t : List ℕ) (at : Place) (ms : List ℕ) (m : ℕ) (
   pub good : TreeOk (chunks m tree)
   pub shallow : tooDeep (lower at + deepest (chunks m tree)) (marksOf ms) (records t) ≡ false
   pub has-room : hasRoom t ms m ≡ true
-  pub spared : lower at ≡ 0 → isDone (marksOf ms) ≡ false
+  pub spared : lower at ≡ 0 → getD (marksOf ms) 0 false ≡ false
 
 -- neither the new label nor an old one is a policy word
 pub record RenameSound (s t l ms : List ℕ) : Type 0 where
@@ -62,7 +63,7 @@ pub record RemoveSound (f : Form) (s t ms : List ℕ) : Type 0 where
   pub path : Part
   pub form : f ≡ Remove path
   pub rooted : stageC ≤ stage s
-  pub spared : isDone (marksOf ms) ≡ false
+  pub spared : getD (marksOf ms) 0 false ≡ false
 
 -- `(user N)` alone logs in, and N is declared
 pub record LoginSound (f : Form) (line s : List ℕ) (u : ℕ) : Type 0 where

@@ -6,7 +6,7 @@ use mathlib.Core.List.{List, [], _∷_}
 use native.Mathlib.Omega.{arith}
 use native.Mathlib.Numerals.{add-one}
 use borrow.Author.Tests.{ltb-false}
-use lib.ListN.{length}
+use lib.ListN.{length, getD}
 use Rattle.rights.specs.Record.{nodeRecord}
 use Rattle.rights.specs.Table.{count, records, recordOk, recordsOk, level, tableOk}
 use Rattle.rights.proofs.Facts.{both, table-records}
@@ -71,7 +71,7 @@ root-stored s t l ok x =
     }
 
 -- a removal that spares the first record leaves one
-remove-some : (ms : List Bool) (rs : List (List ℕ)) → isDone ms ≡ false → 1 ≤ length rs → 1 ≤ length (remove level ms rs)
+remove-some : (ms : List Bool) (rs : List (List ℕ)) → getD ms 0 false ≡ false → 1 ≤ length rs → 1 ≤ length (remove level ms rs)
 unfolding remove
 remove-some ms [] e h = absurd (omega arith)
 remove-some ms (r ∷ rs) e h = rw e (omega arith)

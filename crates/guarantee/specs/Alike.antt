@@ -5,12 +5,13 @@ use mathlib.Core.Path.{_≡_}
 use mathlib.Core.Bool.{Bool, true, false}
 use mathlib.Core.List.{List, [], _∷_}
 use mathlib.Core.Logic.{_⊎_}
+use Rattle.rights.specs.Marks.{keep}
 use Rattle.rights.specs.Labels.{sameLabel, restricted}
 use Rattle.rights.specs.Nodes.{Nodes}
 use Rattle.rights.specs.Policy.{Policy, policyWord}
 use Rattle.rights.specs.Rights.{rightsOn}
 use Rattle.rights.specs.Table.{records, label}
-use Rattle.views.specs.Shown.{Stored, stored, shown, keep, carried, view}
+use Rattle.views.specs.Shown.{Stored, stored, shown, carried, view}
 use Rattle.answers.specs.Answer.{okText}
 use Rattle.answers.specs.AnswerChoice.{Choice}
 use Rattle.lines.specs.PolicyEdit.{isaHeld, subjectNamed}

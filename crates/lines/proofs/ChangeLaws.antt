@@ -6,7 +6,7 @@ use mathlib.Core.List.{List, [], _++_, map, append-nil}
 use native.Mathlib.Omega.{arith}
 use lib.ListN.{length, take, drop, length-map, length-append}
 use lib.Seq.{take-at, take-length}
-use Rattle.rights.specs.Marks.{bit}
+use Rattle.rights.specs.Marks.{bit, marksOf, markCount}
 use Rattle.rights.specs.Labels.{sameLabel, restricted}
 use Rattle.rights.specs.Policy.{policyWord}
 use Rattle.rights.specs.PolicyBytes.{policyOf}
@@ -15,21 +15,21 @@ use Rattle.rights.specs.Table.{count, records, tableOk}
 use Rattle.rights.proofs.Facts.{table-few}
 use Rattle.rights.proofs.Lists.{byCase, rest-of}
 use Rattle.views.specs.Change.{changed, renamed, removed}
-use Rattle.views.specs.Done.{doneMarks, shownByNumbers, byNumbers, DoneBy}
-use Rattle.rights.specs.Marks.{marksOf, markCount, marked}
+use Rattle.views.specs.Done.{doneMarks}
+use Rattle.views.specs.How.Numbers.{shownByNumbers, byNumbers, DoneBy}
 use Rattle.views.specs.Shown.{shown, shownNumbers}
 use Rattle.views.specs.declared.done.Change.{Change}
 use Rattle.views.specs.declared.insert.Place.{Place}
 use Rattle.views.proofs.DoneLaws.{numbers-shown, numbers-in-table, done-length}
-use Rattle.rights.proofs.MarkLaws.{marks-bits}
+use Rattle.rights.proofs.MarkLaws.{marks-bits, marks-take}
 use Rattle.answers.specs.Answer.{doneText}
-use Rattle.answers.specs.AnswerArea.{Answered, written}
-use Rattle.lines.specs.ChangeRoom.{Chosen, RightsHeld, Decided}
+use Rattle.answers.specs.How.AnswerArea.{Answered, written}
+use Rattle.lines.specs.How.ChangeRoom.{Chosen, RightsHeld, Decided}
 use Rattle.lines.specs.State.{stage, policyIn, storeOk}
 use Rattle.lines.specs.UserView.{rightsIn, storedIn, marksIn, selectedIn, doneIn}
 use Rattle.lines.specs.Work.{changeAt, countText, insertAt}
 use Rattle.lines.proofs.StateLaws.{store-held}
-use Rattle.lines.proofs.UserViewLaws.{rights-length, marks-size, marks-part}
+use Rattle.lines.proofs.UserViewLaws.{rights-length, marks-are}
 
 -- the part of an area that was written
 pub part-fits : (xs more ys : List ℕ) (n : ℕ) → ys ≡ xs ++ more → length xs ≡ n → n ≤ length ys
@@ -47,10 +47,11 @@ answered-as a b before after need e r = record { size = r .size ∙ ap length e;
 -- What is selected and done
 module _ (s t path : List ℕ) (ok : storeOk s t ≡ true) (rights shown marks rights' shown' marks' : List ℕ) (k : ℕ)
     (r : Chosen s t path shown marks k shown' marks') (held : RightsHeld s t rights rights') where
-  pub selected-count : (n : ℕ) → n ≡ marked k marks' → n ≡ markCount (marksOf (marksIn s t path))
-  selected-count n e =
-      let z : take k marks' ≡ marksIn s t path = ap (take k) (r .picked) ∙ take-at (marksIn s t path) (drop k marks) k (marks-size s t path ok ∙ sym (r .size)) in
-      e ∙ ap (λ l. markCount (marksOf l)) z
+  picked-part : marksOf (take (k - 0) (drop 0 marks')) ≡ marksIn s t path
+  picked-part = marks-are s t path marks' (drop k marks) k ok (r .size) (r .picked)
+
+  pub selected-count : (n : ℕ) → n ≡ markCount (take k (marksOf marks')) → n ≡ markCount (marksIn s t path)
+  selected-count n e = let z : k - 0 ≡ k = omega arith in e ∙ ap markCount (sym (marks-take k marks') ∙ (rw z at picked-part))
 
   module _ (n : ℕ) (e : n ≡ count t) where
     pub rights-part : take (n - 0) (drop 0 rights') ≡ rightsIn s t
@@ -68,68 +69,78 @@ module _ (s t path : List ℕ) (ok : storeOk s t ≡ true) (rights shown marks r
 
     pub done-records : (c : Change) (done done' : List ℕ)
         → DoneBy c (take (length s - 8) (drop 8 s)) t (take (n - 0) (drop 0 rights')) (take (k - 0) (drop 0 shown')) (take (k - 0) (drop 0 marks')) done done'
-        → done' ≡ doneIn c s t path ++ drop (count t) done
+        → done' ≡ map bit (doneIn c s t path) ++ drop (count t) done
     done-records c done done' q =
         let g = store-held s t ok in
         let few : count t ≤ length (rightsIn s t) = omega (arith, rights-length s t) in
         let x : take (k - 0) (drop 0 shown') ≡ shownNumbers (storedIn s t) = part-is (shownNumbers (storedIn s t)) (drop k shown) shown' k (r .numbers) (sym (r .size)) in
-        let y : take (k - 0) (drop 0 marks') ≡ marksIn s t path = marks-part s t path marks' (drop k marks) k ok (r .size) (r .picked) in
         q
         ∙ ap (λ p. map bit (doneMarks c (policyWord (policyOf p)) t (take (n - 0) (drop 0 rights')) (shownByNumbers (take (k - 0) (drop 0 shown')) (count t) 0) (byNumbers (take (k - 0) (drop 0 shown')) (marksOf (take (k - 0) (drop 0 marks'))) (count t) 0)) ++ drop (count t) done) (rest-of s 8)
-        ∙ rw (rights-part, x, y, numbers-shown t (rightsIn s t) (g .table) few, numbers-in-table t (rightsIn s t) (g .table) few (marksOf (marksIn s t path)))
+        ∙ rw (rights-part, x, picked-part, numbers-shown t (rightsIn s t) (g .table) few, numbers-in-table t (rightsIn s t) (g .table) few (marksIn s t path))
 
 -- The marks of the records that are done
 pub done-size : (c : Change) (s t path : List ℕ) → length (doneIn c s t path) ≡ count t
-done-size c s t path =
-    length-map (doneMarks c (policyWord (policyIn s)) t (rightsIn s t) (shown (storedIn s t)) (selectedIn s t path)) bit
-    ∙ done-length c (policyWord (policyIn s)) t (rightsIn s t) (shown (storedIn s t)) (selectedIn s t path)
+done-size c s t path = done-length c (policyWord (policyIn s)) t (rightsIn s t) (shown (storedIn s t)) (selectedIn s t path)
 
 module _ (c : Change) (s t path done done' : List ℕ) (k n : ℕ) (r : Decided c s t path done k done') (e : n ≡ count t) where
-  pub done-part : take (n - 0) (drop 0 done') ≡ doneIn c s t path
-  done-part = part-is (doneIn c s t path) (drop (count t) done) done' n (r .marks) (done-size c s t path ∙ sym e)
+  -- the bytes that are handed on, and the marks that they hold
+  abbrev part : List ℕ
+  part = take (n - 0) (drop 0 done')
+
+  bits-size : length (map bit (doneIn c s t path)) ≡ n
+  bits-size = length-map (doneIn c s t path) bit ∙ done-size c s t path ∙ sym e
+
+  bits-part : part ≡ map bit (doneIn c s t path)
+  bits-part = part-is (map bit (doneIn c s t path)) (drop (count t) done) done' n (r .marks) bits-size
+
+  pub done-part : marksOf part ≡ doneIn c s t path
+  done-part = ap marksOf bits-part ∙ marks-bits (doneIn c s t path)
 
   pub done-reach : n ≤ length done'
-  done-reach = part-fits (doneIn c s t path) (drop (count t) done) done' n (r .marks) (done-size c s t path ∙ sym e)
+  done-reach = part-fits (map bit (doneIn c s t path)) (drop (count t) done) done' n (r .marks) bits-size
 
-  pub done-cover : count t ≤ length (take (n - 0) (drop 0 done'))
-  done-cover = omega (arith, ap length done-part, done-size c s t path)
+  pub done-cover : count t ≤ length part
+  done-cover = omega (arith, ap length bits-part, bits-size)
 
-  done-text : doneText k (marked (count t) (take (n - 0) (drop 0 done'))) ≡ countText c s t path
-  done-text =
-      ap (λ m. doneText m (marked (count t) (take (n - 0) (drop 0 done')))) (r .size)
-      ∙ ap (λ l. doneText (markCount (marksOf (marksIn s t path))) (marked (count t) l)) done-part
+  done-count : markCount (take (count t) (marksOf part)) ≡ markCount (doneIn c s t path)
+  done-count =
+      ap (λ l. markCount (take (count t) l)) done-part
+      ∙ ap (λ m. markCount (take m (doneIn c s t path))) (sym (done-size c s t path))
+      ∙ ap markCount (take-length (doneIn c s t path))
 
-  pub done-answered : (before after : List ℕ) (need : ℕ) → Answered (doneText k (marked (count t) (take (n - 0) (drop 0 done')))) before after need
+  done-text : doneText k (markCount (take (count t) (marksOf part))) ≡ countText c s t path
+  done-text = ap (λ m. doneText m (markCount (take (count t) (marksOf part)))) (r .size) ∙ ap (doneText (markCount (marksIn s t path))) done-count
+
+  pub done-answered : (before after : List ℕ) (need : ℕ) → Answered (doneText k (markCount (take (count t) (marksOf part)))) before after need
       → Answered (countText c s t path) before after need
-  done-answered before after need a =
-      answered-as (doneText k (marked (count t) (take (n - 0) (drop 0 done')))) (countText c s t path) before after need done-text a
+  done-answered before after need a = answered-as _ (countText c s t path) before after need done-text a
 
   -- what the table becomes
-  pub renamed-table : (l t' : List ℕ) → t' ≡ changed t (renamed (take (length l - 0) (drop 0 l)) (take (n - 0) (drop 0 done')) (records t))
+  pub renamed-table : (l t' : List ℕ) → t' ≡ changed t (renamed (take (length l - 0) (drop 0 l)) (marksOf part) (records t))
       → t' ≡ changed t (renamed l (doneIn c s t path) (records t))
   renamed-table l t' q =
       let z : take (length l - 0) (drop 0 l) ≡ l = part-is l [] l (length l) (sym (append-nil l)) refl in
       q
-      ∙ ap (λ x. changed t (renamed x (take (n - 0) (drop 0 done')) (records t))) z
+      ∙ ap (λ x. changed t (renamed x (marksOf part) (records t))) z
       ∙ ap (λ x. changed t (renamed l x (records t))) done-part
 
-  pub removed-table : (t' : List ℕ) → t' ≡ changed t (removed (take (n - 0) (drop 0 done')) (records t)) → t' ≡ changed t (removed (doneIn c s t path) (records t))
+  pub removed-table : (t' : List ℕ) → t' ≡ changed t (removed (marksOf part) (records t)) → t' ≡ changed t (removed (doneIn c s t path) (records t))
   removed-table t' q = q ∙ ap (λ x. changed t (removed x (records t))) done-part
 
   -- an insertion at the places that are done
   pub insert-parts : (place : Place) → c ≡ changeAt place → (m : ℕ) (tree : List ℕ)
       → insertAt place (doneIn (changeAt place) s t path) m tree (countText (changeAt place) s t path) (stage s) t
-      ≡ insertAt place (take (n - 0) (drop 0 done')) m tree (doneText k (marked (count t) (take (n - 0) (drop 0 done')))) (stage s) t
+      ≡ insertAt place (marksOf part) m tree (doneText k (markCount (take (count t) (marksOf part)))) (stage s) t
   insert-parts place q m tree =
       ap (λ x. insertAt place (doneIn x s t path) m tree (countText x s t path) (stage s) t) (sym q)
       ∙ ap (λ x. insertAt place x m tree (countText c s t path) (stage s) t) (sym done-part)
-      ∙ ap (λ x. insertAt place (take (n - 0) (drop 0 done')) m tree x (stage s) t) (sym done-text)
+      ∙ ap (λ x. insertAt place (marksOf part) m tree x (stage s) t) (sym done-text)
 
 -- D, counted
-pub answered-count : (t done before after : List ℕ) (k n d need : ℕ) → n ≡ count t → d ≡ marked n done → Answered (doneText k d) before after need
-    → Answered (doneText k (marked (count t) done)) before after need
+pub answered-count : (t done before after : List ℕ) (k n d need : ℕ) → n ≡ count t → d ≡ markCount (take n (marksOf done)) → Answered (doneText k d) before after need
+    → Answered (doneText k (markCount (take (count t) (marksOf done)))) before after need
 answered-count t done before after k n d need e q a =
-    answered-as (doneText k d) (doneText k (marked (count t) done)) before after need (ap (doneText k) (q ∙ ap (λ m. marked m done) e)) a
+    answered-as (doneText k d) _ before after need (ap (doneText k) (q ∙ ap (λ m. markCount (take m (marksOf done))) e)) a
 
 -- "RESTRICTED as .. new label, or a policy word as new label"
 module _ (s l : List ℕ) (b : Bool) (q : b ≡ sameLabel (take (length l) (drop 0 l)) restricted) where

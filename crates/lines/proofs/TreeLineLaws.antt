@@ -1,12 +1,12 @@
 -- The lines that write a tree: its labels, the table of the root alone, the last child of the root. Assumes nothing.
 use Prim.Native.Nat.{ℕ, zero, suc, _+_, _-_, _*_, _/_, min, _≤_, _<_}
-use mathlib.Core.Bool.{true, false, Bool·beq, false≢true}
-use mathlib.Core.Path.{_≡_, refl, sym, ap, _∙_}
+use mathlib.Core.Bool.{true, false, not, _||_, Bool·beq, false≢true}
+use mathlib.Core.Path.{_≡_, refl, sym, ap, ap₂, _∙_}
 use mathlib.Core.List.{List, [], _∷_, _++_, append-nil}
 use native.Mathlib.Omega.{arith}
 use borrow.Author.Tests.{leb-false, lt-leb, lt-ltb}
 use lib.Dec.{leb, ltb}
-use lib.ListN.{length, getD, take, drop, set, replicate, length-take, length-drop, length-replicate}
+use lib.ListN.{length, getD, take, drop, set, replicate, length-take, length-drop}
 use lib.Seq.{take-take, take-length, drop-drop, drop-at, getD-take, getD-drop, length-take-le}
 use Rattle.rights.specs.Bytes.{all, isZero}
 use Rattle.rights.specs.Labels.{sameLabel, restricted}
@@ -17,14 +17,15 @@ use Rattle.rights.proofs.Facts.{both}
 use Rattle.rights.proofs.LabelLaws.{same-differ}
 use Rattle.rights.proofs.Lists.{byCase}
 use Rattle.rights.proofs.RecordMade.{pasted-record}
-use Rattle.views.specs.Change.{chunks, le4, join, changed, putBehind, insertBehind, raise, placed}
-use Rattle.rights.specs.Marks.{marksOf}
+use Rattle.rights.specs.Marks.{marksOf, markCount}
+use Rattle.views.specs.Change.{chunks, le4, join, changed, putBehind, insertBehind, raise, lower, placed, deepest, tooDeep, free, hasRoom}
 use Rattle.views.specs.declared.insert.Place.the-variants.{Append}
 use Rattle.views.proofs.Chunks.{drop-take}
 use Rattle.views.proofs.TableFacts.{facts, zero-replicate}
 use Rattle.views.proofs.TableKept.{length-records, loosen}
 use Rattle.lines.specs.State.{stage, storeOk}
-use Rattle.lines.specs.Work.{treeRestricted, rootAlone}
+use Rattle.lines.specs.Refusal.{check, levelTooDeep, tableFull}
+use Rattle.lines.specs.Work.{treeRestricted, rootAlone, insertChecks}
 use Rattle.lines.proofs.StateLaws.{store-held}
 
 -- the label of a record in a tree's bytes
@@ -101,22 +102,58 @@ root-put t l p q ok n h k ep eq =
     let e : drop 36 t ≡ replicate (length t - 36) 0 = zero-replicate (drop 36 t) d ∙ ap (λ i. replicate i 0) (length-drop 36 t) in
     eq ∙ ap (λ x. le4 1 ++ x) (b ∙ ap (λ x. nodeRecord 0 l ++ x) e ∙ ap (λ x. x ++ replicate (length t - 36) 0) (sym (append-nil (nodeRecord 0 l))))
 
--- the marks of the root alone
-pub root-marks : set (replicate 16384 0) 0 1 ≡ rootAlone
-unfolding rootAlone
-root-marks = refl
-
-pub root-marks-length : length rootAlone ≡ 16384
-unfolding rootAlone
-root-marks-length = ap suc (length-replicate {A = ℕ} 16383 0)
-
--- "last child of the root": what is inserted behind the root and all below it stands at the end.
+-- Where no byte is set nothing is marked
 none-behind : (y : List ℕ → List (List ℕ)) (n : ℕ) (rs : List (List ℕ)) → insertBehind level y (marksOf (replicate n 0)) rs ≡ rs
 unfolding insertBehind
 none-behind y n [] = refl
 none-behind y zero (r ∷ rs) = ap (λ (u : List (List ℕ)). r ∷ u) (none-behind y zero rs)
 none-behind y (suc n) (r ∷ rs) = ap (λ (u : List (List ℕ)). r ∷ u) (none-behind y n rs)
 
+none-deep : (d n : ℕ) (rs : List (List ℕ)) → tooDeep d (marksOf (replicate n 0)) rs ≡ false
+unfolding tooDeep
+none-deep d n [] = refl
+none-deep d zero (r ∷ rs) = none-deep d zero rs
+none-deep d (suc n) (r ∷ rs) = none-deep d n rs
+
+none-counted : (k n : ℕ) → markCount (take k (marksOf (replicate n 0))) ≡ 0
+none-counted zero n = refl
+none-counted (suc k) zero = refl
+none-counted (suc k) (suc n) = none-counted k n
+
+-- The bytes that `child` writes hold the marks of the root alone
+abbrev rootBytes : List ℕ
+rootBytes = set (replicate 16384 0) 0 1
+
+module _ (m : ℕ) (tree t : List ℕ) where
+  root-placed-on : (rs : List (List ℕ)) → placed Append m tree (marksOf rootBytes) rs ≡ placed Append m tree rootAlone rs
+  unfolding insertBehind
+  root-placed-on [] = refl
+  root-placed-on (r ∷ rs) =
+      let y : List ℕ → List (List ℕ) = λ x. raise (suc (level x)) (chunks m tree) in
+      ap (λ (u : List (List ℕ)). r ∷ putBehind level (level r) (y r) u) (none-behind y 16383 rs ∙ sym (none-behind y 0 rs))
+
+  pub root-placed : placed Append m tree (marksOf rootBytes) (records t) ≡ placed Append m tree rootAlone (records t)
+  root-placed = root-placed-on (records t)
+
+  root-deep-on : (d : ℕ) (rs : List (List ℕ)) → tooDeep d (marksOf rootBytes) rs ≡ tooDeep d rootAlone rs
+  unfolding tooDeep
+  root-deep-on d [] = refl
+  root-deep-on d (r ∷ rs) = ap (λ b. ltb 11 (level r + d) || b) (none-deep d 16383 rs ∙ sym (none-deep d 0 rs))
+
+  pub root-deep : tooDeep (lower Append + deepest (chunks m tree)) (marksOf rootBytes) (records t) ≡ tooDeep (lower Append + deepest (chunks m tree)) rootAlone (records t)
+  root-deep = root-deep-on (lower Append + deepest (chunks m tree)) (records t)
+
+  root-counted : (k : ℕ) → markCount (take k (marksOf rootBytes)) ≡ markCount (take k rootAlone)
+  root-counted zero = refl
+  root-counted (suc k) = ap suc (none-counted k 16383 ∙ sym (none-counted k 0))
+
+  pub root-fits : hasRoom t (marksOf rootBytes) m ≡ hasRoom t rootAlone m
+  root-fits = ap (λ n. leb (n * m) (free t)) (root-counted (count t))
+
+  pub root-checks : insertChecks Append (marksOf rootBytes) m tree t ≡ insertChecks Append rootAlone m tree t
+  root-checks = ap₂ (λ a b. check levelTooDeep a ∷ check tableFull (not b) ∷ []) root-deep root-fits
+
+-- "last child of the root": what is inserted behind the root and all below it stands at the end.
 put-last : (n : ℕ) (y rs : List (List ℕ)) → recordsOk 1 n rs ≡ true → putBehind level 0 y rs ≡ rs ++ y
 unfolding putBehind recordsOk
 put-last n y [] e = refl
@@ -125,15 +162,14 @@ put-last n y (r ∷ rs) e =
     let g : ltb 0 (level r) ≡ true = lt-ltb 0 (level r) (omega (arith, loosen 1 n r (f .0) .0)) in
     rw g (ap (λ (u : List (List ℕ)). r ∷ u) (put-last (level r + 1) y rs (f .1)))
 
-behind-root : (k n : ℕ) (tree : List ℕ) (rs : List (List ℕ)) → 1 ≤ length rs → recordsOk 0 0 rs ≡ true
-    → placed Append k tree (1 ∷ replicate n 0) rs ≡ rs ++ raise 1 (chunks k tree)
+behind-root : (k : ℕ) (tree : List ℕ) (rs : List (List ℕ)) → 1 ≤ length rs → recordsOk 0 0 rs ≡ true
+    → placed Append k tree rootAlone rs ≡ rs ++ raise 1 (chunks k tree)
 unfolding insertBehind recordsOk
-behind-root k n tree [] h e = absurd (omega arith)
-behind-root k n tree (r ∷ rs) h e =
+behind-root k tree [] h e = absurd (omega arith)
+behind-root k tree (r ∷ rs) h e =
     let f = both (recordOk 0 0 r) (recordsOk 1 (level r + 1) rs) e in
     let z : level r ≡ 0 = omega (arith, loosen 0 0 r (f .0) .1) in
-    rw (none-behind (λ x. raise (suc (level x)) (chunks k tree)) n rs, z) (ap (λ (u : List (List ℕ)). r ∷ u) (put-last (level r + 1) (raise 1 (chunks k tree)) rs (f .1)))
+    rw (none-behind (λ x. raise (suc (level x)) (chunks k tree)) 0 rs, z) (ap (λ (u : List (List ℕ)). r ∷ u) (put-last (level r + 1) (raise 1 (chunks k tree)) rs (f .1)))
 
 pub child-last : (t tree : List ℕ) (m : ℕ) → tableOk t ≡ true → 1 ≤ count t → placed Append m tree rootAlone (records t) ≡ records t ++ raise 1 (chunks m tree)
-unfolding rootAlone
-child-last t tree m ok h = behind-root m 16383 tree (records t) (omega (arith, h, length-records t)) (facts t ok .nested)
+child-last t tree m ok h = behind-root m tree (records t) (omega (arith, h, length-records t)) (facts t ok .nested)

@@ -2,7 +2,7 @@
 use Prim.Native.Nat.{ℕ, zero, suc, _-_, _≤_, _<_}
 use mathlib.Core.Bool.{true, false}
 use mathlib.Core.Path.{_≡_, refl, sym, ap, _∙_}
-use mathlib.Core.List.{List, [], _∷_, _++_}
+use mathlib.Core.List.{List, [], _∷_, _++_, map}
 use native.Mathlib.Omega.{arith}
 use borrow.Author.Tests.{eqb-false}
 use lib.Bits.{bitAnd}
@@ -11,6 +11,7 @@ use lib.Seq.{take-at}
 use Rattle.rights.specs.Path.{Path}
 use Rattle.rights.specs.PathReader.{Got, got, bad, placeOf}
 use Rattle.rights.specs.declared.path.Read.the-variants.{At, Bad}
+use Rattle.rights.specs.Marks.{bit, marksOf}
 use Rattle.rights.specs.Nodes.{Nodes, Fits, viewOf}
 use Rattle.rights.specs.Isa.{passesOwn}
 use Rattle.rights.specs.PolicyBytes.{policyOf, subjectCount}
@@ -23,7 +24,8 @@ use Rattle.rights.specs.Table.{count, records, tableOk}
 use Rattle.rights.proofs.Facts.{table-few}
 use Rattle.rights.proofs.FiveRights.{asked-all}
 use Rattle.rights.proofs.Lists.{rest-of}
-use Rattle.rights.proofs.PassLaws.{marks-length, view-length}
+use Rattle.rights.proofs.MarkLaws.{marks-bits, each-length}
+use Rattle.rights.proofs.PassLaws.{view-length}
 use Rattle.rights.proofs.RightsLaws.{rule-bit}
 use Rattle.rights.proofs.XPathLaws.{selection-xpath}
 use Rattle.views.specs.Shown.{storedFrom, stored, shownNumbers}
@@ -117,7 +119,7 @@ subject-asks s t ok u user e =
     rw (rest-of s 8, e) (record { policy = store-held s t ok .policy; subject = user-declared s t ok u })
 
 marks-long : (s t path : List ℕ) → length (marksIn s t path) ≡ length (viewIn s t)
-marks-long s t path = marks-length _ 0 (length (viewIn s t))
+marks-long s t path = each-length _ 0 (length (viewIn s t))
 
 view-long : (s t : List ℕ) → storeOk s t ≡ true → length (viewIn s t) ≡ length (shownNumbers (storedIn s t))
 view-long s t ok = sym (ap length (view-by-numbers t (rightsIn s t) (store-held s t ok .table))) ∙ view-length t (shownNumbers (storedIn s t))
@@ -128,21 +130,25 @@ marks-size s t path ok = marks-long s t path ∙ view-long s t ok
 -- what is selected from the user's view
 module _ (s t path : List ℕ) (ok : storeOk s t ≡ true) (user : ℕ) (e : user ≡ userByte s) (nodes : Nodes) (v : nodes ≡ viewIn s t) where
   pub picked-are : (before after : List ℕ) (k : ℕ) → k ≡ length (shownNumbers (storedIn s t))
-      → Selects nodes (passesOwn (policyOf (take (length s - 8) (drop 8 s))) (user - 1)) path before after → after ≡ marksIn s t path ++ drop k before
+      → Selects nodes (passesOwn (policyOf (take (length s - 8) (drop 8 s))) (user - 1)) path before after → after ≡ map bit (marksIn s t path) ++ drop k before
   picked-are before after k z q =
       let m : selection path (passesOwn (policyOf (take (length s - 8) (drop 8 s))) (user - 1)) nodes ≡ marksIn s t path =
       ap (selection path (passesOwn (policyOf (take (length s - 8) (drop 8 s))) (user - 1))) v
       ∙ selection-xpath (passesOwn (policyOf (take (length s - 8) (drop 8 s))) (user - 1)) (viewIn s t) (view-nested t (rightsIn s t) (store-held s t ok .table)) path
       ∙ ap (λ p. xpathSelection path (passesOwn (policyOf p) (user - 1)) (viewIn s t)) (rest-of s 8)
       ∙ ap (λ n. xpathSelection path (passesOwn (policyIn s) (n - 1)) (viewIn s t)) e in
-      q ∙ ap (λ l. l ++ drop (length nodes) before) m ∙ ap (λ n. marksIn s t path ++ drop n before) (ap length v ∙ view-long s t ok ∙ sym z)
+      q ∙ ap (λ l. map bit l ++ drop (length nodes) before) m ∙ ap (λ n. map bit (marksIn s t path) ++ drop n before) (ap length v ∙ view-long s t ok ∙ sym z)
 
 -- a part that holds the marks
-pub marks-part : (s t path marks' more : List ℕ) (k : ℕ) → storeOk s t ≡ true → k ≡ length (shownNumbers (storedIn s t)) → marks' ≡ marksIn s t path ++ more
-    → take (k - 0) (drop 0 marks') ≡ marksIn s t path
+pub marks-part : (s t path marks' more : List ℕ) (k : ℕ) → storeOk s t ≡ true → k ≡ length (shownNumbers (storedIn s t)) → marks' ≡ map bit (marksIn s t path) ++ more
+    → take (k - 0) (drop 0 marks') ≡ map bit (marksIn s t path)
 marks-part s t path marks' more k ok e q =
-    let z : k - 0 ≡ length (marksIn s t path) = omega (arith, marks-size s t path ok) in
-    rw (z, q) (take-at (marksIn s t path) more (length (marksIn s t path)) refl)
+    let z : k - 0 ≡ length (map bit (marksIn s t path)) = omega (arith, marks-size s t path ok, length-map (marksIn s t path) bit) in
+    rw (z, q) (take-at (map bit (marksIn s t path)) more (length (map bit (marksIn s t path))) refl)
+
+pub marks-are : (s t path marks' more : List ℕ) (k : ℕ) → storeOk s t ≡ true → k ≡ length (shownNumbers (storedIn s t)) → marks' ≡ map bit (marksIn s t path) ++ more
+    → marksOf (take (k - 0) (drop 0 marks')) ≡ marksIn s t path
+marks-are s t path marks' more k ok e q = ap marksOf (marks-part s t path marks' more k ok e q) ∙ marks-bits (marksIn s t path)
 
 -- what was read of a path
 -- what is not refused was read
@@ -158,10 +164,10 @@ pub is-path : (g : Got Path) (i : ℕ) → placeOf g ≡ At i → notPath g ≡ 
 is-path (got p k) i e = refl
 is-path bad i e = absurd (let z : _≡_ {A = ℕ} 0 1 = cc in omega arith)
 
-pub marks-long-enough : (s t path marks' more : List ℕ) (k : ℕ) → storeOk s t ≡ true → k ≡ length (shownNumbers (storedIn s t)) → marks' ≡ marksIn s t path ++ more → k ≤ length marks'
-marks-long-enough s t path marks' more k ok e q = omega (arith, ap length q, length-append (marksIn s t path) more, marks-size s t path ok)
+pub marks-long-enough : (s t path marks' more : List ℕ) (k : ℕ) → storeOk s t ≡ true → k ≡ length (shownNumbers (storedIn s t)) → marks' ≡ map bit (marksIn s t path) ++ more → k ≤ length marks'
+marks-long-enough s t path marks' more k ok e q = omega (arith, ap length q, length-append (map bit (marksIn s t path)) more, length-map (marksIn s t path) bit, marks-size s t path ok)
 
 pub marks-cover : (s t path shown' more marks' rest : List ℕ) (k : ℕ) (ok : storeOk s t ≡ true) (e : k ≡ length (shownNumbers (storedIn s t))) → shown' ≡ shownNumbers (storedIn s t) ++ more
-    → marks' ≡ marksIn s t path ++ rest → length (take (k - 0) (drop 0 shown')) ≤ length (take (k - 0) (drop 0 marks'))
+    → marks' ≡ map bit (marksIn s t path) ++ rest → length (take (k - 0) (drop 0 shown')) ≤ length (take (k - 0) (drop 0 marks'))
 marks-cover s t path shown' more marks' rest k ok e q m =
-    omega (arith, ap length (shown-part s t ok shown' more k e q), ap length (marks-part s t path marks' rest k ok e m), marks-size s t path ok)
+    omega (arith, ap length (shown-part s t ok shown' more k e q), ap length (marks-part s t path marks' rest k ok e m), length-map (marksIn s t path) bit, marks-size s t path ok)

@@ -1,5 +1,6 @@
 -- What a line does to the store where nothing turns it down. Every form has one of these effects, and the laws of lines go by them.
 use Prim.Native.Nat.{ℕ, _+_}
+use mathlib.Core.Bool.{Bool}
 use mathlib.Core.List.{List, [], _∷_, _++_}
 use lib.ListN.{length}
 use Rattle.rights.specs.Record.{nodeRecord}
@@ -17,11 +18,11 @@ pub data Effect : Type 0 where
   -- the root's label
   root : List ℕ → Effect
   -- a tree at marked places: the place, the marks, the number of records, their bytes, the stage afterwards
-  insertion : Place → List ℕ → ℕ → List ℕ → ℕ → Effect
+  insertion : Place → List Bool → ℕ → List ℕ → ℕ → Effect
   -- the new label, the marks
-  renaming : List ℕ → List ℕ → Effect
+  renaming : List ℕ → List Bool → Effect
   -- the marks
-  removal : List ℕ → Effect
+  removal : List Bool → Effect
   -- the subject's number
   login : ℕ → Effect
   reading : Effect

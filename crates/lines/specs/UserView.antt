@@ -1,9 +1,8 @@
 -- What a session's user has and sees, and what a path selects there (document 01, "View", "Paths", "Changes").
 use Prim.Native.Nat.{ℕ}
 use mathlib.Core.Bool.{Bool, true, false}
-use mathlib.Core.List.{List, map}
+use mathlib.Core.List.{List}
 use lib.Dec.{eqb}
-use Rattle.rights.specs.Marks.{bit}
 use Rattle.rights.specs.Path.{Path}
 use Rattle.rights.specs.PathReader.{Got, got, bad}
 use Rattle.rights.specs.Nodes.{Nodes}
@@ -13,7 +12,6 @@ use Rattle.rights.specs.Rights.{rightsOn}
 use Rattle.rights.specs.XPath.{xpathSelection}
 use Rattle.rights.specs.Table.{records}
 use Rattle.views.specs.Shown.{Stored, stored, view, shown}
-use Rattle.rights.specs.Marks.{marksOf}
 use Rattle.views.specs.Done.{doneMarks, inTable}
 use Rattle.views.specs.declared.done.Change.{Change}
 use Rattle.lines.specs.State.{userByte, userOf, policyIn}
@@ -38,12 +36,12 @@ notPath (got p e) = false
 notPath bad = true
 
 -- "Paths of E run on the view": the marks of what a path selects there, `$` being the login name
-abbrev pub marksIn : List ℕ → List ℕ → List ℕ → List ℕ
+abbrev pub marksIn : List ℕ → List ℕ → List ℕ → List Bool
 marksIn s t path = xpathSelection path (passesOwn (policyIn s) (userOf s)) (viewIn s t)
 
 -- The records that a path selects, a mark for each record, and those of them that a change does: "All selections and rights are taken before anything changes."
 abbrev pub selectedIn : List ℕ → List ℕ → List ℕ → List Bool
-selectedIn s t path = inTable (shown (storedIn s t)) (marksOf (marksIn s t path))
+selectedIn s t path = inTable (shown (storedIn s t)) (marksIn s t path)
 
-abbrev pub doneIn : Change → List ℕ → List ℕ → List ℕ → List ℕ
-doneIn c s t path = map bit (doneMarks c (policyWord (policyIn s)) t (rightsIn s t) (shown (storedIn s t)) (selectedIn s t path))
+abbrev pub doneIn : Change → List ℕ → List ℕ → List ℕ → List Bool
+doneIn c s t path = doneMarks c (policyWord (policyIn s)) t (rightsIn s t) (shown (storedIn s t)) (selectedIn s t path)

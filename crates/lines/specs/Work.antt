@@ -1,23 +1,22 @@
 -- The work of each form: its checks in the paper's order, its answer and its effect (document 01, "Lines", "Changes", "What is written", "Who can be turned
 -- down").
 use Prim.Native.Nat.{ℕ, _+_}
-use mathlib.Core.Bool.{Bool, not, _||_}
+use mathlib.Core.Bool.{Bool, true, not, _||_}
 use mathlib.Core.List.{List, [], _∷_, _++_}
 use lib.Dec.{leb, ltb}
-use lib.ListN.{replicate}
 use Rattle.rights.specs.Labels.{sameLabel, restricted}
 use Rattle.rights.specs.Nodes.{Nodes}
 use Rattle.rights.specs.PathReader.{pathOf}
 use Rattle.rights.specs.Policy.{policyWord, some}
 use Rattle.rights.specs.PolicyBytes.{policyOf, subjectCount, isaCount, ruleCount}
-use Rattle.rights.specs.Table.{records, label, count}
+use Rattle.rights.specs.Table.{records, label}
 use Rattle.views.specs.Change.{chunks, lower, deepest, tooDeep, hasRoom, free}
-use Rattle.rights.specs.Marks.{marksOf, markCount, marked}
+use Rattle.rights.specs.Marks.{markCount, keep}
 use Rattle.views.specs.declared.done.Change.{Change}
 use Rattle.views.specs.declared.done.Change.the-variants as change
 use Rattle.views.specs.declared.insert.Place.{Place}
 use Rattle.views.specs.declared.insert.Place.the-variants.{Append, After, Before}
-use Rattle.answers.specs.Answer.{okText, doneText, hitsOf, queryText, viewText}
+use Rattle.answers.specs.Answer.{okText, doneText, queryText, viewText}
 use Rattle.answers.specs.AnswerChoice.{Choice, findText}
 use Rattle.lines.specs.Effect.{Work, guarded, policy, root, insertion, renaming, removal, login, reading}
 use Rattle.lines.specs.PolicyEdit.{isUnknown, numberIn, subjectNamed, isaHeld, hasBracket, pathRestricted, stepsIn, withSubject, withIsa, withRule}
@@ -100,20 +99,20 @@ labelCheck m tree = check bannedLabel (treeRestricted m tree)
 
 -- a tree of m records at marked places: "a level above 11 .. at a place that would be done", "fewer free records than the whole line needs (.. insertions D × tree
 -- size)"
-abbrev pub insertChecks : Place → List ℕ → ℕ → List ℕ → List ℕ → List Check
+abbrev pub insertChecks : Place → List Bool → ℕ → List ℕ → List ℕ → List Check
 insertChecks place marks m tree t =
-    check levelTooDeep (tooDeep (lower place + deepest (chunks m tree)) (marksOf marks) (records t))
+    check levelTooDeep (tooDeep (lower place + deepest (chunks m tree)) marks (records t))
     ∷ check tableFull (not (hasRoom t marks m))
     ∷ []
 
 -- with its answer and the stage afterwards
-abbrev pub insertAt : Place → List ℕ → ℕ → List ℕ → List ℕ → ℕ → List ℕ → Work
+abbrev pub insertAt : Place → List Bool → ℕ → List ℕ → List ℕ → ℕ → List ℕ → Work
 insertAt place marks m tree text g t =
     record { checks = insertChecks place marks m tree t; text = text; effect = insertion place marks m tree g }
 
--- the root alone is marked
-unfoldable pub rootAlone : List ℕ
-rootAlone = 1 ∷ replicate 16383 0
+-- the root alone is marked: no node beyond the marks is
+abbrev pub rootAlone : List Bool
+rootAlone = true ∷ []
 
 -- `(child TREE)`: "last child of the root"
 abbrev pub workChild : List ℕ → ℕ → List ℕ → Work
@@ -145,8 +144,8 @@ abbrev pub onView : List ℕ → List ℕ → List Check
 onView path s = check badPath (notPath (pathOf path)) ∷ viewChecks s
 
 -- `(query P)` and `(find P)`: the answers to what a path selects, from its marks and the view
-abbrev pub answerTo : Choice → Ask → List ℕ → Nodes → List ℕ
-answerTo choice Query marks nodes = queryText (hitsOf marks nodes)
+abbrev pub answerTo : Choice → Ask → List Bool → Nodes → List ℕ
+answerTo choice Query marks nodes = queryText (keep marks nodes)
 answerTo choice Find marks nodes = findText (choice marks nodes)
 
 abbrev pub workAsk : Choice → Ask → List ℕ → List ℕ → List ℕ → Work
@@ -155,7 +154,7 @@ workAsk choice ask s t path =
 
 -- "The answer is `(done S D)`: S nodes selected, each counted once, D done"
 abbrev pub countText : Change → List ℕ → List ℕ → List ℕ → List ℕ
-countText c s t path = doneText (markCount (marksOf (marksIn s t path))) (marked (count t) (doneIn c s t path))
+countText c s t path = doneText (markCount (marksIn s t path)) (markCount (doneIn c s t path))
 
 -- `(rename P L)` and `(update P L)`: "RESTRICTED as .. new label, or a policy word as new label of rename or update"
 abbrev pub renameChecks : List ℕ → List ℕ → List ℕ → List Check

@@ -23,15 +23,15 @@ use views::rename::rename_marked;
 ghost use mathlib.Core.Path.{_≡_};
 ghost use mathlib.Core.Bool.{true, _||_};
 ghost use Prim.Native.Nat.{_*_, _≤_};
-ghost use lib.ListN.{length};
+ghost use lib.ListN.{length, take};
 ghost use Rattle.rights.specs.Limits.{labelMax, recordsMax};
 ghost use Rattle.rights.specs.Labels.{sameLabel, restricted};
 ghost use Rattle.rights.specs.Policy.{policyWord};
 ghost use Rattle.rights.specs.Table.{count, tableOk};
-ghost use Rattle.rights.specs.Marks.{marked};
+ghost use Rattle.rights.specs.Marks.{marksOf, markCount};
 ghost use Rattle.answers.specs.Answer.{doneText};
-ghost use Rattle.answers.specs.AnswerArea.{Answered};
-ghost use Rattle.lines.specs.ChangeRoom.{Decided};
+ghost use Rattle.answers.specs.How.AnswerArea.{Answered};
+ghost use Rattle.lines.specs.How.ChangeRoom.{Decided};
 ghost use Rattle.lines.specs.Effect.{Performs};
 ghost use Rattle.lines.specs.Refusal.{Passed, firstRefusal};
 ghost use Rattle.lines.specs.State.{stage, policyIn, storeOk};
@@ -70,8 +70,8 @@ fn mark_change(state: &[u8], table: &[u8], change: Change, path: &[u8], done: &m
 // Answers a change of which `selected` nodes are selected and the marked records done.
 fn answer_change(table: &[u8], selected: usize, done: &[u8], area: &mut [u8]) -> usize
     requires { ⌜ (tableOk (now table) ≡ true) × (count (now table) ≤ length (now done)) ⌝ }
-    ensures { λ r. ⌜ Answered (doneText selected (marked (count (now (table .entry))) (now (done .entry)))) (now (area .entry)) (now (area .exit))
-        r ⌝ }
+    ensures { λ r. ⌜ Answered (doneText selected (markCount (take (count (now (table .entry))) (marksOf (now (done .entry)))))) (now (area .entry))
+        (now (area .exit)) r ⌝ }
 {
     let n = count_of(table);
     let d = count_marks(done, n);
@@ -194,8 +194,8 @@ fn insert_done(
 ) -> Answer
     requires { ⌜ (1 ≤ length (now state)) × (tableOk (now table) ≡ true) × (count (now table) ≤ length (now done)) × (m * 32 ≤ length (now tree))
         × (m ≤ recordsMax) ⌝ }
-    ensures { λ r. ⌜ Performs (insertAt place (now (done .entry)) m (now (tree .entry))
-        (doneText selected (marked (count (now (table .entry))) (now (done .entry)))) (stage (now (state .entry))) (now (table .entry)))
+    ensures { λ r. ⌜ Performs (insertAt place (marksOf (now (done .entry))) m (now (tree .entry))
+        (doneText selected (markCount (take (count (now (table .entry))) (marksOf (now (done .entry)))))) (stage (now (state .entry))) (now (table .entry)))
         (now (state .entry)) (now (table .entry)) (now (area .entry)) r (now (state .entry)) (now (table .exit)) (now (area .exit)) ⌝ }
 {
     let down = insert_refusal(table, done, tree, m, place);

@@ -21,6 +21,7 @@ ghost use mathlib.Core.List.{_++_};
 ghost use Prim.Native.Nat.{_≤_};
 ghost use lib.ListN.{length, drop};
 ghost use Rattle.rights.specs.Limits.{recordsMax};
+ghost use Rattle.rights.specs.Marks.{marksOf};
 ghost use Rattle.rights.specs.Nodes.{Fits, viewOf};
 ghost use Rattle.views.specs.Shown.{shownNumbers};
 ghost use Rattle.answers.specs.How.AnswerArea.{Answered};
@@ -120,7 +121,7 @@ pub fn select_user(
 // Answers what is asked of the marked ones of the shown nodes.
 fn answer_ask(ask: Ask, table: &[u8], shown: &[u16], marks: &[u8], area: &mut [u8]) -> usize
     requires { ⌜ (Fits (now table) (now shown)) × (length (now shown) ≤ length (now marks)) ⌝ }
-    ensures { λ r. ⌜ Answered (answerTo chosen ask (now (marks .entry)) (viewOf (now (table .entry)) (now (shown .entry)))) (now (area .entry))
+    ensures { λ r. ⌜ Answered (answerTo chosen ask (marksOf (now (marks .entry))) (viewOf (now (table .entry)) (now (shown .entry)))) (now (area .entry))
         (now (area .exit)) r ⌝ }
 {
     match ask {

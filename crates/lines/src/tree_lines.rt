@@ -28,6 +28,7 @@ ghost use Prim.Native.Nat.{_+_, _*_, _≤_, _<_};
 ghost use lib.ListN.{length, take, drop};
 ghost use Rattle.rights.specs.Limits.{labelMax, recordsMax};
 ghost use Rattle.rights.specs.Labels.{sameLabel, restricted};
+ghost use Rattle.rights.specs.Marks.{marksOf};
 ghost use Rattle.rights.specs.Table.{count, label, tableOk};
 ghost use Rattle.views.specs.declared.insert.Place.the-variants.{Append};
 ghost use Rattle.lines.specs.Effect.{Performs};
@@ -38,7 +39,7 @@ ghost use Rattle.lines.specs.Work.{treeRestricted, labelCheck, insertChe
 // The refusal of an insertion of a tree of m records at the marked places.
 pub fn insert_refusal(table: &[u8], marks: &[u8], tree: &[u8], m: usize, place: Place) -> u8
     requires { ⌜ (tableOk (now table) ≡ true) × (count (now table) ≤ length (now marks)) × (m * 32 ≤ length (now tree)) × (m ≤ recordsMax) ⌝ }
-    ensures { λ r. ⌜ r ≡ firstRefusal (insertChecks place (now (marks .entry)) m (now (tree .entry)) (now (table .entry))) ⌝ }
+    ensures { λ r. ⌜ r ≡ firstRefusal (insertChecks place (marksOf (now (marks .entry))) m (now (tree .entry)) (now (table .entry))) ⌝ }
 {
     if too_deep(table, marks, tree, m, place) {
         return LEVEL_TOO_DEEP;
@@ -114,7 +115,7 @@ pub fn root(state: &mut [u8], table: &mut [u8], label: &[u8], area: &mut [u8]) -
 // The refusal of `(child TREE)`, where the marks are those of the root alone.
 fn child_refusal(table: &[u8], marks: &[u8], tree: &[u8], m: usize) -> u8
     requires { ⌜ (tableOk (now table) ≡ true) × (count (now table) ≤ length (now marks)) × (m * 32 ≤ length (now tree)) × (m ≤ recordsMax) ⌝ }
-    ensures { λ r. ⌜ r ≡ firstRefusal (labelCheck m (now (tree .entry)) ∷ insertChecks Append (now (marks .entry)) m (now (tree .entry))
+    ensures { λ r. ⌜ r ≡ firstRefusal (labelCheck m (now (tree .entry)) ∷ insertChecks Append (marksOf (now (marks .entry))) m (now (tree .entry))
         (now (table .entry))) ⌝ }
 {
     if tree_restricted(tree, m) {

@@ -4,12 +4,13 @@ use mathlib.Core.Bool.{Bool, true, false, cond, _&&_, _||_}
 use mathlib.Core.Path.{_≡_, refl, ap, _∙_}
 use mathlib.Core.List.{List, [], _∷_, map}
 use lib.Bits.{bitAnd}
+use Rattle.rights.specs.Marks.{keep}
 use Rattle.rights.specs.Table.{level}
 use Rattle.rights.specs.Policy.{position, read}
 use Rattle.rights.specs.Rights.{holds}
 use Rattle.rights.proofs.FiveRights.{holds-among}
 use Rattle.rights.proofs.Lists.{byCase}
-use Rattle.views.specs.Shown.{storedFrom, storedLevel, granted, atParent, shownAfter, keep, numberOf, shownNumbers}
+use Rattle.views.specs.Shown.{storedFrom, storedLevel, granted, atParent, shownAfter, numberOf, shownNumbers}
 
 module _ {A : Type 0} (f g : A → ℕ) (er : (a : A) → holds read (f a) ≡ holds read (g a)) (ep : (a : A) → holds position (f a) ≡ holds position (g a)) where
   shown-after : (before : List (ℕ × Bool)) (i : ℕ) (rs : List (List ℕ)) (cs : List A)

@@ -11,8 +11,8 @@ use borrow.Author.Tests.{ltb-true, ltb-false, leb-true, lt-ltb, le-ltb, eq-eqb, 
 use Rattle.rights.specs.Table.{level, count, capacity, records, tableOk}
 use Rattle.rights.proofs.Lists.{byCase}
 use Rattle.views.specs.declared.insert.Place.{Place}
-use Rattle.views.specs.Change.{isDone, later, chunks, lower, placed, deepest, tooDeep, hasRoom}
-use Rattle.rights.specs.Marks.{marksOf, marked}
+use Rattle.views.specs.Change.{chunks, lower, placed, deepest, tooDeep, hasRoom}
+use Rattle.rights.specs.Marks.{marksOf, markCount}
 use Rattle.views.specs.How.Pass.{AtDone, Shallow, Under, Fixed}
 use Rattle.views.proofs.Chunks.{chunks-cons, level-first, marks-drop, all-chunks}
 use Rattle.views.proofs.TableFacts.{facts}
@@ -93,18 +93,18 @@ pub shallow-places : (up m : ℕ) (tree : List ℕ) (ms : List Bool) (rs : List 
 unfolding tooDeep
 shallow-places up m tree ms [] e = tt
 shallow-places up m tree ms (r ∷ rs) e =
-    let f = or-false (isDone ms && ltb 11 (level r + (up + deepest (chunks m tree)))) (tooDeep (up + deepest (chunks m tree)) (later ms) rs) e in
-    ((λ d j h. let k : level r + (up + deepest (chunks m tree)) ≤ 11 = ltb-false _ _ (rw d at (f .0)) in omega (arith, k, under-deepest m j tree h)), shallow-places up m tree (later ms) rs (f .1))
+    let f = or-false (getD ms 0 false && ltb 11 (level r + (up + deepest (chunks m tree)))) (tooDeep (up + deepest (chunks m tree)) (drop 1 ms) rs) e in
+    ((λ d j h. let k : level r + (up + deepest (chunks m tree)) ≤ 11 = ltb-false _ _ (rw d at (f .0)) in omega (arith, k, under-deepest m j tree h)), shallow-places up m tree (drop 1 ms) rs (f .1))
 
 -- the pass fits
 module _ (place : Place) (n k m : ℕ) (t ms tree : List ℕ) (ok : tableOk t ≡ true) (many : count t ≤ length ms) (whole : m * 32 ≤ length tree)
-    (shallow : tooDeep (lower place + deepest (chunks m tree)) (marksOf ms) (records t) ≡ false) (room : hasRoom t ms m ≡ true) (en : n ≡ count t) (ek : k ≡ marked n ms) where
-  product : k * m ≡ marked (count t) ms * m
-  product = ap (λ (z : ℕ). z * m) (ek ∙ ap (λ (z : ℕ). marked z ms) en)
+    (shallow : tooDeep (lower place + deepest (chunks m tree)) (marksOf ms) (records t) ≡ false) (room : hasRoom t (marksOf ms) m ≡ true) (en : n ≡ count t) (ek : k ≡ markCount (take n (marksOf ms))) where
+  product : k * m ≡ markCount (take (count t) (marksOf ms)) * m
+  product = ap (λ (z : ℕ). z * m) (ek ∙ ap (λ (z : ℕ). markCount (take z (marksOf ms))) en)
 
   fits : n + k * m ≤ min ((length t - 4) / 32) 16384
   fits =
-      let r : marked (count t) ms * m ≤ capacity (length t) - count t = leb-true _ _ room in
+      let r : markCount (take (count t) (marksOf ms)) * m ≤ capacity (length t) - count t = leb-true _ _ room in
       let f = facts t ok in
       omega (arith, product, en, r, f .held)
 
@@ -113,21 +113,21 @@ module _ (place : Place) (n k m : ℕ) (t ms tree : List ℕ) (ok : tableOk t �
 
   pub fill-asks : Fixed n (k * m) m t ms tree
       × ((n + k * m < 2 ^ 32) × (Under level 12 (chunks n (drop 4 t))) × (AtDone (λ r. Shallow (lower place) m tree (level r)) (marksOf ms) (chunks n (drop 4 t)))
-      × (length (placed place m tree ms (chunks n (drop 4 t))) ≡ n + k * m))
+      × (length (placed place m tree (marksOf ms) (chunks n (drop 4 t))) ≡ n + k * m))
   fill-asks =
       let f = facts t ok in
       let s = shallow-places (lower place) m tree (marksOf ms) (records t) shallow in (
         record { size = omega (arith, fits, f .head); marks = omega (arith, en); whole = whole },
-        (omega (arith, fits), rw en (f .low), rw (en, ← all-chunks t) s, rw ek (placed-length place n m tree ms (drop 4 t))),
+        (omega (arith, fits), rw en (f .low), rw (en, ← all-chunks t) s, rw ek (placed-length place n m tree (marksOf ms) (drop 4 t))),
       )
 
 -- whether there is room
-module _ (n c k m : ℕ) (t ms : List ℕ) (ok : tableOk t ≡ true) (en : n ≡ count t) (ec : c ≡ capacity (length t)) (ek : k ≡ marked n ms) (few : k ≤ n) (short : m ≤ 16384) where
+module _ (n c k m : ℕ) (t ms : List ℕ) (ok : tableOk t ≡ true) (en : n ≡ count t) (ec : c ≡ capacity (length t)) (ek : k ≡ markCount (take n (marksOf ms))) (few : k ≤ n) (short : m ≤ 16384) where
   pub held-fits : n ≤ c
   held-fits = let f = facts t ok in omega (arith, en, ec, f .held)
 
   pub product-fits : k * m < 2 ^ 64
   product-fits = let f = facts t ok in omega (arith, product-bound k m (omega (arith, few, en, f .few)) short)
 
-  pub room-is : leb (k * m) (c - n) ≡ hasRoom t ms m
+  pub room-is : leb (k * m) (c - n) ≡ hasRoom t (marksOf ms) m
   room-is = rw (ek, en, ec)

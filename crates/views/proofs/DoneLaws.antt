@@ -5,15 +5,14 @@ use mathlib.Core.Path.{_≡_, refl, sym, ap, _∙_}
 use mathlib.Core.List.{List, [], _∷_, _++_, map}
 use native.Mathlib.Omega.{arith}
 use borrow.Author.Tests.{eq-eqb, ne-eqb}
-use lib.ListN.{length, take, drop, getD, length-map}
-use lib.Seq.{take-at}
-use Rattle.rights.specs.Marks.{bit, marksOf, markCount, marked, eachFrom}
+use lib.ListN.{length, take, drop, getD}
+use Rattle.rights.specs.Marks.{markCount, eachFrom, keep}
 use Rattle.rights.specs.Table.{recordsFrom, records, count, tableOk}
-use Rattle.views.specs.Shown.{Stored, storedFrom, stored, storedLevel, granted, shownAfter, shown, keep, numberOf, shownNumbers}
+use Rattle.views.specs.Shown.{Stored, storedFrom, stored, storedLevel, granted, shownAfter, shown, numberOf, shownNumbers}
 use Rattle.views.specs.Done.{does, askedOf, doneMarks, inTable}
 use Rattle.views.specs.How.Numbers.{isNext, shownByNumbers, byNumbers}
 use Rattle.views.specs.declared.done.Change.{Change}
-use Rattle.rights.proofs.MarkLaws.{marks-bits, each-at}
+use Rattle.rights.proofs.MarkLaws.{each-at, each-length}
 use Rattle.views.proofs.TableFacts.{facts}
 use Rattle.views.proofs.TableKept.{length-records}
 use Rattle.views.proofs.ViewLaws.{Every, every-keep, every-map, number-mod}
@@ -25,17 +24,8 @@ done-at c word t ss bs ms i h =
     let z : 0 + i ≡ i = omega arith in
     rw z at (each-at (λ k. does c (askedOf word t ss bs ms k)) false 0 (count t) i h)
 
-each-length : {A : Type 0} (f : ℕ → A) (i n : ℕ) → length (eachFrom f i n) ≡ n
-unfolding eachFrom
-each-length f i zero = refl
-each-length f i (suc n) = ap suc (each-length f (suc i) n)
-
 pub done-length : (c : Change) (word : List ℕ → Bool) (t ss : List ℕ) (bs ms : List Bool) → length (doneMarks c word t ss bs ms) ≡ count t
 done-length c word t ss bs ms = each-length (λ k. does c (askedOf word t ss bs ms k)) 0 (count t)
-
--- S and D: the marks that were written, counted
-pub marked-bits : (bs : List Bool) (s : List ℕ) (n : ℕ) → length bs ≡ n → marked n (map bit bs ++ s) ≡ markCount bs
-marked-bits bs s n e = ap (λ l. markCount (marksOf l)) (take-at (map bit bs) s n (length-map bs bit ∙ e)) ∙ ap markCount (marks-bits bs)
 
 -- Selected records
 

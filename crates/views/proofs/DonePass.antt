@@ -12,10 +12,10 @@ use lib.Seq.{drop-drop, getD-drop}
 use Rattle.rights.specs.Marks.{bit, marksOf, eachFrom}
 use Rattle.rights.specs.Policy.{insert}
 use Rattle.rights.specs.Rights.{holds}
-use Rattle.rights.specs.Table.{recordAt, level, label}
+use Rattle.rights.specs.Table.{recordAt, level, label, count}
 use Rattle.rights.proofs.Lists.{byCase}
 use Rattle.views.specs.Shown.{atParent, nearestFirst}
-use Rattle.views.specs.Done.{does, askedOf}
+use Rattle.views.specs.Done.{does, askedOf, doneMarks}
 use Rattle.views.specs.How.Numbers.{shownByNumbers, byNumbers}
 use Rattle.views.specs.declared.done.Change.{Change}
 use Rattle.views.proofs.Fill.{push-take, push-drop, filled}
@@ -150,10 +150,14 @@ module _ (c : Change) (word : List ℕ → Bool) (t ss xs m d₀ : List ℕ) (n 
         written = ap (λ k. map bit (eachFrom isDoneAt 0 k)) (sub-zero n);
       }
 
-  pub marking-end : (o a b : List ℕ) (j i : ℕ) → n ≤ i → Marking o a b j i → o ≡ map bit (eachFrom isDoneAt 0 n) ++ drop n d₀
+  marking-end : (o a b : List ℕ) (j i : ℕ) → n ≤ i → Marking o a b j i → o ≡ map bit (eachFrom isDoneAt 0 n) ++ drop n d₀
   marking-end o a b j i h g =
       let k = g .within in
       let e : i ≡ n = omega arith in
       filled o d₀ (map bit (eachFrom isDoneAt 0 n)) n
       (ap (λ l. take n o ++ map bit l) (sym (each-end isDoneAt n n (omega arith))) ∙ (rw e at (g .written)))
       (rw e at (g .after))
+
+  pub marking-gives : (o a b : List ℕ) (j i : ℕ) → n ≡ count t → n ≤ i → Marking o a b j i
+      → o ≡ map bit (doneMarks c word t ss (shownByNumbers xs (count t) 0) (byNumbers xs (marksOf m) (count t) 0)) ++ drop (count t) d₀
+  marking-gives o a b j i e h g = rw e at (marking-end o a b j i h g)

@@ -3,11 +3,12 @@
 use mathlib.Core.Path.{_≡_, refl, ap, ap₂, _∙_}
 use mathlib.Core.List.{List, [], _∷_, _++_, Sublistᴰ, Sublistᴰ·slnil, Sublistᴰ·cons, Sublistᴰ·cons-cons, Sublistᴰ·refl, Sublistᴰ·trans}
 use mathlib.Core.Option.{Option, none, some}
-use mathlib.Core.Bool.{Bool}
+use mathlib.Core.Bool.{Bool, false}
 use Prim.Native.Nat.{ℕ}
 use lib.Dec.{ltb}
+use lib.ListN.{drop, getD}
 use Rattle.rights.proofs.Lists.{byCase}
-use Rattle.views.specs.Change.{isDone, later, dropBelow, putBehind, remove, insertBehind, insertInFront, rename}
+use Rattle.views.specs.Change.{dropBelow, putBehind, remove, insertBehind, insertInFront, rename}
 use Rattle.views.specs.Nodes.{put, tags}
 
 module _ {X : Type 0} where
@@ -37,9 +38,9 @@ module _ {E X : Type 0} (lev : E → ℕ) (h : E → Option X) where
   pub tags-remove : (ms : List Bool) (t : List E) → Sublistᴰ (tags h (remove lev ms t)) (tags h t)
   unfolding tags remove
   tags-remove ms [] = Sublistᴰ·slnil
-  tags-remove ms (x ∷ t) = byCase (isDone ms)
-      (λ d. rw d (Sublistᴰ·trans (tags-dropBelow (lev x) (remove lev (later ms) t)) (Sublistᴰ·trans (tags-remove (later ms) t) (put-skip (h x) (tags h t)))))
-      (λ d. rw d (put-sub (h x) (tags-remove (later ms) t)))
+  tags-remove ms (x ∷ t) = byCase (getD ms 0 false)
+      (λ d. rw d (Sublistᴰ·trans (tags-dropBelow (lev x) (remove lev (drop 1 ms) t)) (Sublistᴰ·trans (tags-remove (drop 1 ms) t) (put-skip (h x) (tags h t)))))
+      (λ d. rw d (put-sub (h x) (tags-remove (drop 1 ms) t)))
 
   tags-putBehind : (l : ℕ) (y t : List E) → tags h y ≡ [] → tags h (putBehind lev l y t) ≡ tags h t
   unfolding tags putBehind
@@ -50,20 +51,20 @@ module _ {E X : Type 0} (lev : E → ℕ) (h : E → Option X) where
     pub tags-insertBehind : (ms : List Bool) (t : List E) → tags h (insertBehind lev y ms t) ≡ tags h t
     unfolding tags insertBehind
     tags-insertBehind ms [] = refl
-    tags-insertBehind ms (x ∷ t) = byCase (isDone ms)
-        (λ d. rw d (ap (put (h x)) (tags-putBehind (lev x) (y x) _ (new x) ∙ tags-insertBehind (later ms) t)))
-        (λ d. rw d (ap (put (h x)) (tags-insertBehind (later ms) t)))
+    tags-insertBehind ms (x ∷ t) = byCase (getD ms 0 false)
+        (λ d. rw d (ap (put (h x)) (tags-putBehind (lev x) (y x) _ (new x) ∙ tags-insertBehind (drop 1 ms) t)))
+        (λ d. rw d (ap (put (h x)) (tags-insertBehind (drop 1 ms) t)))
 
     pub tags-insertInFront : (ms : List Bool) (t : List E) → tags h (insertInFront lev y ms t) ≡ tags h t
     unfolding tags insertInFront
     tags-insertInFront ms [] = refl
-    tags-insertInFront ms (x ∷ t) = byCase (isDone ms)
-        (λ d. rw d (tags-app (y x) _ ∙ ap₂ _++_ (new x) (ap (put (h x)) (tags-insertInFront (later ms) t))))
-        (λ d. rw d (ap (put (h x)) (tags-insertInFront (later ms) t)))
+    tags-insertInFront ms (x ∷ t) = byCase (getD ms 0 false)
+        (λ d. rw d (tags-app (y x) _ ∙ ap₂ _++_ (new x) (ap (put (h x)) (tags-insertInFront (drop 1 ms) t))))
+        (λ d. rw d (ap (put (h x)) (tags-insertInFront (drop 1 ms) t)))
 
   pub tags-rename : (f : E → E) → ((x : E) → h (f x) ≡ h x) → (ms : List Bool) (t : List E) → tags h (rename lev f ms t) ≡ tags h t
   unfolding tags rename
   tags-rename f e ms [] = refl
-  tags-rename f e ms (x ∷ t) = byCase (isDone ms)
-      (λ d. rw (d, e) (ap (put (h x)) (tags-rename f e (later ms) t)))
-      (λ d. rw d (ap (put (h x)) (tags-rename f e (later ms) t)))
+  tags-rename f e ms (x ∷ t) = byCase (getD ms 0 false)
+      (λ d. rw (d, e) (ap (put (h x)) (tags-rename f e (drop 1 ms) t)))
+      (λ d. rw d (ap (put (h x)) (tags-rename f e (drop 1 ms) t)))

@@ -1,14 +1,14 @@
 -- The changes keep the levels good: no node is more than one level deeper than the one before it. And what holds of each node. Assumes nothing.
 use mathlib.Core.Path.{_≡_, refl}
 use mathlib.Core.List.{List, [], _∷_, _++_}
-use mathlib.Core.Bool.{Bool}
+use mathlib.Core.Bool.{Bool, false}
 use Prim.Native.Nat.{ℕ, suc, _≤_, _<_}
 use native.Mathlib.Omega.{arith}
-use lib.ListN.{length}
+use lib.ListN.{length, drop, getD}
 use lib.Dec.{ltb}
 use borrow.Author.Tests.{ltb-true, ltb-false, lt-ltb}
 use Rattle.rights.proofs.Lists.{byCase}
-use Rattle.views.specs.Change.{isDone, later, dropBelow, putBehind, remove, insertBehind, insertInFront, rename}
+use Rattle.views.specs.Change.{dropBelow, putBehind, remove, insertBehind, insertInFront, rename}
 use Rattle.views.specs.How.Pass.{Above, Front, AtDone}
 use Rattle.views.specs.Nodes.{All, Nested}
 
@@ -28,8 +28,8 @@ module _ {E : Type 0} (lev : E → ℕ) where
   pub nested-remove : (n : ℕ) (ms : List Bool) (t : List E) → Nested lev n t → Nested lev n (remove lev ms t)
   unfolding remove
   nested-remove n ms [] w = tt
-  nested-remove n ms (x ∷ t) w = let ih = nested-remove (suc (lev x)) (later ms) t (w .1) in byCase (isDone ms)
-      (λ d. rw d (nested-dropBelow (lev x) n (suc (lev x)) (remove lev (later ms) t) (w .0) ih))
+  nested-remove n ms (x ∷ t) w = let ih = nested-remove (suc (lev x)) (drop 1 ms) t (w .1) in byCase (getD ms 0 false)
+      (λ d. rw d (nested-dropBelow (lev x) n (suc (lev x)) (remove lev (drop 1 ms) t) (w .0) ih))
       (λ d. rw d (w .0, ih))
 
   nested-app : (k n m : ℕ) (y u : List E) → k ≤ n → Nested lev n y → Above lev k y → Front lev k u → Nested lev m u → Nested lev n (y ++ u)
@@ -47,22 +47,22 @@ module _ {E : Type 0} (lev : E → ℕ) where
       → ((x : E) → Above lev (k x) (y x)) → ((x : E) → Front lev (k x) (y x)) → (n : ℕ) (ms : List Bool) (t : List E) → Nested lev n t → Nested lev n (insertBehind lev y ms t)
   unfolding insertBehind
   nested-insertBehind y k lo hi wy a f n ms [] w = tt
-  nested-insertBehind y k lo hi wy a f n ms (x ∷ t) w = let ih = nested-insertBehind y k lo hi wy a f (suc (lev x)) (later ms) t (w .1) in byCase (isDone ms)
-      (λ d. rw d (w .0, nested-putBehind (lev x) (k x) (suc (lev x)) (y x) (insertBehind lev y (later ms) t) (lo x) (hi x) (hi x) (wy x) (a x) (f x) ih))
+  nested-insertBehind y k lo hi wy a f n ms (x ∷ t) w = let ih = nested-insertBehind y k lo hi wy a f (suc (lev x)) (drop 1 ms) t (w .1) in byCase (getD ms 0 false)
+      (λ d. rw d (w .0, nested-putBehind (lev x) (k x) (suc (lev x)) (y x) (insertBehind lev y (drop 1 ms) t) (lo x) (hi x) (hi x) (wy x) (a x) (f x) ih))
       (λ d. rw d (w .0, ih))
 
   pub nested-insertInFront : (y : E → List E) → ((x : E) → Nested lev (lev x) (y x)) → ((x : E) → Above lev (lev x) (y x)) → ((x : E) → Front lev (lev x) (y x))
       → (n : ℕ) (ms : List Bool) (t : List E) → Nested lev n t → Nested lev n (insertInFront lev y ms t)
   unfolding insertInFront
   nested-insertInFront y wy a f n ms [] w = tt
-  nested-insertInFront y wy a f n ms (x ∷ t) w = let ih = nested-insertInFront y wy a f (suc (lev x)) (later ms) t (w .1) in byCase (isDone ms)
-      (λ d. rw d (nested-app (lev x) n n (y x) (x ∷ insertInFront lev y (later ms) t) (w .0) (nested-front (lev x) n (lev x) (y x) (w .0) (f x) (wy x)) (a x) (omega arith) (w .0, ih)))
+  nested-insertInFront y wy a f n ms (x ∷ t) w = let ih = nested-insertInFront y wy a f (suc (lev x)) (drop 1 ms) t (w .1) in byCase (getD ms 0 false)
+      (λ d. rw d (nested-app (lev x) n n (y x) (x ∷ insertInFront lev y (drop 1 ms) t) (w .0) (nested-front (lev x) n (lev x) (y x) (w .0) (f x) (wy x)) (a x) (omega arith) (w .0, ih)))
       (λ d. rw d (w .0, ih))
 
   pub nested-rename : (f : E → E) → ((x : E) → lev (f x) ≡ lev x) → (n : ℕ) (ms : List Bool) (t : List E) → Nested lev n t → Nested lev n (rename lev f ms t)
   unfolding rename
   nested-rename f fl n ms [] w = tt
-  nested-rename f fl n ms (x ∷ t) w = let ih = nested-rename f fl (suc (lev x)) (later ms) t (w .1) in byCase (isDone ms)
+  nested-rename f fl n ms (x ∷ t) w = let ih = nested-rename f fl (suc (lev x)) (drop 1 ms) t (w .1) in byCase (getD ms 0 false)
       (λ d. rw (d, fl x) (w .0, ih))
       (λ d. rw d (w .0, ih))
 
@@ -76,8 +76,8 @@ module _ {E : Type 0} (lev : E → ℕ) where
     pub all-remove : (ms : List Bool) (t : List E) → All P t → All P (remove lev ms t)
     unfolding remove
     all-remove ms [] a = tt
-    all-remove ms (x ∷ t) a = let ih = all-remove (later ms) t (a .1) in byCase (isDone ms)
-        (λ e. rw e (all-dropBelow (lev x) (remove lev (later ms) t) ih))
+    all-remove ms (x ∷ t) a = let ih = all-remove (drop 1 ms) t (a .1) in byCase (getD ms 0 false)
+        (λ e. rw e (all-dropBelow (lev x) (remove lev (drop 1 ms) t) ih))
         (λ e. rw e (a .0, ih))
 
     pub all-append : (s t : List E) → All P s → All P t → All P (s ++ t)
@@ -94,28 +94,28 @@ module _ {E : Type 0} (lev : E → ℕ) where
     pub all-insertBehind : (y : E → List E) (ms : List Bool) (t : List E) → All P t → AtDone (λ x. All P (y x)) ms t → All P (insertBehind lev y ms t)
     unfolding insertBehind
     all-insertBehind y ms [] a d = tt
-    all-insertBehind y ms (x ∷ t) a d = let ih = all-insertBehind y (later ms) t (a .1) (d .1) in byCase (isDone ms)
-        (λ e. rw e (a .0, all-putBehind (lev x) (y x) (insertBehind lev y (later ms) t) (d .0 e) ih))
+    all-insertBehind y ms (x ∷ t) a d = let ih = all-insertBehind y (drop 1 ms) t (a .1) (d .1) in byCase (getD ms 0 false)
+        (λ e. rw e (a .0, all-putBehind (lev x) (y x) (insertBehind lev y (drop 1 ms) t) (d .0 e) ih))
         (λ e. rw e (a .0, ih))
 
     pub all-insertInFront : (y : E → List E) (ms : List Bool) (t : List E) → All P t → AtDone (λ x. All P (y x)) ms t → All P (insertInFront lev y ms t)
     unfolding insertInFront
     all-insertInFront y ms [] a d = tt
-    all-insertInFront y ms (x ∷ t) a d = let ih = all-insertInFront y (later ms) t (a .1) (d .1) in byCase (isDone ms)
-        (λ e. rw e (all-append (y x) (x ∷ insertInFront lev y (later ms) t) (d .0 e) (a .0, ih)))
+    all-insertInFront y ms (x ∷ t) a d = let ih = all-insertInFront y (drop 1 ms) t (a .1) (d .1) in byCase (getD ms 0 false)
+        (λ e. rw e (all-append (y x) (x ∷ insertInFront lev y (drop 1 ms) t) (d .0 e) (a .0, ih)))
         (λ e. rw e (a .0, ih))
 
     pub all-rename : (f : E → E) → ((x : E) → P x → P (f x)) → (ms : List Bool) (t : List E) → All P t → All P (rename lev f ms t)
     unfolding rename
     all-rename f h ms [] a = tt
-    all-rename f h ms (x ∷ t) a = let ih = all-rename f h (later ms) t (a .1) in byCase (isDone ms)
+    all-rename f h ms (x ∷ t) a = let ih = all-rename f h (drop 1 ms) t (a .1) in byCase (getD ms 0 false)
         (λ e. rw e (h x (a .0), ih))
         (λ e. rw e (a .0, ih))
 
   -- P of each node, and what P gives
   pub done-from : (P Q : E → Type 0) → ((x : E) → P x → Q x) → (ms : List Bool) (t : List E) → AtDone P ms t → AtDone Q ms t
   done-from P Q h ms [] a = tt
-  done-from P Q h ms (x ∷ t) a = ((λ e. h x (a .0 e)), done-from P Q h (later ms) t (a .1))
+  done-from P Q h ms (x ∷ t) a = ((λ e. h x (a .0 e)), done-from P Q h (drop 1 ms) t (a .1))
 
   -- nothing is left below a node at level 0 but deeper nodes
   pub drop-all : (t : List E) → All (λ x. 1 ≤ lev x) t → dropBelow lev 0 t ≡ []
@@ -132,6 +132,6 @@ module _ {E : Type 0} (lev : E → ℕ) where
   pub shorter-remove : (ms : List Bool) (t : List E) → length (remove lev ms t) ≤ length t
   unfolding remove
   shorter-remove ms [] = omega arith
-  shorter-remove ms (x ∷ t) = let ih = shorter-remove (later ms) t in byCase (isDone ms)
-      (λ e. rw e (omega (arith, ih, shorter-dropBelow (lev x) (remove lev (later ms) t))))
+  shorter-remove ms (x ∷ t) = let ih = shorter-remove (drop 1 ms) t in byCase (getD ms 0 false)
+      (λ e. rw e (omega (arith, ih, shorter-dropBelow (lev x) (remove lev (drop 1 ms) t))))
       (λ e. rw e (omega (arith, ih)))

@@ -2,25 +2,41 @@
 -- `remove-only`, `goes-ancestor`, `ancestor-goes`: a node stays exactly if neither it nor an ancestor is done, and those that stay keep their order.
 -- `rename-node`: only nodes that are done change. `lands-behind`, `lands-in-front`: where an inserted tree stands.
 use Prim.Native.Nat.{ℕ, zero, suc, _≤_, _<_}
-use mathlib.Core.Path.{_≡_, refl, sym, ap, _∙_}
+use mathlib.Core.Path.{_≡_, refl, sym, ap, _∙_, fun-ext}
 use mathlib.Core.Bool.{Bool, true, false, cond, not, _&&_, _||_, false≢true}
 use mathlib.Core.List.{List, [], _∷_, _++_, append-assoc, append-nil}
 use mathlib.Core.Logic.{_⊎_, inl, inr, ⊎-elim}
 use native.Mathlib.Omega.{arith}
-use lib.ListN.{length, getD}
+use lib.ListN.{length, getD, drop}
 use lib.Dec.{ltb}
 use borrow.Author.Tests.{ltb-true, ltb-false, lt-ltb}
+use Rattle.rights.specs.Marks.{eachFrom, keep}
 use Rattle.rights.proofs.Lists.{byCase}
-use Rattle.views.specs.Change.{isDone, later, dropBelow, putBehind, remove, insertBehind, insertInFront, rename}
+use Rattle.views.specs.Change.{dropBelow, putBehind, remove, insertBehind, insertInFront, rename}
 use Rattle.views.specs.How.Pass.{Above, Front}
-use Rattle.views.specs.Nodes.{isBelow, isAncestor, markAt, goes, Goes, only, Behind}
+use Rattle.views.specs.Nodes.{isBelow, isAncestor, goes, Goes, Behind}
 use Rattle.views.proofs.Removal.{pass-below, pass-done}
 use Rattle.views.proofs.Waiting.{skip-one, above-less}
 
+-- the nodes whose number passes the test, in order
+abbrev pub only : {E : Type 0} → (ℕ → Bool) → List E → List E
+only p t = keep (eachFrom p 0 (length t)) t
+
+each-shift : (p : ℕ → Bool) (i n : ℕ) → eachFrom p (suc i) n ≡ eachFrom (λ k. p (suc k)) i n
+unfolding eachFrom
+each-shift p i zero = refl
+each-shift p i (suc n) = ap (λ l. p (suc i) ∷ l) (each-shift p (suc i) n)
+
+only-none : {E : Type 0} (p : ℕ → Bool) → only {E = E} p [] ≡ []
+unfolding keep eachFrom
+only-none p = refl
+
+only-first : {E : Type 0} (p : ℕ → Bool) (x : E) (t : List E) → only p (x ∷ t) ≡ cond (p 0) (x ∷ only (λ i. p (suc i)) t) (only (λ i. p (suc i)) t)
+unfolding keep eachFrom
+only-first p x t = rw (each-shift p 0 (length t))
+
 only-same : {E : Type 0} (p q : ℕ → Bool) (t : List E) → ((i : ℕ) → p i ≡ q i) → only p t ≡ only q t
-unfolding only
-only-same p q [] h = refl
-only-same p q (x ∷ t) h = rw (h 0, only-same (λ i. p (suc i)) (λ i. q (suc i)) t (λ i. h (suc i)))
+only-same p q t h = ap (λ f. only f t) (fun-ext h)
 
 -- a test that another one covers
 covered : (d b c g : Bool) → (c ≡ true → b ≡ true) → not (b || g) ≡ not (b || ((d && c) || g))
@@ -49,36 +65,32 @@ module _ {E : Type 0} (lev : E → ℕ) where
       (λ q. let f : isBelow lev k t i ≡ true = rw q at e in rw (lt-ltb l (lev x) (omega (arith, h, ltb-true k (lev x) q))) (below-lower l k t i h f))
       (λ q. absurd (false≢true (rw q at e)))
 
-  both-only : (t : List E) (ms : List Bool) → (remove lev ms t ≡ only (λ i. not (goes lev ms t i)) t)
+  kept-only : (t : List E) (ms : List Bool) → (remove lev ms t ≡ only (λ i. not (goes lev ms t i)) t)
       × ((l : ℕ) → dropBelow lev l (remove lev ms t) ≡ only (λ i. not (isBelow lev l t i || goes lev ms t i)) t)
-  unfolding remove dropBelow only goes isBelow
-  both-only [] ms = (refl, λ l. refl)
-  both-only (x ∷ t) ms =
-      let ih = both-only t (later ms) in (
-        byCase (isDone ms)
-            (λ d. rw d (ih .1 (lev x)))
-            (λ d. rw d (ap (λ (r : List E). x ∷ r) (ih .0))),
-        λ l. byCase (ltb l (lev x))
+  unfolding remove dropBelow goes isBelow
+  kept-only [] ms = (sym (only-none (λ i. not (goes lev ms [] i))), λ l. sym (only-none (λ i. not (isBelow lev l [] i || goes lev ms [] i))))
+  kept-only (x ∷ t) ms =
+      let ih = kept-only t (drop 1 ms) in
+      let first = only-first (λ i. not (goes lev ms (x ∷ t) i)) x t in (
+        byCase (getD ms 0 false)
+            (λ d. rw (first, d) (ih .1 (lev x)))
+            (λ d. rw (first, d) (ap (λ (r : List E). x ∷ r) (ih .0))),
+        λ l. let second = only-first (λ i. not (isBelow lev l (x ∷ t) i || goes lev ms (x ∷ t) i)) x t in
+            byCase (ltb l (lev x))
             (λ e. let h : l < lev x = ltb-true l (lev x) e in
-            pass-below lev l x ms t h ∙ ih .1 l ∙ rw e
-            (only-same (λ i. not (isBelow lev l t i || goes lev (later ms) t i)) (λ i. not (isBelow lev l t i || ((isDone ms && isBelow lev (lev x) t i) || goes lev (later ms) t i))) t
-            (λ i. covered (isDone ms) (isBelow lev l t i) (isBelow lev (lev x) t i) (goes lev (later ms) t i) (below-lower l (lev x) t i (omega (arith, h))))))
-            (λ e. let h : lev x ≤ l = ltb-false l (lev x) e in byCase (isDone ms)
-            (λ d. pass-done lev l x ms t h d ∙ ih .1 (lev x) ∙ rw (e, d))
-            (λ d. rw (d, e) (ap (λ (r : List E). x ∷ r) (ih .0)))),
+            pass-below lev l x ms t h ∙ ih .1 l ∙ rw (second, e)
+            (only-same (λ i. not (isBelow lev l t i || goes lev (drop 1 ms) t i)) (λ i. not (isBelow lev l t i || ((getD ms 0 false && isBelow lev (lev x) t i) || goes lev (drop 1 ms) t i))) t
+            (λ i. covered (getD ms 0 false) (isBelow lev l t i) (isBelow lev (lev x) t i) (goes lev (drop 1 ms) t i) (below-lower l (lev x) t i (omega (arith, h))))))
+            (λ e. let h : lev x ≤ l = ltb-false l (lev x) e in byCase (getD ms 0 false)
+            (λ d. pass-done lev l x ms t h d ∙ ih .1 (lev x) ∙ rw (second, e, d))
+            (λ d. rw (second, d, e) (ap (λ (r : List E). x ∷ r) (ih .0)))),
       )
 
   -- What a removal leaves: the nodes that do not go, in order.
   pub remove-only : (ms : List Bool) (t : List E) → remove lev ms t ≡ only (λ i. not (goes lev ms t i)) t
-  remove-only ms t = both-only t ms .0
+  remove-only ms t = kept-only t ms .0
 
-  mark-first : (ms : List Bool) → markAt ms 0 ≡ isDone ms
-  unfolding markAt
-  mark-first [] = refl
-  mark-first (b ∷ bs) = refl
-
-  mark-later : (ms : List Bool) (i : ℕ) → markAt ms (suc i) ≡ markAt (later ms) i
-  unfolding markAt
+  mark-later : (ms : List Bool) (i : ℕ) → getD ms (suc i) false ≡ getD (drop 1 ms) i false
   mark-later [] i = refl
   mark-later (b ∷ bs) i = refl
 
@@ -94,33 +106,33 @@ module _ {E : Type 0} (lev : E → ℕ) where
   pub goes-ancestor : (ms : List Bool) (t : List E) (i : ℕ) → goes lev ms t i ≡ true → Goes lev ms t i
   unfolding goes isAncestor
   goes-ancestor ms [] i e = absurd (false≢true e)
-  goes-ancestor ms (x ∷ t) zero e = record { node = 0; done = mark-first ms ∙ e; over = inr refl }
+  goes-ancestor ms (x ∷ t) zero e = record { node = 0; done = e; over = inr refl }
   goes-ancestor ms (x ∷ t) (suc i) e = ⊎-elim
-      (λ f. let g = and-case (isDone ms) (isBelow lev (lev x) t i) f in record { node = 0; done = mark-first ms ∙ g .0; over = inl (g .1) })
-      (λ f. let g = goes-ancestor (later ms) t i f in
+      (λ f. let g = and-case (getD ms 0 false) (isBelow lev (lev x) t i) f in record { node = 0; done = g .0; over = inl (g .1) })
+      (λ f. let g = goes-ancestor (drop 1 ms) t i f in
       record { node = suc (g .node); done = mark-later ms (g .node) ∙ g .done; over = ⊎-elim (λ a. inl a) (λ a. inr (ap suc a)) (g .over) })
-      (or-case (isDone ms && isBelow lev (lev x) t i) (goes lev (later ms) t i) e)
+      (or-case (getD ms 0 false && isBelow lev (lev x) t i) (goes lev (drop 1 ms) t i) e)
 
   -- And a node of the list that is done, or has an ancestor that is, goes.
-  pub ancestor-goes : (ms : List Bool) (t : List E) (i j : ℕ) → i < length t → markAt ms j ≡ true → (isAncestor lev t j i ≡ true) ⊎ (j ≡ i) → goes lev ms t i ≡ true
+  pub ancestor-goes : (ms : List Bool) (t : List E) (i j : ℕ) → i < length t → getD ms j false ≡ true → (isAncestor lev t j i ≡ true) ⊎ (j ≡ i) → goes lev ms t i ≡ true
   unfolding goes isAncestor
   ancestor-goes ms [] i j h m o = absurd (omega arith)
-  ancestor-goes ms (x ∷ t) zero zero h m o = sym (mark-first ms) ∙ m
+  ancestor-goes ms (x ∷ t) zero zero h m o = m
   ancestor-goes ms (x ∷ t) zero (suc j) h m (inl a) = absurd (false≢true a)
   ancestor-goes ms (x ∷ t) zero (suc j) h m (inr a) = absurd (omega (arith, a))
-  ancestor-goes ms (x ∷ t) (suc i) zero h m (inl a) = rw (sym (mark-first ms) ∙ m, a)
+  ancestor-goes ms (x ∷ t) (suc i) zero h m (inl a) = rw (m, a)
   ancestor-goes ms (x ∷ t) (suc i) zero h m (inr a) = absurd (omega (arith, a))
   ancestor-goes ms (x ∷ t) (suc i) (suc j) h m (inl a) =
-      rw (ancestor-goes (later ms) t i j (omega arith) (sym (mark-later ms j) ∙ m) (inl a)) (or-true (isDone ms && isBelow lev (lev x) t i))
+      rw (ancestor-goes (drop 1 ms) t i j (omega arith) (sym (mark-later ms j) ∙ m) (inl a)) (or-true (getD ms 0 false && isBelow lev (lev x) t i))
   ancestor-goes ms (x ∷ t) (suc i) (suc j) h m (inr a) =
-      rw (ancestor-goes (later ms) t i j (omega arith) (sym (mark-later ms j) ∙ m) (inr (omega (arith, a)))) (or-true (isDone ms && isBelow lev (lev x) t i))
+      rw (ancestor-goes (drop 1 ms) t i j (omega arith) (sym (mark-later ms j) ∙ m) (inr (omega (arith, a)))) (or-true (getD ms 0 false && isBelow lev (lev x) t i))
 
   -- Only nodes that are done change; every other stays, at its place.
-  pub rename-node : (f : E → E) (ms : List Bool) (t : List E) (i : ℕ) (z : E) → i < length t → getD (rename lev f ms t) i z ≡ cond (markAt ms i) (f (getD t i z)) (getD t i z)
+  pub rename-node : (f : E → E) (ms : List Bool) (t : List E) (i : ℕ) (z : E) → i < length t → getD (rename lev f ms t) i z ≡ cond (getD ms i false) (f (getD t i z)) (getD t i z)
   unfolding rename
   rename-node f ms [] i z h = absurd (omega arith)
-  rename-node f ms (x ∷ t) zero z h = rw (mark-first ms)
-  rename-node f ms (x ∷ t) (suc i) z h = rw (mark-later ms i) (rename-node f (later ms) t i z (omega arith))
+  rename-node f ms (x ∷ t) zero z h = refl
+  rename-node f ms (x ∷ t) (suc i) z h = rw (mark-later ms i) (rename-node f (drop 1 ms) t i z (omega arith))
 
   -- "directly beside it": the tree stands in front of its node, whatever else is inserted.
   pub lands-in-front : (y : E → List E) (a : List E) (x : E) (b : List E) (ma mb : List Bool) → length ma ≡ length a

@@ -1,7 +1,7 @@
 -- Laws of a renaming. Assumes nothing.
 use mathlib.Core.Path.{_≡_, ap, sym, _∙_}
 use mathlib.Core.List.{List, [], _∷_, _++_, append-assoc, append-nil}
-use mathlib.Core.Bool.{true, cond, not}
+use mathlib.Core.Bool.{Bool, true, cond, not}
 use Prim.Native.Nat.{ℕ, _+_, _-_, _*_, _≤_, _<_}
 use native.Mathlib.Omega.{arith}
 use native.Mathlib.Nat.{zero-add}
@@ -71,9 +71,9 @@ old-label b i t z n = rw (eq-eqb b 0 n) (lib.Seq.take-add (4 + i * 32) 32 t)
 
 module _ (n : ℕ) (lb ms : List ℕ) where
   pub naming : ℕ → List ℕ → List (List ℕ)
-  naming i t = chunks i (drop 4 t) ++ renamed lb (drop i ms) (rest n 0 i t)
+  naming i t = chunks i (drop 4 t) ++ renamed lb (marksOf (drop i ms)) (rest n 0 i t)
 
-  pub naming-none : (t : List ℕ) → naming 0 t ≡ renamed lb ms (chunks n (drop 4 t))
+  pub naming-none : (t : List ℕ) → naming 0 t ≡ renamed lb (marksOf ms) (chunks n (drop 4 t))
   unfolding naming chunks
   naming-none t = let z : n - 0 ≡ n = omega arith in rw z
 
@@ -103,8 +103,8 @@ module _ (n : ℕ) (lb ms : List ℕ) where
     tail-stays = drop-more (4 + i * 32 + 32) ((n - (i + 1)) * 32) p t (4 + n * 32) (omega arith) back
 
 -- the whole table
-pub length-renamed : (lb ms : List ℕ) (rs : List (List ℕ)) → length (renamed lb ms rs) ≡ length rs
-length-renamed lb ms rs = length-rename level (relabel lb) (marksOf ms) rs
+pub length-renamed : (lb : List ℕ) (ms : List Bool) (rs : List (List ℕ)) → length (renamed lb ms rs) ≡ length rs
+length-renamed lb ms rs = length-rename level (relabel lb) ms rs
 
 pub renamed-table : (t p : List ℕ) (rs : List (List ℕ)) → tableOk t ≡ true → ((i : ℕ) → getD t i 0 < 256) → length p ≡ length t → length rs ≡ count t
     → chunks (count t) (drop 4 p) ≡ rs → take 4 p ≡ take 4 t → drop (4 + count t * 32) p ≡ drop (4 + count t * 32) t → p ≡ changed t rs

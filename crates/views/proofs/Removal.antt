@@ -9,7 +9,7 @@ use lib.ListN.{length, getD, take, drop}
 use borrow.Author.Tests.{lt-ltb, le-ltb, ltb-true, ltb-false, eq-eqb, ne-eqb}
 use Rattle.rights.specs.Table.{level}
 use Rattle.rights.proofs.Lists.{byCase}
-use Rattle.views.specs.Change.{isDone, later, dropBelow, remove, chunks}
+use Rattle.views.specs.Change.{dropBelow, remove, chunks}
 use Rattle.rights.specs.Marks.{marksOf}
 use Rattle.views.specs.How.Pass.{going, Under}
 use Rattle.views.proofs.Chunks.{chunks-cons, level-first, marks-drop, one-more}
@@ -34,9 +34,9 @@ module _ {E : Type 0} (lev : E → ℕ) where
   pub under-remove : (k : ℕ) (ms : List Bool) (t : List E) → Under lev k t → Under lev k (remove lev ms t)
   unfolding remove
   under-remove k ms [] h = tt
-  under-remove k ms (x ∷ t) h = byCase (isDone ms)
-      (λ d. rw d (under-dropBelow k (lev x) (remove lev (later ms) t) (under-remove k (later ms) t (h .1))))
-      (λ d. rw d (h .0, under-remove k (later ms) t (h .1)))
+  under-remove k ms (x ∷ t) h = byCase (getD ms 0 false)
+      (λ d. rw d (under-dropBelow k (lev x) (remove lev (drop 1 ms) t) (under-remove k (drop 1 ms) t (h .1))))
+      (λ d. rw d (h .0, under-remove k (drop 1 ms) t (h .1)))
 
   pub drop-none : (k : ℕ) (u : List E) → Under lev k u → dropBelow lev k u ≡ u
   unfolding dropBelow
@@ -45,21 +45,21 @@ module _ {E : Type 0} (lev : E → ℕ) where
 
   -- one node of a pass from the left, while what is deeper than `cut` goes
   module _ (cut : ℕ) (x : E) (ms : List Bool) (t : List E) where
-    pub pass-below : cut < lev x → dropBelow lev cut (remove lev ms (x ∷ t)) ≡ dropBelow lev cut (remove lev (later ms) t)
+    pub pass-below : cut < lev x → dropBelow lev cut (remove lev ms (x ∷ t)) ≡ dropBelow lev cut (remove lev (drop 1 ms) t)
     unfolding remove dropBelow
-    pass-below h = byCase (isDone ms)
-        (λ d. let z : min cut (lev x) ≡ cut = omega arith in rw d (drop-twice cut (lev x) (remove lev (later ms) t) ∙ ap (λ (l : ℕ). dropBelow lev l (remove lev (later ms) t)) z))
+    pass-below h = byCase (getD ms 0 false)
+        (λ d. let z : min cut (lev x) ≡ cut = omega arith in rw d (drop-twice cut (lev x) (remove lev (drop 1 ms) t) ∙ ap (λ (l : ℕ). dropBelow lev l (remove lev (drop 1 ms) t)) z))
         (λ d. rw (d, lt-ltb cut (lev x) h))
 
-    pub pass-done : lev x ≤ cut → isDone ms ≡ true → dropBelow lev cut (remove lev ms (x ∷ t)) ≡ dropBelow lev (lev x) (remove lev (later ms) t)
+    pub pass-done : lev x ≤ cut → getD ms 0 false ≡ true → dropBelow lev cut (remove lev ms (x ∷ t)) ≡ dropBelow lev (lev x) (remove lev (drop 1 ms) t)
     unfolding remove
     pass-done h d =
         let z : min cut (lev x) ≡ lev x = omega arith in
-        rw d (drop-twice cut (lev x) (remove lev (later ms) t) ∙ ap (λ (l : ℕ). dropBelow lev l (remove lev (later ms) t)) z)
+        rw d (drop-twice cut (lev x) (remove lev (drop 1 ms) t) ∙ ap (λ (l : ℕ). dropBelow lev l (remove lev (drop 1 ms) t)) z)
 
-    pub pass-kept : (k : ℕ) → lev x ≤ cut → isDone ms ≡ false → Under lev k t → dropBelow lev cut (remove lev ms (x ∷ t)) ≡ x ∷ dropBelow lev k (remove lev (later ms) t)
+    pub pass-kept : (k : ℕ) → lev x ≤ cut → getD ms 0 false ≡ false → Under lev k t → dropBelow lev cut (remove lev ms (x ∷ t)) ≡ x ∷ dropBelow lev k (remove lev (drop 1 ms) t)
     unfolding remove dropBelow
-    pass-kept k h d u = rw (d, le-ltb cut (lev x) h, drop-none k (remove lev (later ms) t) (under-remove k (later ms) t u))
+    pass-kept k h d u = rw (d, le-ltb cut (lev x) h, drop-none k (remove lev (drop 1 ms) t) (under-remove k (drop 1 ms) t u))
 
 -- what one record does
 module _ (n i cut w : ℕ) (t ms : List ℕ) (inside : i < n) (many : n ≤ length ms) where

@@ -9,12 +9,13 @@ use native.Mathlib.Omega.{arith}
 use lib.Dec.{leb}
 use lib.ListN.{length, take, drop, getD, set}
 use lib.Seq.{drop-cons}
+use Rattle.rights.specs.Marks.{keep}
 use Rattle.rights.specs.Table.{recordAt, recordsFrom, records, level, recordOk, recordsOk, tableOk, count}
 use Rattle.rights.proofs.Records.{records-step, records-end}
 use Rattle.rights.specs.PolicyBytes.{Text}
 use Rattle.rights.proofs.Texts.{byte-at}
 use Rattle.rights.proofs.Facts.{Sound, all-sound, both, record-levels}
-use Rattle.views.specs.Shown.{Stored, storedFrom, stored, storedLevel, grants, granted, depthAfter, isShownAt, shown, shownFrom, keep, numberOf, shownNumbers, numbersFrom}
+use Rattle.views.specs.Shown.{Stored, storedFrom, stored, storedLevel, grants, granted, depthAfter, isShownAt, shown, shownFrom, numberOf, shownNumbers, numbersFrom}
 use Rattle.views.proofs.Fill.{put-take, put-drop, put-length, put-next, filled, filled-length}
 use Rattle.views.proofs.Chunks.{level-first}
 use Rattle.views.proofs.TableFacts.{facts}

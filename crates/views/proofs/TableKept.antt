@@ -7,7 +7,7 @@ use native.Mathlib.Omega.{arith}
 use native.Mathlib.Numerals.{add-one}
 use native.Mathlib.Nat.{add-zero}
 use borrow.Author.Tests.{leb-true}
-use lib.ListN.{length, getD, drop, replicate, length-append, length-replicate, length-drop}
+use lib.ListN.{length, getD, take, drop, replicate, length-append, length-replicate, length-drop}
 use lib.Seq.{take-at, drop-at, drop-drop, length-take-le, getD-drop}
 use Rattle.rights.specs.Bytes.{all, isZero}
 use Rattle.rights.specs.Table.{labelPartOk, spareOk, recordOk, recordsOk, level, spare, tableOk, count, capacity, records}
@@ -17,8 +17,8 @@ use Rattle.rights.proofs.Records.{table-yes, record-yes}
 use Rattle.rights.proofs.RecordMade.{zeros-zero, made-ok, spare-made}
 use Rattle.views.specs.declared.insert.Place.{Place}
 use Rattle.views.specs.declared.insert.Place.the-variants.{Append, After, Before}
-use Rattle.views.specs.Change.{isDone, later, dropBelow, putBehind, remove, insertBehind, insertInFront, rename, chunks, raise, lower, placed, removed, relabel, renamed, join, changed, deepest, tooDeep, hasRoom}
-use Rattle.rights.specs.Marks.{marksOf, marked}
+use Rattle.views.specs.Change.{dropBelow, putBehind, remove, insertBehind, insertInFront, rename, chunks, raise, lower, placed, removed, relabel, renamed, join, changed, deepest, tooDeep, hasRoom}
+use Rattle.rights.specs.Marks.{markCount}
 use Rattle.views.specs.How.Pass.{Above, Front, AtDone, Shallow}
 use Rattle.views.specs.Nodes.{All, Nested, TreeOk, LabelOk}
 use Rattle.views.proofs.Chunks.{all-chunks, length-chunks, level-first}
@@ -142,10 +142,10 @@ unfolding remove recordsOk
 remove-kept ms [] k = (refl, tt)
 remove-kept ms (r ∷ rs) k =
     let s = root-split r rs (k .0) (k .1 .1) in
-    let u = remove level (later ms) rs in
-    let w = nested-remove level (suc (level r)) (later ms) rs (s .2) in
-    let g = all-remove level Good (later ms) rs (s .3) in
-    byCase (isDone ms)
+    let u = remove level (drop 1 ms) rs in
+    let w = nested-remove level (suc (level r)) (drop 1 ms) rs (s .2) in
+    let g = all-remove level Good (drop 1 ms) rs (s .3) in
+    byCase (getD ms 0 false)
     (λ d. let z : dropBelow level (level r) u ≡ [] = rw (s .0) (drop-all level u (good-deep u g)) in rw (d, z) (refl, tt))
     (λ d. rw d (root-join r u (s .0) (s .1) w g, (k .1 .0, good-full u g)))
 
@@ -156,24 +156,24 @@ module _ (y : List ℕ → List (List ℕ)) (k : List ℕ → ℕ) (lo : (x : Li
   behind-kept ms [] q d = (refl, tt)
   behind-kept ms (r ∷ rs) q d =
       let s = root-split r rs (q .0) (q .1 .1) in
-      let u = insertBehind level y (later ms) rs in
+      let u = insertBehind level y (drop 1 ms) rs in
       let w = nested-insertBehind level y k lo hi wy ab fr (level r) ms (r ∷ rs) (omega arith, s .2) in
-      let g = all-insertBehind level Good y (later ms) rs (s .3) (d .1) in
-      byCase (isDone ms)
+      let g = all-insertBehind level Good y (drop 1 ms) rs (s .3) (d .1) in
+      byCase (getD ms 0 false)
       (λ e. let v = (rw e at w) .1 in let h = all-putBehind level Good (level r) (y r) u (d .0 e) g in
       rw e (root-join r (putBehind level (level r) (y r) u) (s .0) (s .1) v h, (q .1 .0, good-full (putBehind level (level r) (y r) u) h)))
       (λ e. let v = (rw e at w) .1 in rw e (root-join r u (s .0) (s .1) v g, (q .1 .0, good-full u g)))
 
 module _ (y : List ℕ → List (List ℕ)) (wy : (x : List ℕ) → Nested level (level x) (y x)) (ab : (x : List ℕ) → Above level (level x) (y x))
     (fr : (x : List ℕ) → Front level (level x) (y x)) where
-  front-kept : (ms : List Bool) (rs : List (List ℕ)) → isDone ms ≡ false → Ok rs → AtDone (λ x. All Good (y x)) ms rs → Ok (insertInFront level y ms rs)
+  front-kept : (ms : List Bool) (rs : List (List ℕ)) → getD ms 0 false ≡ false → Ok rs → AtDone (λ x. All Good (y x)) ms rs → Ok (insertInFront level y ms rs)
   unfolding insertInFront recordsOk
   front-kept ms [] e q d = (refl, tt)
   front-kept ms (r ∷ rs) e q d =
       let s = root-split r rs (q .0) (q .1 .1) in
-      let u = insertInFront level y (later ms) rs in
-      let w = nested-insertInFront level y wy ab fr (suc (level r)) (later ms) rs (s .2) in
-      let g = all-insertInFront level Good y (later ms) rs (s .3) (d .1) in
+      let u = insertInFront level y (drop 1 ms) rs in
+      let w = nested-insertInFront level y wy ab fr (suc (level r)) (drop 1 ms) rs (s .2) in
+      let g = all-insertInFront level Good y (drop 1 ms) rs (s .3) (d .1) in
       rw e (root-join r u (s .0) (s .1) w g, (q .1 .0, good-full u g))
 
 rename-kept : (s : List ℕ) → LabelOk s → (ms : List Bool) (rs : List (List ℕ)) → Ok rs → Ok (rename level (relabel s) ms rs)
@@ -181,10 +181,10 @@ unfolding rename recordsOk
 rename-kept s l ms [] q = (refl, tt)
 rename-kept s l ms (r ∷ rs) q =
     let p = root-split r rs (q .0) (q .1 .1) in
-    let u = rename level (relabel s) (later ms) rs in
-    let w = nested-rename level (relabel s) (level-relabel s) (suc (level r)) (later ms) rs (p .2) in
-    let g = all-rename level Good (relabel s) good (later ms) rs (p .3) in
-    byCase (isDone ms)
+    let u = rename level (relabel s) (drop 1 ms) rs in
+    let w = nested-rename level (relabel s) (level-relabel s) (suc (level r)) (drop 1 ms) rs (p .2) in
+    let g = all-rename level Good (relabel s) good (drop 1 ms) rs (p .3) in
+    byCase (getD ms 0 false)
     (λ d. rw d (root-join (relabel s r) u (level-relabel s r ∙ p .0) (made r (p .1)) (rw (level-relabel s r) w) g, (length-relabel s r (l .short) (q .1 .0), good-full u g)))
     (λ d. rw d (root-join r u (p .0) (p .1) w g, (q .1 .0, good-full u g)))
   where
@@ -233,38 +233,38 @@ tree-levels k (suc m) tree h = (
 
 done-with : (P Q R : List ℕ → Type 0) → ((x : List ℕ) → P x → Q x → R x) → (ms : List Bool) (t : List (List ℕ)) → All P t → AtDone Q ms t → AtDone R ms t
 done-with P Q R h ms [] a b = tt
-done-with P Q R h ms (x ∷ t) a b = ((λ e. h x (a .0) (b .0 e)), done-with P Q R h (later ms) t (a .1) (b .1))
+done-with P Q R h ms (x ∷ t) a b = ((λ e. h x (a .0) (b .0 e)), done-with P Q R h (drop 1 ms) t (a .1) (b .1))
 
 module _ (m : ℕ) (tree : List ℕ) (ok : TreeOk (chunks m tree)) where
   lands : (k : ℕ) → 1 ≤ k → ((j : ℕ) → j < m → k + getD tree (j * 32) 0 < 12) → All Good (raise k (chunks m tree))
   lands k h s = tree-good k (chunks m tree) h (ok .labels) (tree-levels k m tree s)
 
   -- beside a node that is not the root
-  beside : (ms : List Bool) (rs : List (List ℕ)) → isDone ms ≡ false → Ok rs → AtDone (λ r. Shallow 0 m tree (level r)) ms rs
+  beside : (ms : List Bool) (rs : List (List ℕ)) → getD ms 0 false ≡ false → Ok rs → AtDone (λ r. Shallow 0 m tree (level r)) ms rs
       → AtDone (λ r. All Good (raise (level r) (chunks m tree))) ms rs
   beside ms [] e q d = tt
   beside ms (r ∷ rs) e q d = (
     (λ f. absurd (false≢true (sym e ∙ f))),
     done-with Good (λ r. Shallow 0 m tree (level r)) (λ r. All Good (raise (level r) (chunks m tree)))
-        (λ x g s. lands (level x) (g .0) (λ j h. omega (arith, s j h))) (later ms) rs (root-split r rs (q .0) (q .1 .1) .3) (d .1),
+        (λ x g s. lands (level x) (g .0) (λ j h. omega (arith, s j h))) (drop 1 ms) rs (root-split r rs (q .0) (q .1 .1) .3) (d .1),
   )
 
-  placed-kept : (place : Place) (ms : List ℕ) (rs : List (List ℕ)) → Ok rs → AtDone (λ r. Shallow (lower place) m tree (level r)) (marksOf ms) rs
-      → (lower place ≡ 0 → isDone (marksOf ms) ≡ false) → Ok (placed place m tree ms rs)
+  placed-kept : (place : Place) (ms : List Bool) (rs : List (List ℕ)) → Ok rs → AtDone (λ r. Shallow (lower place) m tree (level r)) ms rs
+      → (lower place ≡ 0 → getD ms 0 false ≡ false) → Ok (placed place m tree ms rs)
   placed-kept Append ms rs q d root =
       behind-kept (λ x. raise (suc (level x)) (chunks m tree)) (λ x. suc (level x)) (λ x. omega arith) (λ x. omega arith)
       (λ x. tree-nested (suc (level x)) (chunks m tree) (ok .nested)) (λ x. above-raise (suc (level x)) (suc (level x)) (chunks m tree) (omega arith))
-      (λ x. tree-front (suc (level x)) (chunks m tree) (ok .nested)) (marksOf ms) rs q
+      (λ x. tree-front (suc (level x)) (chunks m tree) (ok .nested)) ms rs q
       (done-from level (λ r. Shallow 1 m tree (level r)) (λ r. All Good (raise (suc (level r)) (chunks m tree)))
-      (λ x s. lands (suc (level x)) (omega arith) (λ j h. omega (arith, s j h))) (marksOf ms) rs d)
+      (λ x s. lands (suc (level x)) (omega arith) (λ j h. omega (arith, s j h))) ms rs d)
   placed-kept After ms rs q d root =
       behind-kept (λ x. raise (level x) (chunks m tree)) (λ x. level x) (λ x. omega arith) (λ x. omega arith)
       (λ x. tree-nested (level x) (chunks m tree) (ok .nested)) (λ x. above-raise (level x) (level x) (chunks m tree) (omega arith))
-      (λ x. tree-front (level x) (chunks m tree) (ok .nested)) (marksOf ms) rs q (beside (marksOf ms) rs (root refl) q d)
+      (λ x. tree-front (level x) (chunks m tree) (ok .nested)) ms rs q (beside ms rs (root refl) q d)
   placed-kept Before ms rs q d root =
       front-kept (λ x. raise (level x) (chunks m tree))
       (λ x. tree-nested (level x) (chunks m tree) (ok .nested)) (λ x. above-raise (level x) (level x) (chunks m tree) (omega arith))
-      (λ x. tree-front (level x) (chunks m tree) (ok .nested)) (marksOf ms) rs (root refl) q (beside (marksOf ms) rs (root refl) q d)
+      (λ x. tree-front (level x) (chunks m tree) (ok .nested)) ms rs (root refl) q (beside ms rs (root refl) q d)
 
 -- the records of a table
 pub full-chunks : (n : ℕ) (x : List ℕ) → n * 32 ≤ length x → All Full (chunks n x)
@@ -278,7 +278,7 @@ length-records t = ap length (all-chunks t) ∙ length-chunks (count t) (drop 4 
 records-kept : (t : List ℕ) → tableOk t ≡ true → Ok (records t)
 records-kept t e = let f = facts t e in (f .nested, rw (all-chunks t) (full-chunks (count t) (drop 4 t) (rw length-drop (omega (arith, f .size)))))
 
-pub length-placed : (place : Place) (t ms tree : List ℕ) (m : ℕ) → length (placed place m tree ms (records t)) ≡ count t + marked (count t) ms * m
+pub length-placed : (place : Place) (t : List ℕ) (ms : List Bool) (tree : List ℕ) (m : ℕ) → length (placed place m tree ms (records t)) ≡ count t + markCount (take (count t) ms) * m
 length-placed place t ms tree m = ap (λ (rs : List (List ℕ)). length (placed place m tree ms rs)) (all-chunks t) ∙ placed-length place (count t) m tree ms (drop 4 t)
 
 -- ----------------------------------------------------------------------------
@@ -298,24 +298,24 @@ stored t rs h r k = record {
   counted = count-changed t rs h r (k .1);
 }
 
-pub removed-stored : (t ms : List ℕ) → tableOk t ≡ true → StoredAs t (removed ms (records t))
+pub removed-stored : (t : List ℕ) (ms : List Bool) → tableOk t ≡ true → StoredAs t (removed ms (records t))
 removed-stored t ms e =
     let f = facts t e in
-    let l : length (removed ms (records t)) ≤ count t = omega (arith, shorter-remove level (marksOf ms) (records t), length-records t) in
-    stored t (removed ms (records t)) (f .head) (omega (arith, l, f .held)) (remove-kept (marksOf ms) (records t) (records-kept t e))
+    let l : length (removed ms (records t)) ≤ count t = omega (arith, shorter-remove level ms (records t), length-records t) in
+    stored t (removed ms (records t)) (f .head) (omega (arith, l, f .held)) (remove-kept ms (records t) (records-kept t e))
 
-pub renamed-stored : (t ms s : List ℕ) → tableOk t ≡ true → LabelOk s → StoredAs t (renamed s ms (records t))
+pub renamed-stored : (t : List ℕ) (ms : List Bool) (s : List ℕ) → tableOk t ≡ true → LabelOk s → StoredAs t (renamed s ms (records t))
 renamed-stored t ms s e l =
     let f = facts t e in
-    let n : length (renamed s ms (records t)) ≡ count t = length-rename level (relabel s) (marksOf ms) (records t) ∙ length-records t in
-    stored t (renamed s ms (records t)) (f .head) (omega (arith, n, f .held)) (rename-kept s l (marksOf ms) (records t) (records-kept t e))
+    let n : length (renamed s ms (records t)) ≡ count t = length-rename level (relabel s) ms (records t) ∙ length-records t in
+    stored t (renamed s ms (records t)) (f .head) (omega (arith, n, f .held)) (rename-kept s l ms (records t) (records-kept t e))
 
-pub placed-stored : (place : Place) (t ms tree : List ℕ) (m : ℕ) → tableOk t ≡ true → TreeOk (chunks m tree)
-    → tooDeep (lower place + deepest (chunks m tree)) (marksOf ms) (records t) ≡ false → hasRoom t ms m ≡ true → (lower place ≡ 0 → isDone (marksOf ms) ≡ false)
+pub placed-stored : (place : Place) (t : List ℕ) (ms : List Bool) (tree : List ℕ) (m : ℕ) → tableOk t ≡ true → TreeOk (chunks m tree)
+    → tooDeep (lower place + deepest (chunks m tree)) ms (records t) ≡ false → hasRoom t ms m ≡ true → (lower place ≡ 0 → getD ms 0 false ≡ false)
     → StoredAs t (placed place m tree ms (records t))
 placed-stored place t ms tree m e ok deep room root =
     let f = facts t e in
     let n = length-placed place t ms tree m in
-    let r : marked (count t) ms * m ≤ capacity (length t) - count t = leb-true _ _ room in
+    let r : markCount (take (count t) ms) * m ≤ capacity (length t) - count t = leb-true _ _ room in
     stored t (placed place m tree ms (records t)) (f .head) (omega (arith, n, r, f .held))
-    (placed-kept m tree ok place ms (records t) (records-kept t e) (shallow-places (lower place) m tree (marksOf ms) (records t) deep) root)
+    (placed-kept m tree ok place ms (records t) (records-kept t e) (shallow-places (lower place) m tree ms (records t) deep) root)

@@ -8,6 +8,7 @@ use native.Mathlib.Omega.{arith}
 use borrow.Author.Tests.{leb-true, le-leb, lt-leb}
 use lib.Dec.{leb}
 use lib.ListN.{length, getD, length-map}
+use Rattle.rights.specs.Marks.{keep}
 use Rattle.rights.specs.Labels.{restricted}
 use Rattle.rights.specs.Table.{recordAt, recordsFrom, records, level, label, recordOk, recordsOk, tableOk, count}
 use Rattle.rights.specs.Policy.{read}
@@ -16,7 +17,7 @@ use Rattle.rights.specs.Rights.{holds}
 use Rattle.rights.specs.Nodes.{Node, node, Nodes, levelOf, levelAt, Nested, recordPlace, seen, viewOf, Fits}
 use Rattle.rights.proofs.Facts.{both, record-levels}
 use Rattle.rights.proofs.Lists.{byCase}
-use Rattle.views.specs.Shown.{Stored, storedFrom, stored, storedLevel, granted, isShownAt, shownFrom, shown, keep, carried, numberOf, view, shownNumbers}
+use Rattle.views.specs.Shown.{Stored, storedFrom, stored, storedLevel, granted, isShownAt, shownFrom, shown, carried, numberOf, view, shownNumbers}
 use Rattle.views.proofs.StoredNodes.{record-text, table-by-depth}
 use Rattle.views.proofs.TableFacts.{facts}
 

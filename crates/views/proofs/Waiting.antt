@@ -4,12 +4,12 @@ use mathlib.Core.List.{List, [], _∷_, _++_, append-nil}
 use mathlib.Core.Bool.{Bool, true, false, cond}
 use Prim.Native.Nat.{ℕ, suc, _+_, _*_, _≤_, _<_}
 use native.Mathlib.Omega.{arith}
-use lib.ListN.{length, take, length-append}
+use lib.ListN.{length, take, length-append, drop, getD}
 use lib.Seq.{take-nil}
 use lib.Dec.{ltb}
 use Rattle.rights.proofs.Lists.{byCase}
 use borrow.Author.Tests.{leb-false, lt-ltb, le-ltb}
-use Rattle.views.specs.Change.{isDone, later, putBehind, insertBehind, insertInFront, rename}
+use Rattle.views.specs.Change.{putBehind, insertBehind, insertInFront, rename}
 use Rattle.rights.specs.Marks.{markCount}
 use Rattle.views.specs.How.Pass.{Below, Falls, isDue, Above, Front, front, due}
 
@@ -67,9 +67,9 @@ module _ {E : Type 0} (lev : E → ℕ) where
 
     -- the next node is taken
     pub due-take : (ks : List ℕ) (x : E) (ms : List Bool) (t : List E) → Below (lev x) ks
-        → due lev y ks (insertBehind lev (λ z. y (lev z)) ms (x ∷ t)) ≡ x ∷ due lev y (cond (isDone ms) (lev x ∷ ks) ks) (insertBehind lev (λ z. y (lev z)) (later ms) t)
+        → due lev y ks (insertBehind lev (λ z. y (lev z)) ms (x ∷ t)) ≡ x ∷ due lev y (cond (getD ms 0 false) (lev x ∷ ks) ks) (insertBehind lev (λ z. y (lev z)) (drop 1 ms) t)
     unfolding insertBehind due
-    due-take ks x ms t b = byCase (isDone ms)
+    due-take ks x ms t b = byCase (getD ms 0 false)
         (λ e. rw e (skip (lev x) ks (x ∷ []) _ b (omega arith, tt)))
         (λ e. rw e (skip (lev x) ks (x ∷ []) _ b (omega arith, tt)))
 
@@ -86,18 +86,18 @@ module _ {E : Type 0} (lev : E → ℕ) where
   pub insertBehind-longer : (y : E → List E) (ms : List Bool) (t : List E) → length t ≤ length (insertBehind lev y ms t)
   unfolding insertBehind
   insertBehind-longer y ms [] = omega arith
-  insertBehind-longer y ms (x ∷ t) = let ih = insertBehind-longer y (later ms) t in byCase (isDone ms)
-      (λ e. rw e (omega (arith, length-putBehind (lev x) (y x) (insertBehind lev y (later ms) t))))
+  insertBehind-longer y ms (x ∷ t) = let ih = insertBehind-longer y (drop 1 ms) t in byCase (getD ms 0 false)
+      (λ e. rw e (omega (arith, length-putBehind (lev x) (y x) (insertBehind lev y (drop 1 ms) t))))
       (λ e. rw e (omega arith))
 
   pub insertInFront-longer : (y : E → List E) (ms : List Bool) (t : List E) → length t ≤ length (insertInFront lev y ms t)
   unfolding insertInFront
   insertInFront-longer y ms [] = omega arith
-  insertInFront-longer y ms (x ∷ t) = let ih = insertInFront-longer y (later ms) t in byCase (isDone ms)
+  insertInFront-longer y ms (x ∷ t) = let ih = insertInFront-longer y (drop 1 ms) t in byCase (getD ms 0 false)
       (λ e. rw (e, length-append) (omega arith))
       (λ e. rw e (omega arith))
 
-  markCount-tail : (n : ℕ) (ms : List Bool) → markCount (take (suc n) ms) ≡ cond (isDone ms) 1 0 + markCount (take n (later ms))
+  markCount-tail : (n : ℕ) (ms : List Bool) → markCount (take (suc n) ms) ≡ cond (getD ms 0 false) 1 0 + markCount (take n (drop 1 ms))
   markCount-tail n [] = rw take-nil
   markCount-tail n (true ∷ ms) = omega arith
   markCount-tail n (false ∷ ms) = omega arith
@@ -106,15 +106,15 @@ module _ {E : Type 0} (lev : E → ℕ) where
       → length (insertBehind lev y ms t) ≡ length t + markCount (take (length t) ms) * m
   unfolding insertBehind
   length-insertBehind y m h ms [] = omega arith
-  length-insertBehind y m h ms (x ∷ t) = let ih = length-insertBehind y m h (later ms) t in byCase (isDone ms)
-      (λ e. rw (markCount-tail (length t) ms, e, length-putBehind (lev x) (y x) (insertBehind lev y (later ms) t)) (omega (arith, h x)))
+  length-insertBehind y m h ms (x ∷ t) = let ih = length-insertBehind y m h (drop 1 ms) t in byCase (getD ms 0 false)
+      (λ e. rw (markCount-tail (length t) ms, e, length-putBehind (lev x) (y x) (insertBehind lev y (drop 1 ms) t)) (omega (arith, h x)))
       (λ e. rw (markCount-tail (length t) ms, e) (omega arith))
 
   pub length-insertInFront : (y : E → List E) (m : ℕ) → ((x : E) → length (y x) ≡ m) → (ms : List Bool) (t : List E)
       → length (insertInFront lev y ms t) ≡ length t + markCount (take (length t) ms) * m
   unfolding insertInFront
   length-insertInFront y m h ms [] = omega arith
-  length-insertInFront y m h ms (x ∷ t) = let ih = length-insertInFront y m h (later ms) t in byCase (isDone ms)
+  length-insertInFront y m h ms (x ∷ t) = let ih = length-insertInFront y m h (drop 1 ms) t in byCase (getD ms 0 false)
       (λ e. rw (markCount-tail (length t) ms, e, length-append) (omega (arith, h x)))
       (λ e. rw (markCount-tail (length t) ms, e) (omega arith))
 
@@ -122,9 +122,9 @@ module _ {E : Type 0} (lev : E → ℕ) where
   pub insert-same : (y z : E → List E) → ((x : E) → y x ≡ z x) → (ms : List Bool) (t : List E) → insertBehind lev y ms t ≡ insertBehind lev z ms t
   unfolding insertBehind
   insert-same y z e ms [] = refl
-  insert-same y z e ms (x ∷ t) = rw (e x, insert-same y z e (later ms) t)
+  insert-same y z e ms (x ∷ t) = rw (e x, insert-same y z e (drop 1 ms) t)
 
   pub length-rename : (f : E → E) (ms : List Bool) (t : List E) → length (rename lev f ms t) ≡ length t
   unfolding rename
   length-rename f ms [] = refl
-  length-rename f ms (x ∷ t) = ap suc (length-rename f (later ms) t)
+  length-rename f ms (x ∷ t) = ap suc (length-rename f (drop 1 ms) t)

@@ -14,10 +14,10 @@ use Rattle.views.proofs.Chunks.{length-chunks, same-chunks, is-changed}
 use Rattle.views.specs.declared.insert.Place.{Place}
 use Rattle.views.specs.declared.insert.Place.the-variants.{Append, After, Before}
 use Rattle.views.proofs.Waiting.{insert-same, length-insertBehind, length-insertInFront}
-use Rattle.views.proofs.RecordBytes.{length-treeAt, length-raise, rest-none}
+use Rattle.views.proofs.RecordBytes.{length-raise, rest-none}
 use Rattle.rights.specs.Table.{level}
 use Rattle.views.specs.Change.{insertBehind, insertInFront, chunks, raise, lower, placed, le4, changed}
-use Rattle.rights.specs.Marks.{markCount, marksOf, marked}
+use Rattle.rights.specs.Marks.{markCount, marksOf}
 use Rattle.views.specs.How.Pass.{shifted, Under, due, AtDone, treeAt, Shallow, behind, inFront, stack, rest, passing, passingFront, Fixed, Between}
 
 -- a pass begins
@@ -52,44 +52,6 @@ ends-front n gap m tree ms t i w rs l e f =
     let q : w ≡ n + gap = sym (length-chunks w (drop 4 t)) ∙ ap length g ∙ f in
     rw (← q) g
 
--- marks
-marksOf-append : (a b : List ℕ) → marksOf (a ++ b) ≡ marksOf a ++ marksOf b
-marksOf-append [] b = refl
-marksOf-append (x ∷ a) b = ap (λ r. not (eqb x 0) ∷ r) (marksOf-append a b)
-
-markCount-append : (a b : List Bool) → markCount (a ++ b) ≡ markCount a + markCount b
-markCount-append [] b = omega arith
-markCount-append (true ∷ a) b = omega (arith, markCount-append a b)
-markCount-append (false ∷ a) b = markCount-append a b
-
-pub marksOf-take : (n : ℕ) (ms : List ℕ) → marksOf (take n ms) ≡ take n (marksOf ms)
-marksOf-take zero ms = refl
-marksOf-take (suc n) [] = refl
-marksOf-take (suc n) (x ∷ ms) = ap (λ r. not (eqb x 0) ∷ r) (marksOf-take n ms)
-
-module _ (ms : List ℕ) (i k : ℕ) (inside : i < length ms) (e : k ≡ marked i ms) where
-  marked-suc : marked (i + 1) ms ≡ marked i ms + markCount (not (eqb (getD ms i 0) 0) ∷ [])
-  marked-suc = rw (add-one i, take-suc ms i 0 inside, marksOf-append, markCount-append)
-
-  pub marked-more : (getD ms i 0 ≡ 0 → ⊥) → k + 1 ≡ marked (i + 1) ms
-  marked-more z = omega (arith, e, rw (ne-eqb (getD ms i 0) 0 z) at marked-suc)
-
-  pub marked-same : getD ms i 0 ≡ 0 → k ≡ marked (i + 1) ms
-  marked-same z = omega (arith, e, rw (eq-eqb (getD ms i 0) 0 z) at marked-suc)
-
--- lengths
-module _ (n m : ℕ) (tree ms x : List ℕ) where
-  rows : length (chunks n x) ≡ n
-  rows = length-chunks n x
-
-  pub behind-length : (up : ℕ) → length (behind up m tree ms (chunks n x)) ≡ n + marked n ms * m
-  behind-length up =
-      length-insertBehind level (λ r. treeAt up m tree (level r)) m (λ r. length-treeAt up m tree (level r)) (marksOf ms) (chunks n x) ∙ rw (rows, marksOf-take n ms)
-
-  pub inFront-length : length (inFront m tree ms (chunks n x)) ≡ n + marked n ms * m
-  inFront-length =
-      length-insertInFront level (λ r. raise (level r) (chunks m tree)) m (λ r. length-raise (level r) (chunks m tree) ∙ length-chunks m tree) (marksOf ms) (chunks n x) ∙ rw (rows, marksOf-take n ms)
-
 -- the records moved up
 pub moved-up : (n gap : ℕ) (t p : List ℕ) → 4 + (n + gap) * 32 ≤ length t → p ≡ shifted t 4 (4 + n * 32) (gap * 32) → rest n gap 0 p ≡ chunks n (drop 4 t)
 moved-up n gap t p h e =
@@ -109,18 +71,21 @@ fixed-same n gap m t p ms tree e f = record { size = omega (arith, f .size); mar
 pub raise-up : (up l k m : ℕ) (tree : List ℕ) → k ≡ up + l → treeAt up m tree l ≡ raise k (chunks m tree)
 raise-up up l k m tree e = ap (λ (z : ℕ). raise z (chunks m tree)) (sym e)
 
-pub is-append : (m : ℕ) (tree ms : List ℕ) (rs : List (List ℕ)) → behind 1 m tree ms rs ≡ placed Append m tree ms rs
+pub is-append : (m : ℕ) (tree ms : List ℕ) (rs : List (List ℕ)) → behind 1 m tree ms rs ≡ placed Append m tree (marksOf ms) rs
 is-append m tree ms rs =
     insert-same level (λ r. treeAt 1 m tree (level r)) (λ r. raise (suc (level r)) (chunks m tree)) (λ r. raise-up 1 (level r) (suc (level r)) m tree (omega arith)) (marksOf ms) rs
 
-pub is-after : (m : ℕ) (tree ms : List ℕ) (rs : List (List ℕ)) → behind 0 m tree ms rs ≡ placed After m tree ms rs
+pub is-after : (m : ℕ) (tree ms : List ℕ) (rs : List (List ℕ)) → behind 0 m tree ms rs ≡ placed After m tree (marksOf ms) rs
 is-after m tree ms rs =
     insert-same level (λ r. treeAt 0 m tree (level r)) (λ r. raise (level r) (chunks m tree)) (λ r. raise-up 0 (level r) (level r) m tree (omega arith)) (marksOf ms) rs
 
-pub placed-length : (place : Place) (n m : ℕ) (tree ms x : List ℕ) → length (placed place m tree ms (chunks n x)) ≡ n + marked n ms * m
-placed-length Append n m tree ms x = ap length (sym (is-append m tree ms (chunks n x))) ∙ behind-length n m tree ms x 1
-placed-length After n m tree ms x = ap length (sym (is-after m tree ms (chunks n x))) ∙ behind-length n m tree ms x 0
-placed-length Before n m tree ms x = inFront-length n m tree ms x
+pub placed-length : (place : Place) (n m : ℕ) (tree : List ℕ) (ms : List Bool) (x : List ℕ) → length (placed place m tree ms (chunks n x)) ≡ n + markCount (take n ms) * m
+placed-length Append n m tree ms x =
+    length-insertBehind level (λ r. raise (suc (level r)) (chunks m tree)) m (λ r. length-raise (suc (level r)) (chunks m tree) ∙ length-chunks m tree) ms (chunks n x) ∙ rw (length-chunks n x)
+placed-length After n m tree ms x =
+    length-insertBehind level (λ r. raise (level r) (chunks m tree)) m (λ r. length-raise (level r) (chunks m tree) ∙ length-chunks m tree) ms (chunks n x) ∙ rw (length-chunks n x)
+placed-length Before n m tree ms x =
+    length-insertInFront level (λ r. raise (level r) (chunks m tree)) m (λ r. length-raise (level r) (chunks m tree) ∙ length-chunks m tree) ms (chunks n x) ∙ rw (length-chunks n x)
 
 -- the pass may start
 module _ (place : Place) (n gap m : ℕ) (t p ms tree : List ℕ) (fx : Fixed n gap m t ms tree) (e : p ≡ shifted t 4 (4 + n * 32) (gap * 32)) where
@@ -128,16 +93,16 @@ module _ (place : Place) (n gap m : ℕ) (t p ms tree : List ℕ) (fx : Fixed n 
   lifted = moved-up n gap t p (fx .size) e
 
   pub place-asks : length p ≡ length t → Under level 12 (chunks n (drop 4 t)) → AtDone (λ r. Shallow (lower place) m tree (level r)) (marksOf ms) (chunks n (drop 4 t))
-      → length (placed place m tree ms (chunks n (drop 4 t))) ≡ n + gap
+      → length (placed place m tree (marksOf ms) (chunks n (drop 4 t))) ≡ n + gap
       → Fixed n gap m p ms tree
-      × ((Under level 12 (rest n gap 0 p)) × (AtDone (λ r. Shallow (lower place) m tree (level r)) (marksOf ms) (rest n gap 0 p)) × (length (placed place m tree ms (rest n gap 0 p)) ≡ n + gap))
+      × ((Under level 12 (rest n gap 0 p)) × (AtDone (λ r. Shallow (lower place) m tree (level r)) (marksOf ms) (rest n gap 0 p)) × (length (placed place m tree (marksOf ms) (rest n gap 0 p)) ≡ n + gap))
   place-asks l u a k = (fixed-same n gap m t p ms tree l fx, (rw lifted u, rw lifted a, rw lifted k))
 
-  pub filled : (q z r : List ℕ) → length q ≡ length t → chunks (n + gap) (drop 4 q) ≡ placed place m tree ms (rest n gap 0 p)
+  pub filled : (q z r : List ℕ) → length q ≡ length t → chunks (n + gap) (drop 4 q) ≡ placed place m tree (marksOf ms) (rest n gap 0 p)
       → z ≡ take (4 + (n + gap) * 32) q ++ replicate (length q - (4 + (n + gap) * 32)) 0 → r ≡ le4 (n + gap) ++ drop 4 z
-      → r ≡ changed t (placed place m tree ms (chunks n (drop 4 t)))
+      → r ≡ changed t (placed place m tree (marksOf ms) (chunks n (drop 4 t)))
   filled q z r l k ez er =
-      is-changed (n + gap) t q z r (placed place m tree ms (chunks n (drop 4 t))) l (omega (arith, fx .size)) (k ∙ ap (placed place m tree ms) lifted) ez er
+      is-changed (n + gap) t q z r (placed place m tree (marksOf ms) (chunks n (drop 4 t))) l (omega (arith, fx .size)) (k ∙ ap (placed place m tree (marksOf ms)) lifted) ez er
 
 -- a product of two bounded numbers
 pub product-bound : (k m : ℕ) → k ≤ 16384 → m ≤ 16384 → k * m ≤ 268435456

@@ -1,24 +1,16 @@
 -- The changes (document 01, "Changes"), on lists of anything with a level, in document order: the nodes with their records, their public parts, or tags that name them.
--- "A selected node is done if ..": the changes take a mark for each node, done or not. Which nodes are done is decided elsewhere, before anything changes.
+-- "A selected node is done if ..": the changes take a mark for each node, done or not; no node beyond the marks is done. Which nodes are done is decided elsewhere,
+-- before anything changes.
 use Prim.Native.Nat.{ℕ, zero, suc, _+_, _-_, _*_, _/_, _%_}
 use mathlib.Core.Bool.{Bool, false, cond, _&&_, _||_}
 use mathlib.Core.List.{List, [], _∷_, _++_}
 use lib.Dec.{leb, ltb}
-use lib.ListN.{length, take, drop, replicate}
+use lib.ListN.{length, take, drop, replicate, getD}
 use Rattle.rights.specs.Table.{count, capacity, level, spare}
 use Rattle.rights.specs.Record.{recordOf}
-use Rattle.rights.specs.Marks.{marksOf, marked}
+use Rattle.rights.specs.Marks.{markCount}
 use Rattle.views.specs.declared.insert.Place.{Place}
 use Rattle.views.specs.declared.insert.Place.the-variants.{Append, After, Before}
-
--- The mark of the first node and those of the later ones; no node beyond the marks is done.
-abbrev pub isDone : List Bool → Bool
-isDone [] = false
-isDone (b ∷ bs) = b
-
-abbrev pub later : List Bool → List Bool
-later [] = []
-later (b ∷ bs) = bs
 
 module _ {E : Type 0} (lev : E → ℕ) where
   -- Behind a node at level l stand its descendants: the nodes up to the first that is not deeper. They go.
@@ -34,17 +26,17 @@ module _ {E : Type 0} (lev : E → ℕ) where
   -- "remove: .. Hidden descendants go too": the nodes that are done go, with all below them.
   unfoldable pub remove : List Bool → List E → List E
   remove ms [] = []
-  remove ms (x ∷ t) = cond (isDone ms) (dropBelow (lev x) (remove (later ms) t)) (x ∷ remove (later ms) t)
+  remove ms (x ∷ t) = cond (getD ms 0 false) (dropBelow (lev x) (remove (drop 1 ms) t)) (x ∷ remove (drop 1 ms) t)
 
   -- Behind each node that is done, and behind its descendants, comes y of the node.
   unfoldable pub insertBehind : (E → List E) → List Bool → List E → List E
   insertBehind y ms [] = []
-  insertBehind y ms (x ∷ t) = x ∷ cond (isDone ms) (putBehind (lev x) (y x) (insertBehind y (later ms) t)) (insertBehind y (later ms) t)
+  insertBehind y ms (x ∷ t) = x ∷ cond (getD ms 0 false) (putBehind (lev x) (y x) (insertBehind y (drop 1 ms) t)) (insertBehind y (drop 1 ms) t)
 
   -- In front of each node that is done comes y of the node.
   unfoldable pub insertInFront : (E → List E) → List Bool → List E → List E
   insertInFront y ms [] = []
-  insertInFront y ms (x ∷ t) = cond (isDone ms) (y x) [] ++ (x ∷ insertInFront y (later ms) t)
+  insertInFront y ms (x ∷ t) = cond (getD ms 0 false) (y x) [] ++ (x ∷ insertInFront y (drop 1 ms) t)
 
   -- "The tree lands directly beside it, or as last child in the stored tree." `tree l` is the inserted tree with its root at level l.
   abbrev pub append : (ℕ → List E) → List Bool → List E → List E
@@ -59,7 +51,7 @@ module _ {E : Type 0} (lev : E → ℕ) where
   -- rename, and update, which concerns children: the nodes that are done become f of them; every other stays as it is.
   unfoldable pub rename : (E → E) → List Bool → List E → List E
   rename f ms [] = []
-  rename f ms (x ∷ t) = cond (isDone ms) (f x) x ∷ rename f (later ms) t
+  rename f ms (x ∷ t) = cond (getD ms 0 false) (f x) x ∷ rename f (drop 1 ms) t
 
 -- The first m records of bytes that hold records alone, as those of a tree.
 unfoldable pub chunks : ℕ → List ℕ → List (List ℕ)
@@ -81,21 +73,21 @@ lower After = 0
 lower Before = 0
 
 -- the records after an insertion of a tree of m records
-abbrev pub placed : Place → ℕ → List ℕ → List ℕ → List (List ℕ) → List (List ℕ)
-placed Append m tree ms rs = append level (λ l. raise l (chunks m tree)) (marksOf ms) rs
-placed After m tree ms rs = insertAfter level (λ l. raise l (chunks m tree)) (marksOf ms) rs
-placed Before m tree ms rs = insertBefore level (λ l. raise l (chunks m tree)) (marksOf ms) rs
+abbrev pub placed : Place → ℕ → List ℕ → List Bool → List (List ℕ) → List (List ℕ)
+placed Append m tree ms rs = append level (λ l. raise l (chunks m tree)) ms rs
+placed After m tree ms rs = insertAfter level (λ l. raise l (chunks m tree)) ms rs
+placed Before m tree ms rs = insertBefore level (λ l. raise l (chunks m tree)) ms rs
 
 -- the records after a removal
-abbrev pub removed : List ℕ → List (List ℕ) → List (List ℕ)
-removed ms rs = remove level (marksOf ms) rs
+abbrev pub removed : List Bool → List (List ℕ) → List (List ℕ)
+removed ms rs = remove level ms rs
 
 -- the records after a renaming to the label s: level and spare bytes stay
 abbrev pub relabel : List ℕ → List ℕ → List ℕ
 relabel s r = recordOf (level r) s (spare r)
 
-abbrev pub renamed : List ℕ → List ℕ → List (List ℕ) → List (List ℕ)
-renamed s ms rs = rename level (relabel s) (marksOf ms) rs
+abbrev pub renamed : List ℕ → List Bool → List (List ℕ) → List (List ℕ)
+renamed s ms rs = rename level (relabel s) ms rs
 
 -- a number as four bytes, the lowest first
 abbrev pub le4 : ℕ → List ℕ
@@ -118,11 +110,11 @@ deepest (r ∷ rs) = cond (ltb (deepest rs) (level r)) (level r) (deepest rs)
 -- Refusal 10 for insertions: "a level above 11 .. at a place that would be done". `deep` is how much deeper than the place the deepest inserted node is.
 unfoldable pub tooDeep : ℕ → List Bool → List (List ℕ) → Bool
 tooDeep deep ms [] = false
-tooDeep deep ms (r ∷ rs) = (isDone ms && ltb 11 (level r + deep)) || tooDeep deep (later ms) rs
+tooDeep deep ms (r ∷ rs) = (getD ms 0 false && ltb 11 (level r + deep)) || tooDeep deep (drop 1 ms) rs
 
 -- Refusal 11: "fewer free records than the whole line needs (.. insertions D × tree size)". There is room where it does not apply.
 abbrev pub free : List ℕ → ℕ
 free t = capacity (length t) - count t
 
-abbrev pub hasRoom : List ℕ → List ℕ → ℕ → Bool
-hasRoom t ms m = leb (marked (count t) ms * m) (free t)
+abbrev pub hasRoom : List ℕ → List Bool → ℕ → Bool
+hasRoom t ms m = leb (markCount (take (count t) ms) * m) (free t)

@@ -6,12 +6,11 @@ use mathlib.Core.List.{List, [], _∷_, _++_}
 use mathlib.Core.Logic.{_⊎_}
 use mathlib.Core.Option.{Option, none, some}
 use lib.Dec.{ltb}
-use lib.ListN.{length, drop}
+use lib.ListN.{length, drop, getD}
 use Rattle.rights.specs.Limits.{labelMax}
 use Rattle.rights.specs.Bytes.{all}
 use Rattle.rights.specs.Labels.{labelByte, sameLabel, restricted}
 use Rattle.rights.specs.Table.{level, recordOk}
-use Rattle.views.specs.Change.{isDone, later}
 use Rattle.views.specs.How.Pass.{Above, Front}
 
 -- P holds of each
@@ -39,22 +38,16 @@ module _ {E : Type 0} (lev : E → ℕ) where
   isAncestor (x ∷ t) (suc j) zero = false
   isAncestor (x ∷ t) (suc j) (suc i) = isAncestor t j i
 
--- the mark of node i
-unfoldable pub markAt : List Bool → ℕ → Bool
-markAt [] i = false
-markAt (b ∷ bs) zero = b
-markAt (b ∷ bs) (suc i) = markAt bs i
-
 -- Node i goes with a removal: it is done, or a node before it is whose descendant it is.
 unfoldable pub goes : {E : Type 0} → (E → ℕ) → List Bool → List E → ℕ → Bool
 goes lev ms [] i = false
-goes lev ms (x ∷ t) zero = isDone ms
-goes lev ms (x ∷ t) (suc i) = (isDone ms && isBelow lev (lev x) t i) || goes lev (later ms) t i
+goes lev ms (x ∷ t) zero = getD ms 0 false
+goes lev ms (x ∷ t) (suc i) = (getD ms 0 false && isBelow lev (lev x) t i) || goes lev (drop 1 ms) t i
 
 -- Node i is done, or an ancestor of it is.
 pub record Goes {E : Type 0} (lev : E → ℕ) (ms : List Bool) (t : List E) (i : ℕ) : Type 0 where
   pub node : ℕ
-  pub done : markAt ms node ≡ true
+  pub done : getD ms node false ≡ true
   pub over : (isAncestor lev t node i ≡ true) ⊎ (node ≡ i)
 
 -- In the list w the tree y stands behind the node x and all below x; nothing that follows is below x.
@@ -65,11 +58,6 @@ pub record Behind {E : Type 0} (lev : E → ℕ) (x : E) (y w : List E) : Type 0
   pub is : w ≡ before ++ (x ∷ (below ++ (y ++ after)))
   pub deeper : Above lev (suc (lev x)) below
   pub next : Front lev (lev x) after
-
--- the nodes whose number passes the test, in order
-unfoldable pub only : {E : Type 0} → (ℕ → Bool) → List E → List E
-only p [] = []
-only p (x ∷ t) = cond (p 0) (x ∷ only (λ i. p (suc i)) t) (only (λ i. p (suc i)) t)
 
 -- the tags of the nodes that carry one, in order
 abbrev pub put : {X : Type 0} → Option X → List X → List X

@@ -5,6 +5,7 @@ use mathlib.Core.List.{List, [], _∷_, map}
 use lib.Dec.{leb, ltb}
 use Rattle.rights.specs.Limits.{recordsMax}
 use Rattle.rights.specs.Labels.{restricted}
+use Rattle.rights.specs.Marks.{keep}
 use Rattle.rights.specs.Table.{records, level, label}
 use Rattle.rights.specs.Policy.{position, read}
 use Rattle.rights.specs.Rights.{holds}
@@ -75,12 +76,6 @@ module _ {E : Type 0} (lev : E → ℕ) (gr : E → Bool) where
 -- whether each node of the stored tree is shown
 abbrev pub shown : List Stored → List Bool
 shown xs = shownBy storedLevel granted xs
-
--- the elements that are marked
-unfoldable pub keep : {A : Type 0} → List Bool → List A → List A
-keep [] xs = []
-keep (b ∷ bs) [] = []
-keep (b ∷ bs) (x ∷ xs) = cond b (x ∷ keep bs xs) (keep bs xs)
 
 -- "With read it carries its label, otherwise RESTRICTED"
 abbrev pub carried : Stored → List ℕ

@@ -251,15 +251,5 @@ pub fn mark_done(
 {
     let mut words = [0u32; WORDS_MAX];
     let k = sort_policy_words(policy, &mut words);
-    mark_by_words(
-        change,
-        policy,
-        &words,
-        k,
-        table,
-        rights,
-        shown,
-        marks,
-        done,
-    );
+    mark_by_words(change, policy, &words, k, table, rights, shown, marks, done);
 }

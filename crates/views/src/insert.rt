@@ -21,7 +21,7 @@ ghost use lib.Dec.{eqb, ltb};
 ghost use Rattle.rights.specs.Limits.{recordsMax};
 ghost use Rattle.rights.specs.Table.{count, records, level, tableOk};
 ghost use Rattle.views.specs.Change.{chunks, raised, raise, placed, changed, deepest, tooDeep, hasRoom, lower};
-ghost use Rattle.rights.specs.Marks.{marksOf, marked};
+ghost use Rattle.rights.specs.Marks.{marksOf};
 ghost use Rattle.views.specs.How.Pass.{isDue, front, Under, AtDone, Shallow, stack, rest, behind, inFront, passing, passingFront, Fixed, Between};
 
 // Where the tree goes: as the last child of a node, directly behind the node and all below it, directly in front of it.
@@ -275,8 +275,8 @@ fn spread_by(t: &mut [u8], marks: &[u8], tree: &[u8], m: usize, place: Place, n:
     requires { ⌜ Fixed n gap m (now t) (now marks) (now tree) ⌝ }
     requires { ⌜ (Under level 12 (rest n gap 0 (now t))) × (AtDone (λ r. Shallow (lower place) m (now tree) (level r)) (marksOf (now marks))
         (rest n gap 0 (now t)))
-        × (length (placed place m (now tree) (now marks) (rest n gap 0 (now t))) ≡ n + gap) ⌝ }
-    ensures { λ _. ⌜ chunks (n + gap) (drop 4 (now (t .exit))) ≡ placed place m (now (tree .entry)) (now (marks .entry))
+        × (length (placed place m (now tree) (marksOf (now marks)) (rest n gap 0 (now t))) ≡ n + gap) ⌝ }
+    ensures { λ _. ⌜ chunks (n + gap) (drop 4 (now (t .exit))) ≡ placed place m (now (tree .entry)) (marksOf (now (marks .entry)))
         (rest n gap 0 (now (t .entry))) ⌝ }
 {
     match place {
@@ -291,9 +291,9 @@ fn fill(t: &mut [u8], marks: &[u8], tree: &[u8], m: usize, place: Place, n: usiz
     requires { ⌜ Fixed n gap m (now t) (now marks) (now tree) ⌝ }
     requires { ⌜ (n + gap < 2 ^ 32) × (Under level 12 (chunks n (drop 4 (now t))))
         × (AtDone (λ r. Shallow (lower place) m (now tree) (level r)) (marksOf (now marks)) (chunks n (drop 4 (now t))))
-        × (length (placed place m (now tree) (now marks) (chunks n (drop 4 (now t)))) ≡ n + gap) ⌝ }
+        × (length (placed place m (now tree) (marksOf (now marks)) (chunks n (drop 4 (now t)))) ≡ n + gap) ⌝ }
     ensures { λ _. ⌜ now (t .exit) ≡ changed (now (t .entry))
-        (placed place m (now (tree .entry)) (now (marks .entry)) (chunks n (drop 4 (now (t .entry))))) ⌝ }
+        (placed place m (now (tree .entry)) (marksOf (now (marks .entry))) (chunks n (drop 4 (now (t .entry))))) ⌝ }
 {
     shift_up(
         t,
@@ -310,8 +310,8 @@ fn fill(t: &mut [u8], marks: &[u8], tree: &[u8], m: usize, place: Place, n: usiz
 pub fn insert_marked(t: &mut [u8], marks: &[u8], tree: &[u8], m: usize, place: Place)
     requires { ⌜ (tableOk (now t) ≡ true) × (count (now t) ≤ length (now marks)) × (m * 32 ≤ length (now tree)) ⌝ }
     requires { ⌜ (tooDeep (lower place + deepest (chunks m (now tree))) (marksOf (now marks)) (records (now t)) ≡ false)
-        × (hasRoom (now t) (now marks) m ≡ true) ⌝ }
-    ensures { λ _. ⌜ now (t .exit) ≡ changed (now (t .entry)) (placed place m (now (tree .entry)) (now (marks .entry)) (records (now (t .entry)))) ⌝ }
+        × (hasRoom (now t) (marksOf (now marks)) m ≡ true) ⌝ }
+    ensures { λ _. ⌜ now (t .exit) ≡ changed (now (t .entry)) (placed place m (now (tree .entry)) (marksOf (now (marks .entry))) (records (now (t .entry)))) ⌝ }
 {
     let n = count_of(t);
     let k = count_marks(marks, n);
@@ -322,7 +322,7 @@ pub fn insert_marked(t: &mut [u8], marks: &[u8], tree: &[u8], m: usize, place: P
 // Whether the insertions find room (refusal 11 otherwise).
 pub fn has_room(t: &[u8], marks: &[u8], m: usize) -> bool
     requires { ⌜ (tableOk (now t) ≡ true) × (count (now t) ≤ length (now marks)) × (m ≤ recordsMax) ⌝ }
-    ensures { λ r. ⌜ r ≡ hasRoom (now (t .entry)) (now (marks .entry)) m ⌝ }
+    ensures { λ r. ⌜ r ≡ hasRoom (now (t .entry)) (marksOf (now (marks .entry))) m ⌝ }
 {
     let n = count_of(t);
     let c = capacity_of(t.len());

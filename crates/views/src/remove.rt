@@ -10,6 +10,7 @@ ghost use mathlib.Core.Bool.{true};
 ghost use Prim.Native.Nat.{_+_, _-_, _*_, _≤_, _<_};
 ghost use lib.ListN.{length, drop};
 ghost use Rattle.rights.specs.Table.{count, records, level, tableOk};
+ghost use Rattle.rights.specs.Marks.{marksOf};
 ghost use Rattle.views.specs.Change.{chunks, removed, changed};
 ghost use Rattle.views.specs.How.Pass.{going, Under};
 
@@ -47,7 +48,7 @@ fn step(t: &mut [u8], marks: &[u8], n: usize, i: usize, w: usize, cut: u8) -> Ke
 // Moves the records that stay to the front; answers how many.
 fn compact(t: &mut [u8], marks: &[u8], n: usize) -> usize
     requires { ⌜ (4 + n * 32 ≤ length (now t)) × (n ≤ length (now marks)) × (Under level 12 (chunks n (drop 4 (now t)))) ⌝ }
-    ensures { λ r. ⌜ (r ≤ n) × (chunks r (drop 4 (now (t .exit))) ≡ removed (now (marks .entry)) (chunks n (drop 4 (now (t .entry))))) ⌝ }
+    ensures { λ r. ⌜ (r ≤ n) × (chunks r (drop 4 (now (t .exit))) ≡ removed (marksOf (now (marks .entry))) (chunks n (drop 4 (now (t .entry))))) ⌝ }
 {
     let mut i = 0;
     let mut w = 0;
@@ -64,7 +65,7 @@ fn compact(t: &mut [u8], marks: &[u8], n: usize) -> usize
 // Removes each marked record with the records below it. The freed records are zeroed.
 pub fn remove_marked(t: &mut [u8], marks: &[u8])
     requires { ⌜ (tableOk (now t) ≡ true) × (count (now t) ≤ length (now marks)) ⌝ }
-    ensures { λ _. ⌜ now (t .exit) ≡ changed (now (t .entry)) (removed (now (marks .entry)) (records (now (t .entry)))) ⌝ }
+    ensures { λ _. ⌜ now (t .exit) ≡ changed (now (t .entry)) (removed (marksOf (now (marks .entry))) (records (now (t .entry)))) ⌝ }
 {
     let n = count_of(t);
     let w = compact(t, marks, n);

@@ -11,6 +11,7 @@ ghost use lib.ListN.{length, getD, take, drop};
 ghost use lib.Dec.{eqb};
 ghost use Rattle.rights.specs.Limits.{labelMax};
 ghost use Rattle.rights.specs.Table.{count, records, tableOk};
+ghost use Rattle.rights.specs.Marks.{marksOf};
 ghost use Rattle.views.specs.Change.{chunks, relabel, renamed, changed};
 
 // Stores the label s[from..to] in record i where it is marked.
@@ -29,7 +30,7 @@ fn rename_one(t: &mut [u8], marks: &[u8], s: &[u8], from: usize, to: usize, i: u
 // The same for the first n records.
 fn rename_all(t: &mut [u8], marks: &[u8], s: &[u8], from: usize, to: usize, n: usize)
     requires { ⌜ (4 + n * 32 ≤ length (now t)) × (n ≤ length (now marks)) × (from ≤ to) × (to ≤ from + labelMax) × (to ≤ length (now s)) ⌝ }
-    ensures { λ _. ⌜ (chunks n (drop 4 (now (t .exit))) ≡ renamed (take (to - from) (drop from (now (s .entry)))) (now (marks .entry))
+    ensures { λ _. ⌜ (chunks n (drop 4 (now (t .exit))) ≡ renamed (take (to - from) (drop from (now (s .entry)))) (marksOf (now (marks .entry)))
         (chunks n (drop 4 (now (t .entry)))))
         × (take 4 (now (t .exit)) ≡ take 4 (now (t .entry))) × (drop (4 + n * 32) (now (t .exit)) ≡ drop (4 + n * 32) (now (t .entry))) ⌝ }
 {
@@ -45,7 +46,7 @@ pub fn rename_marked(t: &mut [u8], marks: &[u8], s: &[u8], from: usize, to: usiz
     requires { ⌜ (tableOk (now t) ≡ true) × (count (now t) ≤ length (now marks)) ⌝ }
     requires { ⌜ (from ≤ to) × (to ≤ from + labelMax) × (to ≤ length (now s)) ⌝ }
     ensures { λ _. ⌜ now (t .exit) ≡ changed (now (t .entry))
-        (renamed (take (to - from) (drop from (now (s .entry)))) (now (marks .entry)) (records (now (t .entry)))) ⌝ }
+        (renamed (take (to - from) (drop from (now (s .entry)))) (marksOf (now (marks .entry))) (records (now (t .entry)))) ⌝ }
 {
     let n = count_of(t);
     rename_all(t, marks, s, from, to, n);

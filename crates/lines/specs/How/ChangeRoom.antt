@@ -4,15 +4,14 @@ use mathlib.Core.Bool.{true}
 use mathlib.Core.Path.{_≡_}
 use mathlib.Core.List.{List, _++_, map}
 use lib.ListN.{length, drop}
-use Rattle.rights.specs.Marks.{bit}
+use Rattle.rights.specs.Marks.{bit, markCount}
 use Rattle.rights.specs.Policy.{position, read}
 use Rattle.rights.specs.Rights.{holds, askedOn}
 use Rattle.rights.specs.Table.{count, records}
-use Rattle.rights.specs.Marks.{marksOf, markCount}
 use Rattle.views.specs.Shown.{shownNumbers}
 use Rattle.views.specs.declared.done.Change.{Change}
 use Rattle.lines.specs.State.{policyIn, userOf}
-use Rattle.lines.specs.UserView.{rightsIn, storedIn, marksIn, selectedIn, doneIn}
+use Rattle.lines.specs.UserView.{rightsIn, storedIn, marksIn, doneIn}
 
 -- a set of rights with the two that decide what is shown
 pub record ForView (asked : ℕ) : Type 0 where
@@ -31,9 +30,9 @@ RightsHeld s t rights rights' = rights' ≡ rightsIn s t ++ drop (count t) right
 pub record Chosen (s t path shown marks : List ℕ) (k : ℕ) (shown' marks' : List ℕ) : Type 0 where
   pub size : k ≡ length (shownNumbers (storedIn s t))
   pub numbers : shown' ≡ shownNumbers (storedIn s t) ++ drop k shown
-  pub picked : marks' ≡ marksIn s t path ++ drop k marks
+  pub picked : marks' ≡ map bit (marksIn s t path) ++ drop k marks
 
 -- the records that a change does, and k, how many nodes are selected
 pub record Decided (c : Change) (s t path done : List ℕ) (k : ℕ) (done' : List ℕ) : Type 0 where
-  pub size : k ≡ markCount (marksOf (marksIn s t path))
-  pub marks : done' ≡ doneIn c s t path ++ drop (count t) done
+  pub size : k ≡ markCount (marksIn s t path)
+  pub marks : done' ≡ map bit (doneIn c s t path) ++ drop (count t) done

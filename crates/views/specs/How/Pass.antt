@@ -7,7 +7,7 @@ use Prim.Native.Nat.{ℕ, zero, suc, _+_, _-_, _*_, _≤_, _<_}
 use lib.ListN.{length, getD, take, drop}
 use lib.Dec.{leb}
 use Rattle.rights.specs.Table.{level}
-use Rattle.views.specs.Change.{isDone, later, dropBelow, putBehind, remove, insertBehind, insertInFront, chunks, raise}
+use Rattle.views.specs.Change.{dropBelow, putBehind, remove, insertBehind, insertInFront, chunks, raise}
 use Rattle.rights.specs.Marks.{marksOf}
 
 -- The bytes from `from` to `end` moved up by `by`; the bytes that they leave stay.
@@ -68,7 +68,7 @@ module _ {E : Type 0} (lev : E → ℕ) where
 -- P holds of each node that is done
 abbrev pub AtDone : {E : Type 0} → (E → Type 0) → List Bool → List E → Type 0
 AtDone P ms [] = Unit {0}
-AtDone P ms (x ∷ t) = (isDone ms ≡ true → P x) × AtDone P (later ms) t
+AtDone P ms (x ∷ t) = (getD ms 0 false ≡ true → P x) × AtDone P (drop 1 ms) t
 
 -- the tree of m records for a node at level l: `up` is 1 for append, 0 for before and after
 abbrev pub treeAt : ℕ → ℕ → List ℕ → ℕ → List (List ℕ)

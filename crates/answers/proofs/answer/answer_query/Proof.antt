@@ -1,5 +1,6 @@
+use Rattle.rights.specs.Marks.{marksOf, keep}
 use Rattle.answers.proofs.AnswerLaws.{answered-not, answered-fits, answered-surely}
-use Rattle.answers.specs.Answer.{queryText, hitsOf}
+use Rattle.answers.specs.Answer.{queryText}
 use Rattle.rights.specs.Nodes.{viewOf}
 use native.Mathlib.Omega.{arith}
 use lib.ListN.{length}
@@ -13,14 +14,14 @@ returns c =
     let at-put-query = c .before .before in let at-if1 = at-put-query .before .before in let at-surely-fits = at-if1 .before in
     let start = at-surely-fits .before .before .before .before .before in
     let a = start .args in
-    answered-surely (queryText (hitsOf (a .marks .now) (viewOf (a .table .now) (a .shown .now)))) (a .area .now) (at-put-query .put-query .last .0) (length (a .shown .now)) _ (at-put-query .put-query .ensures)
+    answered-surely (queryText (keep (marksOf (a .marks .now)) (viewOf (a .table .now) (a .shown .now)))) (a .area .now) (at-put-query .put-query .last .0) (length (a .shown .now)) _ (at-put-query .put-query .ensures)
     (sym (at-surely-fits .surely-fits .ensures) ∙ at-if1 .if1 .taken)
 
 returns-2 : tie.Need-returns-2
 returns-2 c =
     let at-put-query2 = c .before .before in let start = at-put-query2 .before .before .before .before .before .before .before .before in
     let a = start .args in
-    answered-not (queryText (hitsOf (a .marks .now) (viewOf (a .table .now) (a .shown .now)))) (a .area .now) _ (omega (arith, at-put-query2 .put-query2 .ensures .0 .next)) (c .if2 .taken)
+    answered-not (queryText (keep (marksOf (a .marks .now)) (viewOf (a .table .now) (a .shown .now)))) (a .area .now) _ (omega (arith, at-put-query2 .put-query2 .ensures .0 .next)) (c .if2 .taken)
 
 returns-3 : tie.Need-returns-3
 returns-3 c =
@@ -29,7 +30,7 @@ returns-3 c =
     let a = start .args in
     let p = at-put-query2 .put-query2 .ensures .0 in
     let q = at-put-query3 .put-query3 .ensures .0 in
-    answered-fits (queryText (hitsOf (a .marks .now) (viewOf (a .table .now) (a .shown .now)))) (a .area .now) (at-put-query3 .put-query3 .last .0) _ _ q refl (omega (arith, p .next, q .next))
+    answered-fits (queryText (keep (marksOf (a .marks .now)) (viewOf (a .table .now) (a .shown .now)))) (a .area .now) (at-put-query3 .put-query3 .last .0) _ _ q refl (omega (arith, p .next, q .next))
 
 pub answer-query-spec : {M : Type 1} → statement M
 answer-query-spec =

@@ -1,5 +1,5 @@
 use Rattle.answers.proofs.AnswerNodes.{next-some, next-none}
-use Rattle.answers.proofs.NodeLaws.{view-length}
+use Rattle.rights.proofs.PassLaws.{view-length}
 use Rattle.rights.specs.Nodes.{viewOf}
 use native.Mathlib.Omega.{arith}
 use Prim.Native.Nat.{_+_}

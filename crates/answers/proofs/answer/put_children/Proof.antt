@@ -1,6 +1,6 @@
 -- The area holds the text of the nodes before i, and what is left is the text of those from i on: together the whole.
 use Rattle.answers.proofs.AnswerNodes.{children-step, children-end}
-use Rattle.answers.proofs.NodeLaws.{view-length}
+use Rattle.rights.proofs.PassLaws.{view-length}
 use Rattle.answers.proofs.AnswerLaws.{Toward, toward-start, toward-more, toward-end}
 use Rattle.answers.specs.Answer.{childLines}
 use Rattle.rights.specs.Nodes.{viewOf}

@@ -1,7 +1,7 @@
 -- No node before i is marked, so the first hit of all is the first of those from i on.
+use Rattle.rights.specs.Marks.{marksOf, keep}
 use Rattle.answers.proofs.AnswerNodes.{hits-pass, found-hit, found-none}
-use Rattle.answers.proofs.NodeLaws.{view-length}
-use Rattle.answers.specs.Answer.{hitsOf}
+use Rattle.rights.proofs.PassLaws.{view-length}
 use Rattle.rights.specs.Nodes.{viewOf}
 use native.Mathlib.Omega.{arith}
 use lib.ListN.{length, drop}
@@ -12,7 +12,7 @@ use Rattle.answers.proofs.answer.put_found.Statement.{statement}
 use Rattle.answers.proofs.answer.put_found.Tie as tie
 
 abbrev Inv-loop : tie.InvT-loop
-Inv-loop area₀ table shown marks i₀ t6 area i = (i ≤ length shown) × (area ≡ area₀) × (hitsOf (drop i marks) (drop i (viewOf table shown)) ≡ hitsOf marks (viewOf table shown))
+Inv-loop area₀ table shown marks i₀ t6 area i = (i ≤ length shown) × (area ≡ area₀) × (keep (marksOf (drop i marks)) (drop i (viewOf table shown)) ≡ keep (marksOf marks) (viewOf table shown))
 
 abbrev μ-loop : tie.MeasureT-loop
 μ-loop area₀ table shown marks i₀ t6 area i = length shown - i

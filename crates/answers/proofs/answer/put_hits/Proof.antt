@@ -1,8 +1,9 @@
 -- The area holds the lines of the hits before i, and what is left is the lines of those from i on: together the whole.
+use Rattle.rights.specs.Marks.{marksOf, keep}
 use Rattle.answers.proofs.AnswerNodes.{hits-step, hit-lines-end}
-use Rattle.answers.proofs.NodeLaws.{view-length}
+use Rattle.rights.proofs.PassLaws.{view-length}
 use Rattle.answers.proofs.AnswerLaws.{Toward, toward-start, toward-more, toward-end}
-use Rattle.answers.specs.Answer.{hitsOf, hitLines}
+use Rattle.answers.specs.Answer.{hitLines}
 use Rattle.rights.specs.Nodes.{viewOf}
 use native.Mathlib.Omega.{arith}
 use lib.ListN.{length, drop}
@@ -13,7 +14,7 @@ use Rattle.answers.proofs.answer.put_hits.Statement.{statement}
 use Rattle.answers.proofs.answer.put_hits.Tie as tie
 
 abbrev Inv-loop : tie.InvT-loop
-Inv-loop area₀ table shown marks at₀ i₀ area at i = (i ≤ length shown) × (at ≤ 52 * i) × (length area ≡ length area₀) × (Toward (hitLines (hitsOf marks (viewOf table shown))) (hitLines (hitsOf (drop i marks) (drop i (viewOf table shown)))) 0 area₀ area at)
+Inv-loop area₀ table shown marks at₀ i₀ area at i = (i ≤ length shown) × (at ≤ 52 * i) × (length area ≡ length area₀) × (Toward (hitLines (keep (marksOf marks) (viewOf table shown))) (hitLines (keep (marksOf (drop i marks)) (drop i (viewOf table shown)))) 0 area₀ area at)
 
 abbrev μ-loop : tie.MeasureT-loop
 μ-loop area₀ table shown marks at₀ i₀ area at i = length shown - i
@@ -21,7 +22,7 @@ abbrev μ-loop : tie.MeasureT-loop
 loop-holds : tie.Need-loop-holds Inv-loop μ-loop
 loop-holds c =
     let a = c .before .before .before .before .args in
-    (search needs, search needs, refl, toward-start (hitLines (hitsOf (a .marks .now) (viewOf (a .table .now) (a .shown .now)))) 0 (a .area .now))
+    (search needs, search needs, refl, toward-start (hitLines (keep (marksOf (a .marks .now)) (viewOf (a .table .now) (a .shown .now)))) 0 (a .area .now))
 
 loop-again : tie.Need-loop-again Inv-loop μ-loop
 loop-again c =

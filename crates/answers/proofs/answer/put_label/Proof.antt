@@ -1,5 +1,6 @@
 use Rattle.rights.specs.Nodes.{recordPlace}
-use Rattle.answers.proofs.NodeLaws.{label-hidden, label-read, label-short}
+use Rattle.rights.proofs.PassLaws.{label-hidden}
+use Rattle.answers.proofs.NodeLaws.{label-read, label-short}
 use Rattle.answers.proofs.AnswerLaws.{take-short}
 use Rattle.rights.proofs.Lists.{part-of}
 use native.Mathlib.Omega.{arith}

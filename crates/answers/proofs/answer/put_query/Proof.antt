@@ -1,5 +1,5 @@
 use Rattle.answers.proofs.AnswerNodes.{count-hits}
-use Rattle.answers.proofs.NodeLaws.{view-length}
+use Rattle.rights.proofs.PassLaws.{view-length}
 use Rattle.answers.proofs.AnswerLaws.{puts-more}
 use Rattle.rights.specs.Nodes.{viewOf}
 use native.Mathlib.Omega.{arith}

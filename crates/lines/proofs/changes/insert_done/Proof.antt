@@ -1,5 +1,6 @@
 use mathlib.Core.Path.{refl, sym}
 use borrow.Author.Tests.{not-false}
+use Rattle.rights.specs.Marks.{marksOf}
 use Rattle.lines.specs.Work.{insertChecks}
 use Rattle.lines.proofs.RefusalLaws.{passed, performs-refused, performs-short, performs-done}
 use Rattle.lines.proofs.StateLaws.{same-stage}
@@ -16,7 +17,7 @@ returns-2 c =
     let at-if1 = at-answer-change .before .before .before in let at-insert-refusal = at-if1 .before in
     let start = at-insert-refusal .before .before .before .before .before .before .before in
     let a = start .args in
-    performs-short _ _ _ (passed (insertChecks (a .place) (a .done .now) (a .m) (a .tree .now) (a .table .now)) _ refl (at-insert-refusal .insert-refusal .ensures) (at-if1 .if1 .left)) (at-answer-change .answer-change .ensures) (at-area-refusal .area-refusal .ensures) (c .if2 .taken)
+    performs-short _ _ _ (passed (insertChecks (a .place) (marksOf (a .done .now)) (a .m) (a .tree .now) (a .table .now)) _ refl (at-insert-refusal .insert-refusal .ensures) (at-if1 .if1 .left)) (at-answer-change .answer-change .ensures) (at-area-refusal .area-refusal .ensures) (c .if2 .taken)
 
 insert-marked-requires : tie.Need-insert-marked-requires
 insert-marked-requires c κs =
@@ -24,7 +25,7 @@ insert-marked-requires c κs =
     let start = at-insert-refusal .before .before .before .before .before .before .before in
     let a = start .args in
     let g = start .pre in
-    let p = passed (insertChecks (a .place) (a .done .now) (a .m) (a .tree .now) (a .table .now)) _ refl (at-insert-refusal .insert-refusal .ensures) (at-if1 .if1 .left) in
+    let p = passed (insertChecks (a .place) (marksOf (a .done .now)) (a .m) (a .tree .now) (a .table .now)) _ refl (at-insert-refusal .insert-refusal .ensures) (at-if1 .if1 .left) in
     ((g .1, g .2, g .3), (p .0, not-false _ (p .1 .0)))
 
 returns-3 : tie.Need-returns-3
@@ -33,7 +34,7 @@ returns-3 c =
     let at-answer-change = at-area-refusal .before .before .before in let at-if1 = at-answer-change .before .before .before in
     let at-insert-refusal = at-if1 .before in let start = at-insert-refusal .before .before .before .before .before .before .before in
     let a = start .args in
-    performs-done _ _ _ (passed (insertChecks (a .place) (a .done .now) (a .m) (a .tree .now) (a .table .now)) _ refl (at-insert-refusal .insert-refusal .ensures) (at-if1 .if1 .left)) (at-answer-change .answer-change .ensures) (at-area-refusal .area-refusal .ensures) (at-if2 .if2 .left) (sym (same-stage (a .state .now) (start .pre .0))) (at-insert-marked .insert-marked .ensures)
+    performs-done _ _ _ (passed (insertChecks (a .place) (marksOf (a .done .now)) (a .m) (a .tree .now) (a .table .now)) _ refl (at-insert-refusal .insert-refusal .ensures) (at-if1 .if1 .left)) (at-answer-change .answer-change .ensures) (at-area-refusal .area-refusal .ensures) (at-if2 .if2 .left) (sym (same-stage (a .state .now) (start .pre .0))) (at-insert-marked .insert-marked .ensures)
 
 pub insert-done-spec : {M : Type 1} → statement M
 insert-done-spec =

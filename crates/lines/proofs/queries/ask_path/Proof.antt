@@ -3,7 +3,7 @@ use native.Mathlib.Omega.{arith}
 use Rattle.lines.specs.Work.{onView}
 use Rattle.lines.proofs.RefusalLaws.{passed, performs-refused, performs-short, performs-done}
 use Rattle.lines.proofs.StateLaws.{store-held}
-use Rattle.lines.proofs.UserViewLaws.{shown-fits, shown-long, shown-view, marks-part, marks-long-enough, marks-cover}
+use Rattle.lines.proofs.UserViewLaws.{shown-fits, shown-long, shown-view, marks-are, marks-long-enough, marks-cover}
 use borrow.Author.Needs.{needs}
 use Rattle.lines.proofs.queries.ask_path.Statement.{statement}
 use Rattle.lines.proofs.queries.ask_path.Tie as tie
@@ -56,7 +56,7 @@ returns-2 c =
     let g = start .pre in
     let s = a .state .now in
     let r = at-select-user .select-user .ensures .0 in
-    performs-short _ _ _ (passed (onView (a .path .now) s) _ refl (at-path-refusal .path-refusal .ensures) (at-if1 .if1 .left)) (rw ((shown-view s (a .table .now) g _ _ _ (r .size) (r .numbers)), (marks-part s (a .table .now) (a .path .now) _ _ _ g (r .size) (r .picked))) at (at-answer-ask .answer-ask .ensures)) (at-area-refusal .area-refusal .ensures) (c .if2 .taken)
+    performs-short _ _ _ (passed (onView (a .path .now) s) _ refl (at-path-refusal .path-refusal .ensures) (at-if1 .if1 .left)) (rw ((shown-view s (a .table .now) g _ _ _ (r .size) (r .numbers)), (marks-are s (a .table .now) (a .path .now) _ _ _ g (r .size) (r .picked))) at (at-answer-ask .answer-ask .ensures)) (at-area-refusal .area-refusal .ensures) (c .if2 .taken)
 
 returns-3 : tie.Need-returns-3
 returns-3 c =
@@ -68,7 +68,7 @@ returns-3 c =
     let g = start .pre in
     let s = a .state .now in
     let r = at-select-user .select-user .ensures .0 in
-    performs-done _ _ _ (passed (onView (a .path .now) s) _ refl (at-path-refusal .path-refusal .ensures) (at-if1 .if1 .left)) (rw ((shown-view s (a .table .now) g _ _ _ (r .size) (r .numbers)), (marks-part s (a .table .now) (a .path .now) _ _ _ g (r .size) (r .picked))) at (at-answer-ask .answer-ask .ensures)) (at-area-refusal .area-refusal .ensures) (c .if2 .left) refl refl
+    performs-done _ _ _ (passed (onView (a .path .now) s) _ refl (at-path-refusal .path-refusal .ensures) (at-if1 .if1 .left)) (rw ((shown-view s (a .table .now) g _ _ _ (r .size) (r .numbers)), (marks-are s (a .table .now) (a .path .now) _ _ _ g (r .size) (r .picked))) at (at-answer-ask .answer-ask .ensures)) (at-area-refusal .area-refusal .ensures) (c .if2 .left) refl refl
 
 pub ask-path-spec : {M : Type 1} → statement M
 ask-path-spec =

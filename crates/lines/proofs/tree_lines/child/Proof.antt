@@ -1,18 +1,15 @@
-use Prim.Native.Nat.{_+_}
 use mathlib.Core.List.{_∷_}
 use mathlib.Core.Path.{refl, ap, _∙_}
 use native.Mathlib.Omega.{arith}
 use borrow.Author.Tests.{not-false}
-use Rattle.rights.specs.Table.{records}
 use Rattle.rights.proofs.Facts.{table-few}
-use Rattle.views.specs.Change.{chunks, changed, placed, lower, deepest, tooDeep, hasRoom}
-use Rattle.rights.specs.Marks.{marksOf}
+use Rattle.views.specs.Change.{changed}
 use Rattle.views.specs.declared.insert.Place.the-variants.{Append}
 use Rattle.lines.specs.Refusal.{firstRefusal}
 use Rattle.lines.specs.Work.{labelCheck, insertChecks, rootAlone}
 use Rattle.lines.proofs.RefusalLaws.{passed, performs-refused, performs-short, performs-done}
 use Rattle.lines.proofs.StateLaws.{store-held, stage-put}
-use Rattle.lines.proofs.TreeLineLaws.{root-marks}
+use Rattle.lines.proofs.TreeLineLaws.{root-placed, root-deep, root-fits, root-checks}
 use borrow.Author.Needs.{needs}
 use Rattle.lines.proofs.tree_lines.child.Statement.{statement}
 use Rattle.lines.proofs.tree_lines.child.Tie as tie
@@ -28,7 +25,7 @@ returns : tie.Need-returns
 returns c =
     let at-child-refusal = c .before in let start = at-child-refusal .before .before .before .before .before .before .before in
     let a = start .args in
-    performs-refused _ _ _ (at-child-refusal .child-refusal .ensures ∙ ap (λ k. firstRefusal (labelCheck (a .m) (a .tree .now) ∷ insertChecks Append k (a .m) (a .tree .now) (a .table .now))) root-marks) (c .if1 .taken)
+    performs-refused _ _ _ (at-child-refusal .child-refusal .ensures ∙ ap (λ cs. firstRefusal (labelCheck (a .m) (a .tree .now) ∷ cs)) (root-checks (a .m) (a .tree .now) (a .table .now))) (c .if1 .taken)
 
 returns-2 : tie.Need-returns-2
 returns-2 c =
@@ -36,7 +33,7 @@ returns-2 c =
     let at-child-refusal = at-if1 .before in let start = at-child-refusal .before .before .before .before .before .before .before in
     let a = start .args in
     let x = a .tree .now in
-    performs-short _ _ _ (passed (labelCheck (a .m) x ∷ insertChecks Append rootAlone (a .m) x (a .table .now)) _ refl (at-child-refusal .child-refusal .ensures ∙ ap (λ k. firstRefusal (labelCheck (a .m) x ∷ insertChecks Append k (a .m) x (a .table .now))) root-marks) (at-if1 .if1 .left)) (at-answer-ok .answer-ok .ensures) (at-area-refusal .area-refusal .ensures) (c .if2 .taken)
+    performs-short _ _ _ (passed (labelCheck (a .m) x ∷ insertChecks Append rootAlone (a .m) x (a .table .now)) _ refl (at-child-refusal .child-refusal .ensures ∙ ap (λ cs. firstRefusal (labelCheck (a .m) x ∷ cs)) (root-checks (a .m) x (a .table .now))) (at-if1 .if1 .left)) (at-answer-ok .answer-ok .ensures) (at-area-refusal .area-refusal .ensures) (c .if2 .taken)
 
 insert-marked-requires : tie.Need-insert-marked-requires
 insert-marked-requires c κs =
@@ -46,12 +43,12 @@ insert-marked-requires c κs =
     let g = start .pre in
     let t = a .table .now in
     let x = a .tree .now in
-    let p = passed (labelCheck (a .m) x ∷ insertChecks Append rootAlone (a .m) x t) _ refl (at-child-refusal .child-refusal .ensures ∙ ap (λ k. firstRefusal (labelCheck (a .m) x ∷ insertChecks Append k (a .m) x t)) root-marks) (at-if1 .if1 .left) in
+    let p = passed (labelCheck (a .m) x ∷ insertChecks Append rootAlone (a .m) x t) _ refl (at-child-refusal .child-refusal .ensures ∙ ap (λ cs. firstRefusal (labelCheck (a .m) x ∷ cs)) (root-checks (a .m) x t)) (at-if1 .if1 .left) in
     let h = store-held (a .state .now) t (g .0) .table in (
       (h, table-few t h, g .1),
       (
-        ap (λ k. tooDeep (lower Append + deepest (chunks (a .m) x)) (marksOf k) (records t)) root-marks ∙ p .1 .0,
-        ap (λ k. hasRoom t k (a .m)) root-marks ∙ not-false _ (p .1 .1 .0),
+        root-deep (a .m) x t ∙ p .1 .0,
+        root-fits (a .m) x t ∙ not-false _ (p .1 .1 .0),
       ),
     )
 
@@ -68,9 +65,9 @@ returns-3 c =
     let a = start .args in
     let t = a .table .now in
     let x = a .tree .now in
-    performs-done _ _ _ (passed (labelCheck (a .m) x ∷ insertChecks Append rootAlone (a .m) x t) _ refl (at-child-refusal .child-refusal .ensures ∙ ap (λ k. firstRefusal (labelCheck (a .m) x ∷ insertChecks Append k (a .m) x t)) root-marks) (at-if1 .if1 .left)) (at-answer-ok .answer-ok .ensures) (at-area-refusal .area-refusal .ensures) (at-if2 .if2 .left)
+    performs-done _ _ _ (passed (labelCheck (a .m) x ∷ insertChecks Append rootAlone (a .m) x t) _ refl (at-child-refusal .child-refusal .ensures ∙ ap (λ cs. firstRefusal (labelCheck (a .m) x ∷ cs)) (root-checks (a .m) x t)) (at-if1 .if1 .left)) (at-answer-ok .answer-ok .ensures) (at-area-refusal .area-refusal .ensures) (at-if2 .if2 .left)
     (stage-put (a .state .now) 3 (omega (arith, store-held (a .state .now) t (start .pre .0) .size)))
-    (at-insert-marked .insert-marked .ensures ∙ ap (λ k. changed t (placed Append (a .m) x k (records t))) root-marks)
+    (at-insert-marked .insert-marked .ensures ∙ ap (changed t) (root-placed (a .m) x t))
 
 pub child-spec : {M : Type 1} → statement M
 child-spec =

@@ -1,15 +1,18 @@
--- Before record i the shown nodes up to j have come: what stands in the slots is what the nodes above say, and the marks of the records before i are written.
-use Rattle.rights.specs.Marks.{bit}
-use Prim.Native.Nat.{_-_}
+-- Before record i the shown nodes up to j have come: the slots say what the nodes above say, and the marks of the records before i are written.
+use Prim.Native.Nat.{ℕ, _+_, _*_, _-_, _<_}
 use mathlib.Core.Path.{_≡_, ap, _∙_}
+use mathlib.Core.List.{List}
+use mathlib.Core.Bool.{Bool}
 use native.Mathlib.Omega.{arith}
 use borrow.Author.Needs.{needs}
+use lib.ListN.{getD}
+use Rattle.rights.specs.Marks.{bit}
 use Rattle.rights.specs.Policy.{policyWord}
-use Rattle.rights.specs.PolicyBytes.{policyOf}
+use Rattle.rights.specs.PolicyBytes.{policyOf, Text}
 use Rattle.rights.specs.Table.{count}
 use Rattle.views.proofs.StoredNodes.{record-text}
 use Rattle.views.proofs.TableFacts.{facts}
-use Rattle.views.proofs.DonePass.{Marking, marking-start, marking-more, marking-end}
+use Rattle.views.proofs.DonePass.{Marking, marking-start, marking-more, marking-gives}
 use Rattle.views.proofs.done.mark_by_words.Statement.{statement}
 use Rattle.views.proofs.done.mark_by_words.Tie as tie
 
@@ -20,82 +23,109 @@ Inv-loop change policy words k table rights shown marks done₀ n chosen₀ gran
 abbrev μ-loop : tie.MeasureT-loop
 μ-loop change policy words k table rights shown marks done₀ n chosen₀ granting₀ j₀ i₀ done chosen granting j i = n - i
 
+-- the function's start, seen from the first call and from the loop
+abbrev start : tie.After-count-of Inv-loop μ-loop → tie.Start Inv-loop μ-loop
+start c = c .before .before .before .before .before .before .before .before
+
+abbrev table : tie.At-loop Inv-loop μ-loop → List ℕ
+table c = start (c .before) .args .table .now
+
+abbrev word : tie.Start Inv-loop μ-loop → List ℕ → Bool
+word s = policyWord (policyOf (s .args .policy .now))
+
+-- the label and the level of the record that the loop is at
+record-known : (c : tie.In-loop Inv-loop μ-loop)
+    → Text (table (c .before)) (4 + c .before .loop .i * 32) × (getD (table (c .before)) (4 + c .before .loop .i * 32) 0 < 12)
+record-known c = record-text (table (c .before)) (start (c .before .before) .pre .1) (c .before .loop .i) (omega arith)
+
 count-of-requires : tie.Need-count-of-requires Inv-loop μ-loop
 count-of-requires c κs = facts _ (c .before .before .before .before .before .before .before .pre .1) .head
 
 loop-holds : tie.Need-loop-holds Inv-loop μ-loop
 loop-holds c =
-    let a = c .before .before .before .before .before .before .before .before .args in
-    (c .count-of .ensures, marking-start (a .change) (policyWord (policyOf (a .policy .now))) (a .table .now) (a .rights .now) (a .shown .now) (a .marks .now) (a .done .now) (c .count-of .result))
+    let s = start c in
+    let a = s .args in
+    (c .count-of .ensures, marking-start (a .change) (word s) (a .table .now) (a .rights .now) (a .shown .now) (a .marks .now) (a .done .now) (c .count-of .result))
 
 mul-level : tie.Need-mul-level Inv-loop μ-loop
 mul-level c =
-    let a = c .before .before .before .before .before .before .before .before .before .before .args in
     let l = c .before .loop in
-    let g = facts (a .table .now) (c .before .before .before .before .before .before .before .before .before .before .pre .1) in
+    let g = facts (table (c .before)) (start (c .before .before) .pre .1) in
     omega arith
 
 add-level : tie.Need-add-level Inv-loop μ-loop
 add-level c =
-    let a = c .before .before .before .before .before .before .before .before .before .before .args in
     let l = c .before .loop in
-    let g = facts (a .table .now) (c .before .before .before .before .before .before .before .before .before .before .pre .1) in
+    let g = facts (table (c .before)) (start (c .before .before) .pre .1) in
     omega arith
 
 shared-slice-read-level : tie.Need-shared-slice-read-level Inv-loop μ-loop
 shared-slice-read-level c =
-    let a = c .before .before .before .before .before .before .before .before .before .before .before .args in
-    let l = c .before .before .loop in
-    let g = facts (a .table .now) (c .before .before .before .before .before .before .before .before .before .before .before .pre .1) in
+    let at-loop = c .before .before in
+    let l = at-loop .loop in
+    let g = facts (table at-loop) (start (at-loop .before) .pre .1) in
     omega arith
 
 array-read-is-set : tie.Need-array-read-is-set Inv-loop μ-loop
 array-read-is-set c =
-    let a = c .before .before .before .before .before .before .before .before .before .before .before .before .before .before .before .args in
-    let l = c .before .before .before .before .before .before .loop in
-    let k = record-text (a .table .now) (c .before .before .before .before .before .before .before .before .before .before .before .before .before .before .before .pre .1) (l .i) (omega arith) in
-    omega (arith, k .1, c .before .before .before .wide .ensures)
+    let at-wide = c .before .before .before in
+    omega (arith, record-known (at-wide .before .before) .1, at-wide .wide .ensures)
 
 array-read-is-set-2 : tie.Need-array-read-is-set-2 Inv-loop μ-loop
 array-read-is-set-2 c =
-    let a = c .before .before .before .before .before .before .before .before .before .before .before .before .before .before .before .before .args in
-    let l = c .before .before .before .before .before .before .before .loop in
-    let k = record-text (a .table .now) (c .before .before .before .before .before .before .before .before .before .before .before .before .before .before .before .before .pre .1) (l .i) (omega arith) in
-    omega (arith, k .1, c .before .before .before .before .wide .ensures)
+    let at-wide = c .before .before .before .before in
+    omega (arith, record-known (at-wide .before .before) .1, at-wide .wide .ensures)
 
 is-done-requires : tie.Need-is-done-requires Inv-loop μ-loop
 is-done-requires c κs =
-    let a = c .before .before .before .before .before .before .before .before .before .before .before .before .before .before .before .before .before .args in
-    let l = c .before .before .before .before .before .before .before .before .loop in
-    let k = record-text (a .table .now) (c .before .before .before .before .before .before .before .before .before .before .before .before .before .before .before .before .before .pre .1) (l .i) (omega arith) in
-    (c .before .before .before .before .before .before .before .before .before .before .before .before .before .before .before .before .before .pre .0, k .0)
+    let in-loop = c .before .before .before .before .before .before .before in
+    (start (in-loop .before .before) .pre .0, record-known in-loop .0)
 
 next-of-requires : tie.Need-next-of-requires Inv-loop μ-loop
-next-of-requires c κs = let l = c .before .before .before .before .before .before .before .before .before .before .before .before .before .before .before .before .before .loop in omega (arith, l .inv .1 .behind, c .before .before .before .before .before .before .before .before .before .before .before .before .before .before .before .before .loop-test .taken)
+next-of-requires c κs =
+    let at-is-done = c .before .before .before .before .before .before .before .before in
+    let in-loop = at-is-done .before .before .before .before .before .before .before .before in
+    omega (arith, in-loop .before .loop .inv .1 .behind, in-loop .loop-test .taken)
 
 loop-again : tie.Need-loop-again Inv-loop μ-loop
 loop-again c =
-    let a = c .before .before .before .before .before .before .before .before .before .before .before .before .before .before .before .before .before .before .before .before .before .before .before .before .before .before .before .args in
-    let l = c .before .before .before .before .before .before .before .before .before .before .before .before .before .before .before .before .before .before .loop in
-    let k = record-text (a .table .now) (c .before .before .before .before .before .before .before .before .before .before .before .before .before .before .before .before .before .before .before .before .before .before .before .before .before .before .before .pre .1) (l .i) (omega arith) in
-    let p = c .before .before .before .before .before .before .before .before .before .before .before .before .before .before .before .before .before .before .before .before .before .before .before .before .before .before .before .pre in
+    let at-pass-down2 = c .before in
+    let at-mark-of3 = at-pass-down2 .before in
+    let at-holds-right = at-mark-of3 .before in
+    let at-pass-down = at-holds-right .before .before in
+    let at-mark-of2 = at-pass-down .before in
+    let at-mark-of = at-mark-of2 .before .before in
+    let at-is-done = at-mark-of .before in
+    let at-is-set2 = at-is-done .before in
+    let at-is-set = at-is-set2 .before in
+    let at-is-marked = at-is-set .before in
+    let at-stands-at = at-is-marked .before in
+    let at-wide = at-stands-at .before .before in
+    let in-loop = at-wide .before .before in
+    let at-count-of = in-loop .before .before in
+    let s = start at-count-of in
+    let a = s .args in
+    let l = in-loop .before .loop in
     let e = l .inv .0 in
-    let h = c .before .before .before .before .before .before .before .before .before .before .before .before .before .before .before .before .before .loop-test .taken in (
+    let h = in-loop .loop-test .taken in (
       l .inv .0,
-      marking-more (a .change) (policyWord (policyOf (a .policy .now))) (a .table .now) (a .rights .now) (a .shown .now) (a .marks .now) (a .done .now) (c .before .before .before .before .before .before .before .before .before .before .before .before .before .before .before .before .before .before .before .count-of .result)
-          (l .done) (l .chosen) (l .granting) _ _ (l .j) (l .i) (c .before .before .before .before .before .before .before .before .before .before .before .before .before .before .before .wide .result) _ _ (c .before .before .before .before .before .before .mark-of2 .result) (c .before .before .mark-of3 .result)
-          (c .before .before .before .before .before .before .before .before .before .before .before .before .before .stands-at .result) (c .before .before .before .before .before .before .before .before .before .before .before .before .is-marked .result) (c .before .before .before .before .before .before .before .before .before .before .before .is-set .result) (c .before .before .before .before .before .before .before .before .before .before .is-set2 .result) (c .before .before .before .before .before .before .before .before .before .is-done .result)
-          (omega arith) (omega arith) (k .1) (c .before .before .before .before .before .before .before .before .before .before .before .before .before .before .before .wide .ensures) (l .inv .1)
-          (c .before .before .before .before .before .before .before .before .before .before .before .before .before .stands-at .ensures) (c .before .before .before .before .before .before .before .before .before .before .before .before .is-marked .ensures) (c .before .before .before .before .before .before .before .before .before .before .before .is-set .ensures) (c .before .before .before .before .before .before .before .before .before .before .is-set2 .ensures) (c .before .before .before .before .before .before .before .before .before .is-done .ensures)
-          (c .before .before .before .before .before .before .before .before .mark-of .ensures) (c .before .before .before .before .before .before .mark-of2 .ensures) (c .before .before .mark-of3 .ensures ∙ ap bit (c .before .before .before .holds-right .ensures))
-          (c .before .before .before .before .before .pass-down .ensures) (c .before .pass-down2 .ensures) (c .next-of .ensures),
+      marking-more (a .change) (word s) (a .table .now) (a .rights .now) (a .shown .now) (a .marks .now) (a .done .now) (at-count-of .count-of .result)
+          (l .done) (l .chosen) (l .granting) _ _ (l .j) (l .i) (at-wide .wide .result) _ _ (at-mark-of2 .mark-of2 .result) (at-mark-of3 .mark-of3 .result)
+          (at-stands-at .stands-at .result) (at-is-marked .is-marked .result) (at-is-set .is-set .result) (at-is-set2 .is-set2 .result) (at-is-done .is-done .result)
+          (omega arith) (omega arith) (record-known in-loop .1) (at-wide .wide .ensures) (l .inv .1)
+          (at-stands-at .stands-at .ensures) (at-is-marked .is-marked .ensures) (at-is-set .is-set .ensures) (at-is-set2 .is-set2 .ensures) (at-is-done .is-done .ensures)
+          (at-mark-of .mark-of .ensures) (at-mark-of2 .mark-of2 .ensures) (at-mark-of3 .mark-of3 .ensures ∙ ap bit (at-holds-right .holds-right .ensures))
+          (at-pass-down .pass-down .ensures) (at-pass-down2 .pass-down2 .ensures) (c .next-of .ensures),
     )
 
 returns : tie.Need-returns Inv-loop μ-loop
 returns c =
-    let a = c .before .before .before .before .before .before .before .before .before .before .args in
-    let l = c .before .loop in
-    rw (l .inv .0) at (marking-end (a .change) (policyWord (policyOf (a .policy .now))) (a .table .now) (a .rights .now) (a .shown .now) (a .marks .now) (a .done .now) (c .before .before .count-of .result) (l .done) (l .chosen) (l .granting) (l .j) (l .i) (omega arith) (l .inv .1))
+    let at-loop = c .before in
+    let at-count-of = at-loop .before in
+    let s = start at-count-of in
+    let a = s .args in
+    let l = at-loop .loop in
+    marking-gives (a .change) (word s) (a .table .now) (a .rights .now) (a .shown .now) (a .marks .now) (a .done .now) (at-count-of .count-of .result) (l .done) (l .chosen) (l .granting) (l .j) (l .i) (l .inv .0) (omega arith) (l .inv .1)
 
 pub mark-by-words-spec : {M : Type 1} → statement M
 mark-by-words-spec =

@@ -8,12 +8,13 @@ use borrow.Author.Needs.{needs}
 use native.Mathlib.Omega.{arith}
 use Rattle.views.proofs.remove.compact.Statement.{statement}
 use Rattle.views.proofs.remove.compact.Tie as tie
+use Rattle.rights.specs.Marks.{marksOf}
 use Rattle.views.specs.Change.{removed, chunks}
 use Rattle.views.specs.How.Pass.{going, Under}
 
 abbrev Inv-loop : tie.InvT-loop
 Inv-loop t₀ marks n i₀ w₀ cut₀ t i w cut =
-    (i ≤ n) × (w ≤ i) × (length t ≡ length t₀) × (Under level 12 (chunks (n - i) (drop (4 + i * 32) t))) × (going n i w cut t marks ≡ removed marks (chunks n (drop 4 t₀)))
+    (i ≤ n) × (w ≤ i) × (length t ≡ length t₀) × (Under level 12 (chunks (n - i) (drop (4 + i * 32) t))) × (going n i w cut t marks ≡ removed (marksOf marks) (chunks n (drop 4 t₀)))
 
 abbrev μ-loop : tie.MeasureT-loop
 μ-loop t₀ marks n i₀ w₀ cut₀ t i w cut = n - i

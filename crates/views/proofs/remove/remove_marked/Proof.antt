@@ -1,5 +1,6 @@
 use mathlib.Core.Path.{ap, sym, _∙_}
 use Rattle.rights.specs.Table.{records}
+use Rattle.rights.specs.Marks.{marksOf}
 use Rattle.views.specs.Change.{removed}
 use Rattle.views.proofs.Chunks.{is-changed, all-chunks}
 use Rattle.views.proofs.TableFacts.{facts}
@@ -54,8 +55,8 @@ returns c =
     let put = at-put-count .put-count in
     let f = facts (a .t .now) (k .before .before .before .before .before .before .pre .0) in
     let n = k .before .before .count-of .ensures in
-    is-changed (k .compact .result) (a .t .now) (k .compact .last .0) (clear .last .0) (put .last .0) (removed (a .marks .now) (records (a .t .now))) (omega arith) (omega (arith, n, f .size))
-    (k .compact .ensures .1 ∙ ap (removed (a .marks .now)) (rw n (sym (all-chunks (a .t .now))))) (clear .ensures) (put .ensures)
+    is-changed (k .compact .result) (a .t .now) (k .compact .last .0) (clear .last .0) (put .last .0) (removed (marksOf (a .marks .now)) (records (a .t .now))) (omega arith) (omega (arith, n, f .size))
+    (k .compact .ensures .1 ∙ ap (removed (marksOf (a .marks .now))) (rw n (sym (all-chunks (a .t .now))))) (clear .ensures) (put .ensures)
 
 pub remove-marked-spec : {M : Type 1} → statement M
 remove-marked-spec =

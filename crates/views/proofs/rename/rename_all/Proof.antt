@@ -7,11 +7,12 @@ use native.Mathlib.Omega.{arith}
 use borrow.Author.Needs.{needs}
 use Rattle.views.proofs.rename.rename_all.Statement.{statement}
 use Rattle.views.proofs.rename.rename_all.Tie as tie
+use Rattle.rights.specs.Marks.{marksOf}
 use Rattle.views.specs.Change.{chunks, renamed}
 
 abbrev Inv-loop : tie.InvT-loop
 Inv-loop t₀ marks s from to n i₀ t i =
-    (i ≤ n) × (length t ≡ length t₀) × (naming n (take (to - from) (drop from s)) marks i t ≡ renamed (take (to - from) (drop from s)) marks (chunks n (drop 4 t₀)))
+    (i ≤ n) × (length t ≡ length t₀) × (naming n (take (to - from) (drop from s)) marks i t ≡ renamed (take (to - from) (drop from s)) (marksOf marks) (chunks n (drop 4 t₀)))
     × (take 4 t ≡ take 4 t₀) × (drop (4 + n * 32) t ≡ drop (4 + n * 32) t₀)
 
 abbrev μ-loop : tie.MeasureT-loop

@@ -2,6 +2,7 @@ use mathlib.Core.Path.{sym, _∙_, ap}
 use Prim.Native.Nat.{_-_}
 use lib.ListN.{take, drop}
 use Rattle.rights.specs.Table.{records}
+use Rattle.rights.specs.Marks.{marksOf}
 use Rattle.views.specs.Change.{renamed}
 use Rattle.views.proofs.Chunks.{all-chunks, length-chunks}
 use Rattle.views.proofs.TableFacts.{facts}
@@ -37,9 +38,9 @@ returns c =
     let lab = take (a .to - a .from) (drop (a .from) (a .s .now)) in
     let g = rw n at (f .ensures .0) in
     let b = rw n at (f .ensures .2) in
-    renamed-table (a .t .now) (f .last .0) (renamed lab (a .marks .now) (records (a .t .now))) (s .pre .0 .0) (λ i. omega (arith, at-slice-known .slice-known .given i)) (search needs)
-    (length-renamed lab (a .marks .now) (records (a .t .now)) ∙ rw (all-chunks (a .t .now)) (length-chunks _ _))
-    (g ∙ ap (renamed lab (a .marks .now)) (sym (all-chunks (a .t .now)))) (f .ensures .1) b
+    renamed-table (a .t .now) (f .last .0) (renamed lab (marksOf (a .marks .now)) (records (a .t .now))) (s .pre .0 .0) (λ i. omega (arith, at-slice-known .slice-known .given i)) (search needs)
+    (length-renamed lab (marksOf (a .marks .now)) (records (a .t .now)) ∙ rw (all-chunks (a .t .now)) (length-chunks _ _))
+    (g ∙ ap (renamed lab (marksOf (a .marks .now))) (sym (all-chunks (a .t .now)))) (f .ensures .1) b
 
 pub rename-marked-spec : {M : Type 1} → statement M
 rename-marked-spec =
