@@ -22,10 +22,10 @@ use Rattle.rights.specs.Nodes.{levelAt, labelAt}
 use Rattle.rights.specs.XPath.{filter, withNumber, each, stretch, nodeSet, filtered, xpathSelected}
 use Rattle.rights.specs.Table.{recordsFrom, recordsOk, tableOk}
 use Rattle.views.specs.Shown.{storedFrom, atParent, nearestFirst, shownAfter}
-use Rattle.rights.specs.Marks.{eachFrom, bitsFrom, keep}
+use Rattle.rights.specs.Marks.{eachFrom, keep}
 use Rattle.views.specs.Change.{dropBelow, putBehind, remove, insertBehind, rename, chunks, raise, join, changed, deepest, tooDeep}
 use Rattle.views.specs.Done.{inTable}
-use Rattle.answers.specs.Answer.{hitsOf, hitLines, childLines, viewText}
+use Rattle.answers.specs.Answer.{hitLines, childLines, viewText}
 use Rattle.answers.specs.AnswerChoice.{Choice}
 use Rattle.forms.specs.Word.{sameText, among, wordAt, signAt, rightAt}
 use Rattle.forms.specs.Part.{pathByte, labelEnd, runEnd, knownEnd}
@@ -37,7 +37,7 @@ use Rattle.lines.specs.State.{sessionOk, stateOk, storeOk}
 use Rattle.lines.specs.Effect.{guarded, performed}
 use Rattle.lines.specs.Outcome.{Reply, Outcome}
 use Rattle.lines.specs.Refusal.{checked}
-use Rattle.lines.specs.Work.{rootAlone, treeRestricted}
+use Rattle.lines.specs.Work.{treeRestricted}
 use Rattle.store.specs.Line.{workOf, lineChecks, step}
 use Rattle.guarantee.proofs.SessionKept.{store-kept}
 
@@ -73,7 +73,7 @@ small-passes = refl
 
 -- what the lines of a row give from a new store, where 13 is not computed
 unfoldable given : Choice → Case → List Reply
-unfolding passedReplies passed digitByte run all labelByte sameLabel passes readTest readStep numberOf isPosition readPosition closes readBrackets readSteps unslashed brackets steps pathOf decimal writeTest some passesOwn policyWord testOf namesFrom isaFrom stepsFrom rulesFrom policyOf recordOf isBy reaches decide rightsBy chains levelAt labelAt filter withNumber each stretch nodeSet filtered xpathSelected bitsFrom recordsFrom storedFrom atParent nearestFirst shownAfter keep eachFrom dropBelow putBehind remove insertBehind rename chunks raise join changed deepest tooDeep inTable hitsOf hitLines childLines viewText sameText among wordAt signAt rightAt pathByte labelEnd openEnd tailEnd treeEnd tailNodes treeNodes recordsOf partsOf endsIn readForm treeIn subjectFrom subjectNamed isaHeld bracketed hasBracket stepList stepsIn pathRestricted stepRecords withLine lineByte lineOk checked performed rootAlone treeRestricted folded padded standsFor subjectsWhere runEnd knownEnd treePlace
+unfolding passedReplies passed digitByte run all labelByte sameLabel passes readTest readStep numberOf isPosition readPosition closes readBrackets readSteps unslashed brackets steps pathOf decimal writeTest some passesOwn policyWord testOf namesFrom isaFrom stepsFrom rulesFrom policyOf recordOf isBy reaches decide rightsBy chains levelAt labelAt filter withNumber each stretch nodeSet filtered xpathSelected recordsFrom storedFrom atParent nearestFirst shownAfter keep eachFrom dropBelow putBehind remove insertBehind rename chunks raise join changed deepest tooDeep inTable hitLines childLines viewText sameText among wordAt signAt rightAt pathByte labelEnd openEnd tailEnd treeEnd tailNodes treeNodes recordsOf partsOf endsIn readForm treeIn subjectFrom subjectNamed isaHeld bracketed hasBracket stepList stepsIn pathRestricted stepRecords withLine lineByte lineOk checked performed treeRestricted folded padded standsFor subjectsWhere runEnd knownEnd treePlace
 given choice c = passedReplies choice newState (newTable (c .capacity)) (map input (c .turns))
 
 abbrev Gives : Choice → Case → Type 0

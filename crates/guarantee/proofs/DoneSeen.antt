@@ -15,7 +15,7 @@ use Rattle.rights.specs.Table.{recordAt, recordsFrom, records, level, label, co
 use Rattle.rights.proofs.Lists.{byCase}
 use Rattle.views.specs.Done.{Asked, does, askedOf, doneMarks}
 use Rattle.rights.specs.Marks.{eachFrom}
-use Rattle.views.specs.Shown.{atParent, nearestFirst, isShownAt, stored, shown}
+use Rattle.views.specs.Shown.{atParent, nearestFirst, isShownAt}
 use Rattle.views.specs.declared.done.Change.{Change}
 use Rattle.views.specs.declared.done.Change.the-variants.{Rename, Update, Append, Before, After, Remove}
 use Rattle.guarantee.proofs.Scan.{seen, spread, shown-level}
@@ -48,16 +48,16 @@ doneFrom c bs is (x ∷ xs) =
 
 -- In a table
 
-module _ (word : List ℕ → Bool) (t ss : List ℕ) (ms : List Bool) where
-  abbrev itemAt : List Bool → ℕ → Item
-  itemAt bs i = record { level = level (recordAt t i); rights = getD ss i 0; shown = getD bs i false; selected = getD ms i false; word = word (label (recordAt t i)) }
+module _ (word : List ℕ → Bool) (t ss : List ℕ) (bs ms : List Bool) where
+  abbrev itemAt : ℕ → Item
+  itemAt i = record { level = level (recordAt t i); rights = getD ss i 0; shown = getD bs i false; selected = getD ms i false; word = word (label (recordAt t i)) }
 
-  done-walk : (c : Change) (n i : ℕ) → eachFrom (λ k. does c (askedOf word t ss ms k)) i n
+  done-walk : (c : Change) (n i : ℕ) → eachFrom (λ k. does c (askedOf word t ss bs ms k)) i n
       ≡ doneFrom c (nearestFirst (λ k. (level (recordAt t k), getD ms k false)) i) (nearestFirst (λ k. (level (recordAt t k), holds insert (getD ss k 0))) i)
-      (eachFrom (itemAt (shown (stored t ss))) i n)
+      (eachFrom itemAt i n)
   unfolding eachFrom doneFrom nearestFirst
   done-walk c zero i = refl
-  done-walk c (suc n) i = ap (λ r. does c (askedOf word t ss ms i) ∷ r) (done-walk c n (suc i))
+  done-walk c (suc n) i = ap (λ r. does c (askedOf word t ss bs ms i) ∷ r) (done-walk c n (suc i))
 
 -- the records, with the rights, whether each is shown, and the marks
 unfoldable pub items : (List ℕ → Bool) → List (List ℕ) → List ℕ → List Bool → List Bool → List Item
@@ -73,17 +73,16 @@ drop-next : {A : Type 0} (i : ℕ) (xs : List A) → drop 1 (drop i xs) ≡ drop
 drop-next i xs = drop-drop 1 i xs ∙ (let e : i + 1 ≡ suc i = omega arith in rw e)
 
 each-items : (word : List ℕ → Bool) (t ss : List ℕ) (bs ms : List Bool) (n i : ℕ)
-    → eachFrom (itemAt word t ss ms bs) i n ≡ items word (recordsFrom t n i) (drop i ss) (drop i bs) (drop i ms)
+    → eachFrom (itemAt word t ss bs ms) i n ≡ items word (recordsFrom t n i) (drop i ss) (drop i bs) (drop i ms)
 unfolding eachFrom items recordsFrom
 each-items word t ss bs ms zero i = refl
 each-items word t ss bs ms (suc n) i =
     rw (first-of i ss 0, first-of i bs false, first-of i ms false, drop-next i ss, drop-next i bs, drop-next i ms)
-    (ap (λ r. itemAt word t ss ms bs i ∷ r) (each-items word t ss bs ms n (suc i)))
+    (ap (λ r. itemAt word t ss bs ms i ∷ r) (each-items word t ss bs ms n (suc i)))
 
-pub done-items : (c : Change) (word : List ℕ → Bool) (t ss : List ℕ) (ms : List Bool)
-    → doneMarks c word t ss ms ≡ doneFrom c [] [] (items word (records t) ss (shown (stored t ss)) ms)
+pub done-items : (c : Change) (word : List ℕ → Bool) (t ss : List ℕ) (bs ms : List Bool) → doneMarks c word t ss bs ms ≡ doneFrom c [] [] (items word (records t) ss bs ms)
 unfolding nearestFirst
-done-items c word t ss ms = done-walk word t ss ms c (count t) 0 ∙ ap (doneFrom c [] []) (each-items word t ss (shown (stored t ss)) ms (count t) 0)
+done-items c word t ss bs ms = done-walk word t ss bs ms c (count t) 0 ∙ ap (doneFrom c [] []) (each-items word t ss bs ms (count t) 0)
 
 -- By the shown nodes
 

@@ -19,16 +19,15 @@ use Rattle.rights.specs.Table.{count, records, recordsFrom, recordAt, recordOk,
 use Rattle.rights.proofs.Facts.{both}
 use Rattle.rights.proofs.RecordMade.{length-name}
 use Rattle.rights.proofs.XPathLists.{or-right}
-use Rattle.views.specs.Change.{isDone, lower, hasRoom}
-use Rattle.views.specs.Done.{Asked, isRoot, renamable, does, askedOf, doneMarks}
-use Rattle.rights.specs.Marks.{marksOf, eachFrom}
+use Rattle.views.specs.Change.{lower, hasRoom}
+use Rattle.views.specs.Done.{Asked, isRoot, renamable, does, askedOf}
+use Rattle.rights.specs.Marks.{eachFrom}
 use Rattle.views.specs.Nodes.{LabelOk}
 use Rattle.views.specs.How.Pass.{AtDone}
 use Rattle.views.specs.declared.done.Change.{Change}
 use Rattle.views.specs.declared.done.Change.the-variants as change
 use Rattle.views.specs.declared.insert.Place.{Place}
 use Rattle.views.specs.declared.insert.Place.the-variants as place
-use Rattle.rights.proofs.MarkLaws.{marks-bits}
 use Rattle.views.proofs.TableFacts.{facts}
 use Rattle.views.proofs.TableKept.{loosen}
 use Rattle.forms.specs.Form.{treeIn}
@@ -39,7 +38,8 @@ use Rattle.forms.specs.declared.form.Part.{Part}
 use Rattle.lines.specs.PolicyEdit.{subjectNamed, hasBracket, Plain, stepsIn, withSubject, withIsa, withRule, isUnknown, numberIn}
 use Rattle.lines.specs.State.{stageD, stage, policyBytes, policyIn, storeOk}
 use Rattle.lines.specs.Refusal.{Passed}
-use Rattle.lines.specs.UserView.{rightsIn, notPath, selectedIn, doneIn}
+use Rattle.views.specs.Shown.{shown}
+use Rattle.lines.specs.UserView.{rightsIn, storedIn, notPath, selectedIn, doneIn}
 use Rattle.lines.specs.Work.{treeRestricted, rootAlone, changeAt, insertChecks, workSubject, workIsa, workRule, workRoot, workChild, workUser, workRename, workInsert}
 use Rattle.lines.specs.declared.policy_edit.Found.{Found}
 use Rattle.lines.specs.declared.policy_edit.Found.the-variants as found
@@ -118,17 +118,16 @@ first-level t (suc n) e h =
     let f = both (recordOk 0 0 (recordAt t 0)) (recordsOk 1 (level (recordAt t 0) + 1) (recordsFrom t n 1)) e in
     omega (arith, loosen 0 0 (recordAt t 0) (f .0) .1)
 
-first-each : (f : ℕ → Bool) (n : ℕ) → (1 ≤ n → f 0 ≡ false) → isDone (eachFrom f 0 n) ≡ false
+first-each : (f : ℕ → Bool) (n : ℕ) → (1 ≤ n → f 0 ≡ false) → getD (eachFrom f 0 n) 0 false ≡ false
 unfolding eachFrom
 first-each f zero h = refl
 first-each f (suc n) h = h (omega arith)
 
-root-spared : (c : Change) → Spares c → (s t path : List ℕ) → tableOk t ≡ true → isDone (marksOf (doneIn c s t path)) ≡ false
+root-spared : (c : Change) → Spares c → (s t path : List ℕ) → tableOk t ≡ true → getD (doneIn c s t path) 0 false ≡ false
 root-spared c h s t path ok =
-    let f : ℕ → Bool = λ i. does c (askedOf (policyWord (policyIn s)) t (rightsIn s t) (selectedIn s t path) i) in
-    ap isDone (marks-bits (eachFrom f 0 (count t)))
-    ∙ first-each f (count t)
-    (λ k. h (askedOf (policyWord (policyIn s)) t (rightsIn s t) (selectedIn s t path) 0) (eq-eqb (level (recordAt t 0)) 0 (first-level t (count t) (facts t ok .nested) k)))
+    let asked : ℕ → Asked = askedOf (policyWord (policyIn s)) t (rightsIn s t) (shown (storedIn s t)) (selectedIn s t path) in
+    first-each (λ i. does c (asked i)) (count t)
+    (λ k. h (asked 0) (eq-eqb (level (recordAt t 0)) 0 (first-level t (count t) (facts t ok .nested) k)))
 
 -- what a rename or an update does has no policy word as its label
 abbrev pub Frees : Change → Type 0
@@ -145,16 +144,14 @@ rename-frees a e = renamable-free a (both (a .selected) (renamable a) e .1)
 pub update-frees : Frees change.Update
 update-frees a e = renamable-free a (both (a .shown && a .parentSelected) (renamable a) e .1)
 
-each-free : (c : Change) → Frees c → (P : Policy) (t ss : List ℕ) (bs : List Bool) (n i : ℕ)
-    → AtDone (NoWord P) (eachFrom (λ k. does c (askedOf (policyWord P) t ss bs k)) i n) (recordsFrom t n i)
+each-free : (c : Change) → Frees c → (P : Policy) (t ss : List ℕ) (bs ms : List Bool) (n i : ℕ)
+    → AtDone (NoWord P) (eachFrom (λ k. does c (askedOf (policyWord P) t ss bs ms k)) i n) (recordsFrom t n i)
 unfolding eachFrom recordsFrom
-each-free c r P t ss bs zero i = tt
-each-free c r P t ss bs (suc n) i = ((λ d. r (askedOf (policyWord P) t ss bs i) d), each-free c r P t ss bs n (suc i))
+each-free c r P t ss bs ms zero i = tt
+each-free c r P t ss bs ms (suc n) i = ((λ d. r (askedOf (policyWord P) t ss bs ms i) d), each-free c r P t ss bs ms n (suc i))
 
-done-free : (c : Change) → Frees c → (s t path : List ℕ) → AtDone (NoWord (policyIn s)) (marksOf (doneIn c s t path)) (records t)
-done-free c r s t path =
-    rw (marks-bits (doneMarks c (policyWord (policyIn s)) t (rightsIn s t) (selectedIn s t path)))
-    (each-free c r (policyIn s) t (rightsIn s t) (selectedIn s t path) (count t) 0)
+done-free : (c : Change) → Frees c → (s t path : List ℕ) → AtDone (NoWord (policyIn s)) (doneIn c s t path) (records t)
+done-free c r s t path = each-free c r (policyIn s) t (rightsIn s t) (shown (storedIn s t)) (selectedIn s t path) (count t) 0
 
 -- Each form
 
@@ -218,8 +215,8 @@ module _ (s t : List ℕ) (ok : storeOk s t ≡ true) where
   root-sound l i g p = record { early = before-root (stage s) i; label = label-ok l g (p .0); has-room = p .1 .0 }
 
   -- an insertion into the stage g
-  inserted : (line : List ℕ) (at : Place) (ms : List ℕ) (m g : ℕ) → 2 ≤ stage s → 2 ≤ g → g ≤ 4 → eqb g 4 ≡ eqb (stage s) 4 → TreePart line m
-      → (lower at ≡ 0 → getD (marksOf ms) 0 false ≡ false) → treeRestricted m (recordsOf (treeIn line)) ≡ false
+  inserted : (line : List ℕ) (at : Place) (ms : List Bool) (m g : ℕ) → 2 ≤ stage s → 2 ≤ g → g ≤ 4 → eqb g 4 ≡ eqb (stage s) 4 → TreePart line m
+      → (lower at ≡ 0 → getD ms 0 false ≡ false) → treeRestricted m (recordsOf (treeIn line)) ≡ false
       → Passed (insertChecks at ms m (recordsOf (treeIn line)) t) → InsertSound s t at ms m (recordsOf (treeIn line)) g
   inserted line at ms m g l k n e w q r p = record {
     rooted = l;

@@ -2,13 +2,13 @@
 -- the table. Assumes nothing.
 use Prim.Native.Nat.{ℕ, zero, suc, _≤_, _<_}
 use mathlib.Core.Logic.{_⊎_, inl, inr}
+use mathlib.Core.Bool.{Bool}
 use mathlib.Core.Path.{_≡_, refl, sym, ap, _∙_}
 use mathlib.Core.List.{List, [], _∷_, map, Sublistᴰ, Sublistᴰ·slnil, Sublistᴰ·cons, Sublistᴰ·cons-cons, Sublistᴰ·refl, Sublistᴰ·trans, Sublistᴰ·nil-sublist}
 use mathlib.Core.Option.{Option, none, some}
 use native.Mathlib.Omega.{arith}
 use Rattle.rights.specs.Table.{records, level}
 use Rattle.views.specs.Change.{chunks, raise, relabel, placed, removed, renamed}
-use Rattle.rights.specs.Marks.{marksOf}
 use Rattle.views.specs.Nodes.{All, tags}
 use Rattle.views.specs.declared.done.Change.the-variants as change
 use Rattle.views.specs.declared.insert.Place.{Place}
@@ -42,23 +42,23 @@ records-new : (rs : List (List ℕ)) → map (λ n. n .0) (new rs) ≡ rs
 records-new [] = refl
 records-new (r ∷ rs) = ap (λ l. r ∷ l) (records-new rs)
 
-pub records-remove : (ms : List ℕ) (ns : List Tagged) → map (λ n. n .0) (afterRemove ms ns) ≡ removed ms (map (λ n. n .0) ns)
-records-remove ms ns = map-remove taggedLevel level (λ n. n .0) (λ n. refl) (marksOf ms) ns
+pub records-remove : (ms : List Bool) (ns : List Tagged) → map (λ n. n .0) (afterRemove ms ns) ≡ removed ms (map (λ n. n .0) ns)
+records-remove ms ns = map-remove taggedLevel level (λ n. n .0) (λ n. refl) ms ns
 
-pub records-rename : (l ms : List ℕ) (ns : List Tagged) → map (λ n. n .0) (afterRename l ms ns) ≡ renamed l ms (map (λ n. n .0) ns)
-records-rename l ms ns = map-rename taggedLevel level (λ n. n .0) (λ n. refl) (λ n. (relabel l (n .0), n .1)) (relabel l) (λ n. refl) (marksOf ms) ns
+pub records-rename : (l : List ℕ) (ms : List Bool) (ns : List Tagged) → map (λ n. n .0) (afterRename l ms ns) ≡ renamed l ms (map (λ n. n .0) ns)
+records-rename l ms ns = map-rename taggedLevel level (λ n. n .0) (λ n. refl) (λ n. (relabel l (n .0), n .1)) (relabel l) (λ n. refl) ms ns
 
-pub records-insert : (at : Place) (m : ℕ) (tree ms : List ℕ) (ns : List Tagged)
+pub records-insert : (at : Place) (m : ℕ) (tree : List ℕ) (ms : List Bool) (ns : List Tagged)
     → map (λ n. n .0) (afterInsert at m tree ms ns) ≡ placed at m tree ms (map (λ n. n .0) ns)
 records-insert place.Append m tree ms ns =
     map-insertBehind taggedLevel level (λ n. n .0) (λ n. refl) (λ n. newTree m tree (suc (taggedLevel n))) (λ r. raise (suc (level r)) (chunks m tree))
-    (λ n. records-new (raise (suc (taggedLevel n)) (chunks m tree))) (marksOf ms) ns
+    (λ n. records-new (raise (suc (taggedLevel n)) (chunks m tree))) ms ns
 records-insert place.After m tree ms ns =
     map-insertBehind taggedLevel level (λ n. n .0) (λ n. refl) (λ n. newTree m tree (taggedLevel n)) (λ r. raise (level r) (chunks m tree))
-    (λ n. records-new (raise (taggedLevel n) (chunks m tree))) (marksOf ms) ns
+    (λ n. records-new (raise (taggedLevel n) (chunks m tree))) ms ns
 records-insert place.Before m tree ms ns =
     map-insertInFront taggedLevel level (λ n. n .0) (λ n. refl) (λ n. newTree m tree (taggedLevel n)) (λ r. raise (level r) (chunks m tree))
-    (λ n. records-new (raise (taggedLevel n) (chunks m tree))) (marksOf ms) ns
+    (λ n. records-new (raise (taggedLevel n) (chunks m tree))) ms ns
 
 -- the nodes after an effect are the records after it
 records-after : (e : Effect) (ns : List Tagged) → map (λ n. n .0) (afterEffect e ns) ≡ recordsAfter e (map (λ n. n .0) ns)
@@ -102,16 +102,16 @@ none-new [] = refl
 none-new (r ∷ rs) = none-new rs
 
 -- an insertion and a renaming keep every node, in order
-pub tags-insert : (at : Place) (m : ℕ) (tree ms : List ℕ) (ns : List Tagged) → tags tagOf (afterInsert at m tree ms ns) ≡ tags tagOf ns
+pub tags-insert : (at : Place) (m : ℕ) (tree : List ℕ) (ms : List Bool) (ns : List Tagged) → tags tagOf (afterInsert at m tree ms ns) ≡ tags tagOf ns
 tags-insert place.Append m tree ms ns =
-    tags-insertBehind taggedLevel tagOf (λ n. newTree m tree (suc (taggedLevel n))) (λ n. none-new (raise (suc (taggedLevel n)) (chunks m tree))) (marksOf ms) ns
+    tags-insertBehind taggedLevel tagOf (λ n. newTree m tree (suc (taggedLevel n))) (λ n. none-new (raise (suc (taggedLevel n)) (chunks m tree))) ms ns
 tags-insert place.After m tree ms ns =
-    tags-insertBehind taggedLevel tagOf (λ n. newTree m tree (taggedLevel n)) (λ n. none-new (raise (taggedLevel n) (chunks m tree))) (marksOf ms) ns
+    tags-insertBehind taggedLevel tagOf (λ n. newTree m tree (taggedLevel n)) (λ n. none-new (raise (taggedLevel n) (chunks m tree))) ms ns
 tags-insert place.Before m tree ms ns =
-    tags-insertInFront taggedLevel tagOf (λ n. newTree m tree (taggedLevel n)) (λ n. none-new (raise (taggedLevel n) (chunks m tree))) (marksOf ms) ns
+    tags-insertInFront taggedLevel tagOf (λ n. newTree m tree (taggedLevel n)) (λ n. none-new (raise (taggedLevel n) (chunks m tree))) ms ns
 
-pub tags-relabel : (l ms : List ℕ) (ns : List Tagged) → tags tagOf (afterRename l ms ns) ≡ tags tagOf ns
-tags-relabel l ms ns = tags-rename taggedLevel tagOf (λ n. (relabel l (n .0), n .1)) (λ n. refl) (marksOf ms) ns
+pub tags-relabel : (l : List ℕ) (ms : List Bool) (ns : List Tagged) → tags tagOf (afterRename l ms ns) ≡ tags tagOf ns
+tags-relabel l ms ns = tags-rename taggedLevel tagOf (λ n. (relabel l (n .0), n .1)) (λ n. refl) ms ns
 
 same : {a b : List ℕ} → a ≡ b → Sublistᴰ a b
 same {b = b} e = rw e (Sublistᴰ·refl b)
@@ -121,7 +121,7 @@ tags-effect (policy p g) ns = Sublistᴰ·refl _
 tags-effect (root l) ns = rw (none-new (nodeRecord 0 l ∷ [])) (Sublistᴰ·nil-sublist _)
 tags-effect (insertion at ms m tree g) ns = same (tags-insert at m tree ms ns)
 tags-effect (renaming l ms) ns = same (tags-relabel l ms ns)
-tags-effect (removal ms) ns = tags-remove taggedLevel tagOf (marksOf ms) ns
+tags-effect (removal ms) ns = tags-remove taggedLevel tagOf ms ns
 tags-effect (login u) ns = Sublistᴰ·refl _
 tags-effect reading ns = Sublistᴰ·refl _
 
@@ -165,7 +165,7 @@ unfolding follow
 nodes-removed choice s t i ns p text e q =
     rw q
     (ap (λ (f : Form). afterEffect (workOf choice f s t (i .line) (recordsOf (treeIn (i .line))) .effect) ns) e
-    ∙ remove-only taggedLevel (marksOf (doneIn change.Remove s t (bytesOf (i .line) p))) ns)
+    ∙ remove-only taggedLevel (doneIn change.Remove s t (bytesOf (i .line) p)) ns)
 
 -- Numbers as tags
 

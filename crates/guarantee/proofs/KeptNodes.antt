@@ -11,8 +11,7 @@ use Rattle.rights.specs.Policy.{Policy, policyWord}
 use Rattle.rights.specs.Rights.{rightsBy, chains}
 use Rattle.rights.specs.Table.{records, level, label, tableOk}
 use Rattle.views.proofs.Relabelled.{level-relabel, label-relabel}
-use Rattle.views.specs.Change.{later, insertBehind, chunks, raise, relabel}
-use Rattle.rights.specs.Marks.{marksOf}
+use Rattle.views.specs.Change.{insertBehind, chunks, raise, relabel}
 use Rattle.views.specs.Nodes.{Nested, put, tags}
 use Rattle.views.specs.How.Pass.{Above, Front, AtDone}
 use Rattle.views.specs.declared.insert.Place.{Place}
@@ -71,28 +70,28 @@ module _ (P : Policy) (u : ℕ) (declared : u < length (P .names)) where
   none-new c (r ∷ rs) = none-new (chain taggedLevel keyed c (r, none)) rs
 
   -- a removal leaves the rights on the nodes that stay
-  pub kept-remove : (ms : List ℕ) (ns : List Tagged) → Nested taggedLevel 0 ns → Sublistᴰ (keptRights P u (afterRemove ms ns)) (keptRights P u ns)
+  pub kept-remove : (ms : List Bool) (ns : List Tagged) → Nested taggedLevel 0 ns → Sublistᴰ (keptRights P u (afterRemove ms ns)) (keptRights P u ns)
   kept-remove ms ns w =
       part-at
-      (kept-cells (afterRemove ms ns) ∙ ap (tags held) (cells-remove taggedLevel keyed [] (marksOf ms) ns w))
+      (kept-cells (afterRemove ms ns) ∙ ap (tags held) (cells-remove taggedLevel keyed [] ms ns w))
       (kept-cells ns)
-      (tags-remove (cellLevel taggedLevel keyed) held (marksOf ms) (cells taggedLevel keyed [] ns))
+      (tags-remove (cellLevel taggedLevel keyed) held ms (cells taggedLevel keyed [] ns))
 
   -- a tree behind each marked node and all below it, its root at the level `base` of the node's
-  kept-behind : (base : ℕ → ℕ) → ((l : ℕ) → l ≤ base l) → ((l : ℕ) → base l ≤ suc l) → (m : ℕ) (tree ms : List ℕ) (ns : List Tagged)
+  kept-behind : (base : ℕ → ℕ) → ((l : ℕ) → l ≤ base l) → ((l : ℕ) → base l ≤ suc l) → (m : ℕ) (tree : List ℕ) (ms : List Bool) (ns : List Tagged)
       → Nested level 0 (chunks m tree) → Nested taggedLevel 0 ns
-      → keptRights P u (insertBehind taggedLevel (λ n. newTree m tree (base (taggedLevel n))) (marksOf ms) ns) ≡ keptRights P u ns
+      → keptRights P u (insertBehind taggedLevel (λ n. newTree m tree (base (taggedLevel n))) ms ns) ≡ keptRights P u ns
   kept-behind base lo hi m tree ms ns k w =
-      kept-cells (insertBehind taggedLevel (λ n. newTree m tree (base (taggedLevel n))) (marksOf ms) ns)
+      kept-cells (insertBehind taggedLevel (λ n. newTree m tree (base (taggedLevel n))) ms ns)
       ∙ ap (tags held)
       (cells-insertBehind taggedLevel keyed (λ n. newTree m tree (base (taggedLevel n))) (λ n. base (taggedLevel n)) (λ n. lo (taggedLevel n)) (λ n. hi (taggedLevel n))
-      (λ n. above-new (base (taggedLevel n)) (chunks m tree)) (λ n. front-new (base (taggedLevel n)) (chunks m tree) k) [] (marksOf ms) ns w)
+      (λ n. above-new (base (taggedLevel n)) (chunks m tree)) (λ n. front-new (base (taggedLevel n)) (chunks m tree) k) [] ms ns w)
       ∙ tags-insertBehind (cellLevel taggedLevel keyed) held (λ p. cells taggedLevel keyed (p .1) (newTree m tree (base (taggedLevel (p .0)))))
-      (λ p. none-new (p .1) (raise (base (taggedLevel (p .0))) (chunks m tree))) (marksOf ms) (cells taggedLevel keyed [] ns)
+      (λ p. none-new (p .1) (raise (base (taggedLevel (p .0))) (chunks m tree))) ms (cells taggedLevel keyed [] ns)
       ∙ sym (kept-cells ns)
 
   -- an insertion leaves all rights; the inserted nodes are new
-  pub kept-insert : (at : Place) (m : ℕ) (tree ms : List ℕ) (ns : List Tagged) → Nested level 0 (chunks m tree) → Nested taggedLevel 0 ns
+  pub kept-insert : (at : Place) (m : ℕ) (tree : List ℕ) (ms : List Bool) (ns : List Tagged) → Nested level 0 (chunks m tree) → Nested taggedLevel 0 ns
       → keptRights P u (afterInsert at m tree ms ns) ≡ keptRights P u ns
   kept-insert place.Append = kept-behind suc (λ l. omega arith) (λ l. omega arith)
   kept-insert place.After = kept-behind (λ l. l) (λ l. omega arith) (λ l. omega arith)
@@ -100,9 +99,9 @@ module _ (P : Policy) (u : ℕ) (declared : u < length (P .names)) where
       kept-cells (afterInsert place.Before m tree ms ns)
       ∙ ap (tags held)
       (cells-insertInFront taggedLevel keyed (λ n. newTree m tree (taggedLevel n))
-      (λ n. above-new (taggedLevel n) (chunks m tree)) (λ n. front-new (taggedLevel n) (chunks m tree) k) [] (marksOf ms) ns w)
+      (λ n. above-new (taggedLevel n) (chunks m tree)) (λ n. front-new (taggedLevel n) (chunks m tree) k) [] ms ns w)
       ∙ tags-insertInFront (cellLevel taggedLevel keyed) held (λ p. cells taggedLevel keyed (p .1) (newTree m tree (taggedLevel (p .0))))
-      (λ p. none-new (p .1) (raise (taggedLevel (p .0)) (chunks m tree))) (marksOf ms) (cells taggedLevel keyed [] ns)
+      (λ p. none-new (p .1) (raise (taggedLevel (p .0)) (chunks m tree))) ms (cells taggedLevel keyed [] ns)
       ∙ sym (kept-cells ns)
 
   keeps : (l : List ℕ) → policyWord P l ≡ false → (n : Tagged) → NoWord P (n .0) → Keeps taggedLevel keyed (λ x. (relabel l (x .0), x .1)) n
@@ -114,12 +113,12 @@ module _ (P : Policy) (u : ℕ) (declared : u < length (P .names)) where
   keeps-done l e bs (n ∷ ns) a = ((λ d. keeps l e n (a .0 d)), keeps-done l e (later bs) ns (a .1))
 
   -- a renaming leaves all rights: neither the old label nor the new one is a policy word
-  pub kept-rename : (l ms : List ℕ) (ns : List Tagged) → policyWord P l ≡ false → AtDone (λ n. NoWord P (n .0)) (marksOf ms) ns
+  pub kept-rename : (l : List ℕ) (ms : List Bool) (ns : List Tagged) → policyWord P l ≡ false → AtDone (λ n. NoWord P (n .0)) ms ns
       → keptRights P u (afterRename l ms ns) ≡ keptRights P u ns
   kept-rename l ms ns e a =
       kept-cells (afterRename l ms ns)
-      ∙ ap (tags held) (cells-rename taggedLevel keyed (λ x. (relabel l (x .0), x .1)) [] (marksOf ms) ns (keeps-done l e (marksOf ms) ns a))
-      ∙ tags-rename (cellLevel taggedLevel keyed) held (λ p. ((relabel l (p .0 .0), p .0 .1), p .1)) (λ p. same (p .0 .0) (p .0 .1) (p .1)) (marksOf ms) (cells taggedLevel keyed [] ns)
+      ∙ ap (tags held) (cells-rename taggedLevel keyed (λ x. (relabel l (x .0), x .1)) [] ms ns (keeps-done l e ms ns a))
+      ∙ tags-rename (cellLevel taggedLevel keyed) held (λ p. ((relabel l (p .0 .0), p .0 .1), p .1)) (λ p. same (p .0 .0) (p .0 .1) (p .1)) ms (cells taggedLevel keyed [] ns)
       ∙ sym (kept-cells ns)
     where
       same : (r : List ℕ) (o : Option ℕ) (k : List Key) → held ((relabel l r, o), k) ≡ held ((r, o), k)
@@ -139,6 +138,6 @@ done-tagged : (Q : List ℕ → Type 0) (bs : List Bool) (ns : List Tagged) → 
 done-tagged Q bs [] a = tt
 done-tagged Q bs (n ∷ ns) a = (a .0, done-tagged Q (later bs) ns (a .1))
 
-pub nodes-free : (P : Policy) (t ms : List ℕ) (ns : List Tagged) → map (λ n. n .0) ns ≡ records t → AtDone (NoWord P) (marksOf ms) (records t)
-    → AtDone (λ n. NoWord P (n .0)) (marksOf ms) ns
-nodes-free P t ms ns e a = done-tagged (NoWord P) (marksOf ms) ns (rw e a)
+pub nodes-free : (P : Policy) (t : List ℕ) (ms : List Bool) (ns : List Tagged) → map (λ n. n .0) ns ≡ records t → AtDone (NoWord P) ms (records t)
+    → AtDone (λ n. NoWord P (n .0)) ms ns
+nodes-free P t ms ns e a = done-tagged (NoWord P) ms ns (rw e a)

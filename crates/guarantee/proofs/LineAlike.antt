@@ -12,7 +12,6 @@ use Rattle.rights.specs.Policy.{Policy, policyWord}
 use Rattle.rights.specs.PolicyBytes.{policyOf, subjectCount}
 use Rattle.rights.specs.Table.{records, label, tableOk}
 use Rattle.views.specs.Change.{tooDeep}
-use Rattle.rights.specs.Marks.{marksOf}
 use Rattle.views.specs.How.Pass.{AtDone}
 use Rattle.views.specs.declared.done.Change.{Change}
 use Rattle.views.specs.declared.insert.Place.{Place}
@@ -72,7 +71,7 @@ alike-both (c ∷ cs) (c' ∷ cs') ds ds' a b = (a .0, alike-both cs cs' ds ds' 
 
 -- Effects that differ in their marks alone, and mark the same shown nodes
 
-pub record SameMarks (P : Policy) (u : ℕ) (t t' ms ms' : List ℕ) : Type 0 where
+pub record SameMarks (P : Policy) (u : ℕ) (t t' : List ℕ) (ms ms' : List Bool) : Type 0 where
   pub shown : List PublicRecord → List Bool
   pub here : Marked P u shown ms t
   pub there : Marked P u shown ms' t'
@@ -80,10 +79,10 @@ pub record SameMarks (P : Policy) (u : ℕ) (t t' ms ms' : List ℕ) : Type 0 wh
 pub data EffectAlike (P : Policy) (u : ℕ) (t t' : List ℕ) : Effect → Effect → Type 0 where
   readings : EffectAlike P u t t' reading reading
   logins : (v : ℕ) → EffectAlike P u t t' (login v) (login v)
-  insertions : (at : Place) (m : ℕ) (tree : List ℕ) (g g' : ℕ) (ms ms' : List ℕ) → SameMarks P u t t' ms ms'
+  insertions : (at : Place) (m : ℕ) (tree : List ℕ) (g g' : ℕ) (ms ms' : List Bool) → SameMarks P u t t' ms ms'
       → EffectAlike P u t t' (insertion at ms m tree g) (insertion at ms' m tree g')
-  renamings : (l ms ms' : List ℕ) → SameMarks P u t t' ms ms' → EffectAlike P u t t' (renaming l ms) (renaming l ms')
-  removals : (ms ms' : List ℕ) → SameMarks P u t t' ms ms' → EffectAlike P u t t' (removal ms) (removal ms')
+  renamings : (l : List ℕ) (ms ms' : List Bool) → SameMarks P u t t' ms ms' → EffectAlike P u t t' (renaming l ms) (renaming l ms')
+  removals : (ms ms' : List Bool) → SameMarks P u t t' ms ms' → EffectAlike P u t t' (removal ms) (removal ms')
 
 pub record WorkAlike (P : Policy) (u : ℕ) (t t' : List ℕ) (w w' : Work) : Type 0 where
   pub checks : ChecksAlike (w .checks) (w' .checks)
@@ -151,7 +150,7 @@ module _ (u : ℕ) (s t s' t' : List ℕ) (h : Tied u s t s' t') where
       ∙ ap (λ ps. countLow P u c path ps) (h .low)
       ∙ sym (text-in P u declared s' t' (h .policy) ok' (h .user') c path)
 
-  pub deep-both : (k : ℕ) (c : Change) (path : List ℕ) → tooDeep k (marksOf (doneIn c s t path)) (records t) ≡ tooDeep k (marksOf (doneIn c s' t' path)) (records t')
+  pub deep-both : (k : ℕ) (c : Change) (path : List ℕ) → tooDeep k (doneIn c s t path) (records t) ≡ tooDeep k (doneIn c s' t' path) (records t')
   deep-both k c path =
       deep-in P u declared s t (same-self P) ok (h .user) k c path
       ∙ ap (λ ps. deepLow k (doneBy P u c path ps) ps) (h .low)
@@ -159,10 +158,10 @@ module _ (u : ℕ) (s t s' t' : List ℕ) (h : Tied u s t s' t') where
 
   pub done-both : (c : Change) (path : List ℕ) → SameMarks P u t t' (doneIn c s t path) (doneIn c s' t' path)
   done-both c path = record {
-    shown = doneLow P u c (marksOf (selectLow P u path (lowOf P u (records t))));
+    shown = doneLow P u c (selectLow P u path (lowOf P u (records t)));
     here = done-in P u declared s t (same-self P) ok (h .user) c path;
     there =
-        subst (λ ps. Marked P u (doneLow P u c (marksOf (selectLow P u path ps))) (doneIn c s' t' path) t') (sym (h .low))
+        subst (λ ps. Marked P u (doneLow P u c (selectLow P u path ps)) (doneIn c s' t' path) t') (sym (h .low))
         (done-in P u declared s' t' (h .policy) ok' (h .user') c path);
   }
 
@@ -184,7 +183,7 @@ module _ (u : ℕ) (s t s' t' : List ℕ) (h : Tied u s t s' t') where
           let q : policyWord P ≡ policyWord (policyIn s') = same-word P (policyIn s') (h .policy) in
           renamed-low P u t ok (w .shown) ms (w .here) l (x .no-word) (x .no-words)
           ∙ ap (renameLow P u l (w .shown)) (h .low)
-          ∙ sym (renamed-low P u t' ok' (w .shown) ms' (w .there) l (x .no-word) (subst (λ word. AtDone (λ r. word (label r) ≡ false) (marksOf ms') (records t')) (sym q) (x' .no-words)))
+          ∙ sym (renamed-low P u t' ok' (w .shown) ms' (w .there) l (x .no-word) (subst (λ word. AtDone (λ r. word (label r) ≡ false) ms' (records t')) (sym q) (x' .no-words)))
       by (removals ms ms' w) x x' =
           removed-low P u t ok (w .shown) ms (w .here)
           ∙ ap (removeLow P u (w .shown)) (h .low)

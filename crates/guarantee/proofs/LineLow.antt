@@ -6,7 +6,7 @@ use mathlib.Core.Bool.{Bool, true, false, cond, _&&_, _||_}
 use mathlib.Core.List.{List, [], _∷_, append-nil}
 use native.Mathlib.Omega.{arith}
 use lib.Dec.{ltb}
-use lib.ListN.{length, drop}
+use lib.ListN.{getD, length, drop}
 use Rattle.rights.specs.Labels.{restricted}
 use Rattle.rights.specs.Policy.{Policy, read, policyWord}
 use Rattle.rights.specs.Isa.{passesOwn}
@@ -18,15 +18,13 @@ use Rattle.views.proofs.Relabelled.{level-relabel, label-relabel}
 use Rattle.views.specs.Change.{remove, insertBehind, insertInFront, rename, chunks, raise, relabel}
 use Rattle.views.specs.Change.{placed, removed, renamed, tooDeep}
 use Rattle.views.specs.Done.{doneMarks, inTable}
-use Rattle.rights.specs.Marks.{marksOf, markCount, marked}
+use Rattle.rights.specs.Marks.{markCount}
 use Rattle.views.specs.Nodes.{Nested}
 use Rattle.views.specs.How.Pass.{Front, AtDone}
 use Rattle.views.specs.Shown.{isShownAt, stored, shown, view}
 use Rattle.views.specs.declared.done.Change.{Change}
 use Rattle.views.specs.declared.insert.Place.{Place}
 use Rattle.views.specs.declared.insert.Place.the-variants as place
-use Rattle.views.proofs.DoneLaws.{marked-bits, done-length}
-use Rattle.rights.proofs.MarkLaws.{marks-bits}
 use Rattle.views.proofs.NestedLaws.{done-from}
 use Rattle.views.proofs.RecordBytes.{above-raise}
 use Rattle.answers.specs.Answer.{doneText}
@@ -86,25 +84,25 @@ module _ {E : Type 0} (lev : E → ℕ) (g : E → Bool) (set : E → ℕ) (word
 -- refusal 10 on the shown nodes
 unfoldable pub deepLow : {K W : Type 0} → ℕ → List Bool → List (Public K W) → Bool
 deepLow k ds [] = false
-deepLow k ds (p ∷ ps) = (isDone ds && ltb 11 (p .level + k)) || deepLow k (later ds) ps
+deepLow k ds (p ∷ ps) = (getD ds 0 false && ltb 11 (p .level + k)) || deepLow k (drop 1 ds) ps
 
 module _ (P : Policy) (u : ℕ) where
   -- What a line asks of a low projection
 
   -- the marks of what a path selects
-  abbrev pub selectLow : List ℕ → List PublicRecord → List ℕ
+  abbrev pub selectLow : List ℕ → List PublicRecord → List Bool
   selectLow path ps = xpathSelection path (passesOwn P u) (nodesOf ps)
 
   -- of the shown nodes that a change does, after a selection
   abbrev pub doneBy : Change → List ℕ → List PublicRecord → List Bool
-  doneBy c path ps = doneLow P u c (marksOf (selectLow path ps)) ps
+  doneBy c path ps = doneLow P u c (selectLow path ps) ps
 
   abbrev pub countLow : Change → List ℕ → List PublicRecord → List ℕ
-  countLow c path ps = doneText (markCount (marksOf (selectLow path ps))) (markCount (doneBy c path ps))
+  countLow c path ps = doneText (markCount (selectLow path ps)) (markCount (doneBy c path ps))
 
   -- ds marks the shown nodes, ms those of the table
-  abbrev pub Marked : (List PublicRecord → List Bool) → List ℕ → List ℕ → Type 0
-  Marked ds ms t = marksOf ms ≡ marks level (keyIn P u) (labelBy P u) (grantBy P u) ds (records t)
+  abbrev pub Marked : (List PublicRecord → List Bool) → List Bool → List ℕ → Type 0
+  Marked ds ms t = ms ≡ marks level (keyIn P u) (labelBy P u) (grantBy P u) ds (records t)
 
   -- the shown part of a tree with its root at level l, below or beside a node with this chain
   abbrev pub treeLow : ℕ → List ℕ → ℕ → List Key → List PublicRecord
@@ -118,7 +116,7 @@ module _ (P : Policy) (u : ℕ) where
   deep-spread k b c ds (r ∷ rs) =
       let h = chain level (keyIn P u) c r in
       byCase (isShownAt publicLevel (publicGrant (grantBy P u)) b (publicOf level (keyIn P u) (labelBy P u) (grantBy P u) (r, h)))
-      (λ v. rw v (ap (λ z. (isDone ds && ltb 11 (level r + k)) || z) (deep-spread k (suc (level r)) h (later ds) rs)))
+      (λ v. rw v (ap (λ z. (getD ds 0 false && ltb 11 (level r + k)) || z) (deep-spread k (suc (level r)) h (drop 1 ds) rs)))
       (λ v. rw v (deep-spread k (min b (level r)) h ds rs))
 
   module _ (declared : u < length (P .names)) (s t : List ℕ) (same : SamePolicy P (policyIn s)) (ok : tableOk t ≡ true) (user : UserIs u s) where
@@ -143,37 +141,27 @@ module _ (P : Policy) (u : ℕ) where
     pub marks-in : (path : List ℕ) → marksIn s t path ≡ selectLow path (lowOf P u (records t))
     marks-in path = ap₂ (xpathSelection path) own-in view-in
 
-    abbrev doneRecords : Change → List ℕ → List Bool
-    doneRecords c path = doneMarks c (policyWord (policyIn s)) t (rightsIn s t) (selectedIn s t path)
-
-    done-records : (c : Change) (path : List ℕ)
-        → doneRecords c path
-        ≡ marks level (keyIn P u) (labelBy P u) (grantBy P u) (doneLow P u c (marksOf (selectLow path (lowOf P u (records t))))) (records t)
-    done-records c path =
-        (λ i. doneMarks c (word-in i) t (rights-in i) (inTable (shown (stored t (rights-in i))) (marksOf (marks-in path i))))
-        ∙ done-low P u declared c (marksOf (selectLow path (lowOf P u (records t)))) t nested
-
     pub done-in : (c : Change) (path : List ℕ)
-        → Marked (doneLow P u c (marksOf (selectLow path (lowOf P u (records t))))) (doneIn c s t path) t
-    done-in c path = marks-bits (doneRecords c path) ∙ done-records c path
+        → Marked (doneLow P u c (selectLow path (lowOf P u (records t)))) (doneIn c s t path) t
+    done-in c path =
+        (λ i. doneMarks c (word-in i) t (rights-in i) (shown (stored t (rights-in i))) (inTable (shown (stored t (rights-in i))) (marks-in path i)))
+        ∙ done-low P u declared c (selectLow path (lowOf P u (records t))) t nested
 
-    count-in : (c : Change) (path : List ℕ) → marked (count t) (doneIn c s t path) ≡ markCount (doneBy c path (lowOf P u (records t)))
+    count-in : (c : Change) (path : List ℕ) → markCount (doneIn c s t path) ≡ markCount (doneBy c path (lowOf P u (records t)))
     unfolding marks lowBelow
     count-in c path =
-        ap (marked (count t)) (sym (append-nil (doneIn c s t path)))
-        ∙ marked-bits (doneRecords c path) [] (count t) (done-length c (policyWord (policyIn s)) t (rightsIn s t) (selectedIn s t path))
-        ∙ ap markCount (done-records c path)
+        ap markCount (done-in c path)
         ∙ count-spread publicLevel (publicGrant (grantBy P u)) (publicSet P u) publicWord 0 (doneBy c path (lowOf P u (records t)))
         (publics level (keyIn P u) (labelBy P u) (grantBy P u) [] (records t))
-        (length-done publicLevel (publicGrant (grantBy P u)) (publicSet P u) publicWord c (marksOf (selectLow path (lowOf P u (records t)))) (lowOf P u (records t)))
+        (length-done publicLevel (publicGrant (grantBy P u)) (publicSet P u) publicWord c (selectLow path (lowOf P u (records t))) (lowOf P u (records t)))
 
     -- "The answer is `(done S D)`": both counts
     pub text-in : (c : Change) (path : List ℕ) → countText c s t path ≡ countLow c path (lowOf P u (records t))
-    text-in c path = λ i. doneText (markCount (marksOf (marks-in path i))) (count-in c path i)
+    text-in c path = λ i. doneText (markCount (marks-in path i)) (count-in c path i)
 
     -- "10 .. a level above 11 .. at a place that would be done"
     pub deep-in : (k : ℕ) (c : Change) (path : List ℕ)
-        → tooDeep k (marksOf (doneIn c s t path)) (records t) ≡ deepLow k (doneBy c path (lowOf P u (records t))) (lowOf P u (records t))
+        → tooDeep k (doneIn c s t path) (records t) ≡ deepLow k (doneBy c path (lowOf P u (records t))) (lowOf P u (records t))
     unfolding marks lowBelow
     deep-in k c path = ap (λ ms. tooDeep k ms (records t)) (done-in c path) ∙ deep-spread k 0 [] (doneBy c path (lowOf P u (records t))) (records t)
 
@@ -199,13 +187,13 @@ module _ (P : Policy) (u : ℕ) where
     (λ c. let z = label-relabel l r in rw z),
   )
 
-  module _ (t : List ℕ) (ok : tableOk t ≡ true) (ds : List PublicRecord → List Bool) (ms : List ℕ) (e : Marked ds ms t) where
+  module _ (t : List ℕ) (ok : tableOk t ≡ true) (ds : List PublicRecord → List Bool) (ms : List Bool) (e : Marked ds ms t) where
     pub removed-low : lowOf P u (removed ms (records t)) ≡ removeLow ds (lowOf P u (records t))
     removed-low =
         ap (λ bs. lowOf P u (remove level bs (records t))) e
         ∙ low-remove level (keyIn P u) (labelBy P u) (grantBy P u) ds (records t) (table-nested t ok)
 
-    pub renamed-low : (l : List ℕ) → policyWord P l ≡ false → AtDone (NoWord P) (marksOf ms) (records t)
+    pub renamed-low : (l : List ℕ) → policyWord P l ≡ false → AtDone (NoWord P) ms (records t)
         → lowOf P u (renamed l ms (records t)) ≡ renameLow l ds (lowOf P u (records t))
     renamed-low l q free =
         let bs = marks level (keyIn P u) (labelBy P u) (grantBy P u) ds (records t) in

@@ -26,7 +26,7 @@ use Rattle.views.proofs.ShownDepth.{shown-by-depth}
 use Rattle.guarantee.specs.Alike.{NoWordDiffers, Behind}
 use Rattle.guarantee.proofs.Keys.{Key, keyOf, rightsByKeys, rights-by-keys}
 use Rattle.guarantee.proofs.Chains.{Cell, cellLevel, chain, cells}
-use Rattle.guarantee.proofs.Scan.{nested-steps, first-mark, later-marks}
+use Rattle.guarantee.proofs.Scan.{nested-steps}
 use Rattle.guarantee.proofs.Low.{Public, publicLevel, publicGrant, cellGrant, publicOf, publics, lowBelow, low}
 use Rattle.guarantee.proofs.Low.{marks, shownCells, low-shown, shown-cells, look, KeysBehind, low-alike, alike-low}
 use Rattle.guarantee.proofs.DoneSeen.{Item, doneFrom, items, done-items, allItems, doneSeen, done-seen}
@@ -263,7 +263,7 @@ module _ (P : Policy) (u : ℕ) where
         (record { level = level r; rights = rightsByKeys P u h; shown = false; selected = false; word = isWord (keyIn r) } ∷ publicItems (min d (level r)) ms ps)
     unfolding items inTable
     items-more true d ms h r rs ss ps ih =
-        rw (first-mark ms, later-marks ms, add-one (level r))
+        rw (add-one (level r))
         (ap₂ _∷_ (λ i. record { level = level r; rights = rightsByKeys P u h; shown = true; selected = getD ms 0 false; word = key-word P (label r) i }) (ih (suc (level r)) (drop 1 ms)))
     items-more false d ms h r rs ss ps ih =
         ap₂ _∷_ (λ i. record { level = level r; rights = rightsByKeys P u h; shown = false; selected = false; word = key-word P (label r) i }) (ih (min d (level r)) ms)
@@ -295,11 +295,11 @@ module _ (P : Policy) (u : ℕ) where
 
     -- The marks of the records that a change does are taken from the low projection alone.
     pub done-low : (c : Change) (ms : List Bool) (t : List ℕ) → Nested level 0 (records t)
-        → doneMarks c (policyWord P) t (rightsOn P u (records t)) (inTable (shown (storedBy (records t))) ms)
+        → doneMarks c (policyWord P) t (rightsOn P u (records t)) (shown (storedBy (records t))) (inTable (shown (storedBy (records t))) ms)
         ≡ marks level keyIn labelBy grantBy (doneLow c ms) (records t)
     unfolding marks lowBelow
     done-low c ms t w =
-        done-items c (policyWord P) t (rightsOn P u (records t)) (inTable (shown (storedBy (records t))) ms)
+        done-items c (policyWord P) t (rightsOn P u (records t)) (shown (storedBy (records t))) (inTable (shown (storedBy (records t))) ms)
         ∙ ap (λ bs. doneFrom c [] [] (items (policyWord P) (records t) (rightsOn P u (records t)) bs (inTable bs ms))) (shown-public (records t) w)
         ∙ ap (doneFrom c [] []) (items-public 0 ms [] [] (records t) refl)
         ∙ done-seen publicLevel (publicGrant grantBy) publicSet publicWord c ms (publics level keyIn labelBy grantBy [] (records t))

@@ -24,14 +24,6 @@ pub done-every : {E : Type 0} (P : E → Type 0) → ((x : E) → P x) → (ms :
 done-every P h ms [] = tt
 done-every P h ms (x ∷ t) = ((λ e. h x), done-every P h (drop 1 ms) t)
 
-pub first-mark : (ms : List Bool) → getD ms 0 false ≡ getD ms 0 false
-first-mark [] = refl
-first-mark (b ∷ bs) = refl
-
-pub later-marks : (ms : List Bool) → drop 1 ms ≡ drop 1 ms
-later-marks [] = refl
-later-marks (b ∷ bs) = refl
-
 min-same : (b b2 l : ℕ) → l ≤ b → l ≤ b2 → min b2 l ≡ min b l
 min-same b b2 l h h2 = omega arith
 
@@ -44,7 +36,7 @@ module _ {E : Type 0} (lev : E → ℕ) (g : E → Bool) where
   -- the marks of the shown nodes, at their places in the whole list; no other node is marked
   unfoldable pub spread : ℕ → List Bool → List E → List Bool
   spread b ds [] = []
-  spread b ds (x ∷ t) = cond (isShownAt lev g b x) (isDone ds ∷ spread (suc (lev x)) (later ds) t) (false ∷ spread (min b (lev x)) ds t)
+  spread b ds (x ∷ t) = cond (isShownAt lev g b x) (getD ds 0 false ∷ spread (suc (lev x)) (drop 1 ds) t) (false ∷ spread (min b (lev x)) ds t)
 
   pub shown-level : (b : ℕ) (x : E) → isShownAt lev g b x ≡ true → lev x ≤ b
   shown-level b x e = leb-true _ _ (both (g x) (leb (lev x) b) e .1)
@@ -65,7 +57,7 @@ module _ {E : Type 0} (lev : E → ℕ) (g : E → Bool) where
   unfolding spread inTable shownFrom
   spread-in-table b ds [] = refl
   spread-in-table b ds (x ∷ t) = byCase (isShownAt lev g b x)
-      (λ v. rw (v, add-one (lev x), first-mark ds, later-marks ds) (ap (λ r. isDone ds ∷ r) (spread-in-table (suc (lev x)) (later ds) t)))
+      (λ v. rw (v, add-one (lev x)) (ap (λ r. getD ds 0 false ∷ r) (spread-in-table (suc (lev x)) (drop 1 ds) t)))
       (λ v. rw v (ap (λ r. false ∷ r) (spread-in-table (min b (lev x)) ds t)))
 
   pub nested-steps : (n : ℕ) (t : List E) → Nested lev n t → Steps lev g n t
@@ -82,7 +74,7 @@ module _ {E : Type 0} (lev : E → ℕ) (g : E → Bool) where
   unfolding spread
   length-spread b ds [] = refl
   length-spread b ds (x ∷ t) = byCase (isShownAt lev g b x)
-      (λ v. rw v (ap suc (length-spread (suc (lev x)) (later ds) t)))
+      (λ v. rw v (ap suc (length-spread (suc (lev x)) (drop 1 ds) t)))
       (λ v. rw v (ap suc (length-spread (min b (lev x)) ds t)))
 
   -- Removal
@@ -110,9 +102,9 @@ module _ {E : Type 0} (lev : E → ℕ) (g : E → Bool) where
   unfolding remove seen spread
   seen-remove b ds [] = refl
   seen-remove b ds (x ∷ t) = byCase (isShownAt lev g b x)
-      (λ v. let k : lev x ≤ b = shown-level b x v in byCase (isDone ds)
-      (λ d. rw (v, d) (seen-dropBelow (lev x) b (suc (lev x)) _ k (omega arith) ∙ ap (dropBelow lev (lev x)) (seen-remove (suc (lev x)) (later ds) t)))
-      (λ d. rw (v, d, v) (ap (λ r. x ∷ r) (seen-remove (suc (lev x)) (later ds) t))))
+      (λ v. let k : lev x ≤ b = shown-level b x v in byCase (getD ds 0 false)
+      (λ d. rw (v, d) (seen-dropBelow (lev x) b (suc (lev x)) _ k (omega arith) ∙ ap (dropBelow lev (lev x)) (seen-remove (suc (lev x)) (drop 1 ds) t)))
+      (λ d. rw (v, d, v) (ap (λ r. x ∷ r) (seen-remove (suc (lev x)) (drop 1 ds) t))))
       (λ v. rw (v, v) (seen-remove (min b (lev x)) ds t))
 
   -- Insertion: all of y at level k or deeper, the first node of u at most at k
@@ -156,11 +148,11 @@ module _ {E : Type 0} (lev : E → ℕ) (g : E → Bool) where
     unfolding insertBehind seen spread
     seen-insertBehind b ds [] = refl
     seen-insertBehind b ds (x ∷ t) = byCase (isShownAt lev g b x)
-        (λ v. byCase (isDone ds)
+        (λ v. byCase (getD ds 0 false)
         (λ d. rw (v, d) (ap (λ r. x ∷ r)
         (seen-putBehind (lev x) (k x) (suc (lev x)) (y x) _ (lo x) (hi x) (hi x) (above x) (front x)
-        ∙ ap (putBehind lev (lev x) (seen (k x) (y x))) (seen-insertBehind (suc (lev x)) (later ds) t))))
-        (λ d. rw (v, d) (ap (λ r. x ∷ r) (seen-insertBehind (suc (lev x)) (later ds) t))))
+        ∙ ap (putBehind lev (lev x) (seen (k x) (y x))) (seen-insertBehind (suc (lev x)) (drop 1 ds) t))))
+        (λ d. rw (v, d) (ap (λ r. x ∷ r) (seen-insertBehind (suc (lev x)) (drop 1 ds) t))))
         (λ v. rw v (seen-insertBehind (min b (lev x)) ds t))
 
   module _ (y : E → List E) (above : (x : E) → Above lev (lev x) (y x)) (front : (x : E) → Front lev (lev x) (y x)) where
@@ -169,10 +161,10 @@ module _ {E : Type 0} (lev : E → ℕ) (g : E → Bool) where
     unfolding insertInFront seen spread
     seen-insertInFront b ds [] = refl
     seen-insertInFront b ds (x ∷ t) = byCase (isShownAt lev g b x)
-        (λ v. let m : lev x ≤ b = shown-level b x v in byCase (isDone ds)
+        (λ v. let m : lev x ≤ b = shown-level b x v in byCase (getD ds 0 false)
         (λ d. rw (v, d) (seen-append (lev x) b b (y x) (x ∷ _) m m (above x) (omega arith)
-        ∙ ap₂ _++_ (seen-front (lev x) b (lev x) (y x) m (omega arith) (front x)) (rw v (ap (λ r. x ∷ r) (seen-insertInFront (suc (lev x)) (later ds) t)))))
-        (λ d. rw (v, d, v) (ap (λ r. x ∷ r) (seen-insertInFront (suc (lev x)) (later ds) t))))
+        ∙ ap₂ _++_ (seen-front (lev x) b (lev x) (y x) m (omega arith) (front x)) (rw v (ap (λ r. x ∷ r) (seen-insertInFront (suc (lev x)) (drop 1 ds) t)))))
+        (λ d. rw (v, d, v) (ap (λ r. x ∷ r) (seen-insertInFront (suc (lev x)) (drop 1 ds) t))))
         (λ v. rw (v, v) (seen-insertInFront (min b (lev x)) ds t))
 
   -- Renaming: level and grant of each node that is done stay
@@ -188,9 +180,9 @@ module _ {E : Type 0} (lev : E → ℕ) (g : E → Bool) where
   unfolding rename seen spread
   seen-rename f b ds [] a = refl
   seen-rename f b ds (x ∷ t) a = byCase (isShownAt lev g b x)
-      (λ v. let w : (isDone ds ≡ true → KeepsGrant f x) × AtDone (KeepsGrant f) (spread (suc (lev x)) (later ds) t) t = rw v at a in byCase (isDone ds)
-      (λ d. rw (v, d, shown-keeps f b x (w .0 d), v, w .0 d .0) (ap (λ r. f x ∷ r) (seen-rename f (suc (lev x)) (later ds) t (w .1))))
-      (λ d. rw (v, d, v) (ap (λ r. x ∷ r) (seen-rename f (suc (lev x)) (later ds) t (w .1)))))
+      (λ v. let w : (getD ds 0 false ≡ true → KeepsGrant f x) × AtDone (KeepsGrant f) (spread (suc (lev x)) (drop 1 ds) t) t = rw v at a in byCase (getD ds 0 false)
+      (λ d. rw (v, d, shown-keeps f b x (w .0 d), v, w .0 d .0) (ap (λ r. f x ∷ r) (seen-rename f (suc (lev x)) (drop 1 ds) t (w .1))))
+      (λ d. rw (v, d, v) (ap (λ r. x ∷ r) (seen-rename f (suc (lev x)) (drop 1 ds) t (w .1)))))
       (λ v. let w : (false ≡ true → KeepsGrant f x) × AtDone (KeepsGrant f) (spread (min b (lev x)) ds t) t = rw v at a in
       rw (v, v) (seen-rename f (min b (lev x)) ds t (w .1)))
 
@@ -208,5 +200,5 @@ pub spread-map : {E F : Type 0} (lev : E → ℕ) (lvl : F → ℕ) (g : E → B
 unfolding spread
 spread-map lev lvl g h f same grant b ds [] = refl
 spread-map lev lvl g h f same grant b ds (x ∷ t) = byCase (isShownAt lev g b x)
-    (λ v. rw (same x, grant x, v) (ap (λ r. isDone ds ∷ r) (spread-map lev lvl g h f same grant (suc (lev x)) (later ds) t)))
+    (λ v. rw (same x, grant x, v) (ap (λ r. getD ds 0 false ∷ r) (spread-map lev lvl g h f same grant (suc (lev x)) (drop 1 ds) t)))
     (λ v. rw (same x, grant x, v) (ap (λ r. false ∷ r) (spread-map lev lvl g h f same grant (min b (lev x)) ds t)))

@@ -2,7 +2,7 @@
 -- goes by its effect and these facts.
 use Prim.Native.Nat.{ℕ, _+_, _≤_, _<_}
 use mathlib.Core.Path.{_≡_}
-use mathlib.Core.Bool.{true, false, _||_}
+use mathlib.Core.Bool.{Bool, true, false, _||_}
 use mathlib.Core.List.{List}
 use lib.Dec.{leb, eqb, ltb}
 use lib.ListN.{getD}
@@ -10,8 +10,7 @@ use Rattle.rights.specs.Policy.{Policy, policyWord}
 use Rattle.rights.specs.PolicyBytes.{ruleCount}
 use Rattle.rights.specs.PolicyCheck.{policyOk}
 use Rattle.rights.specs.Table.{records, label}
-use Rattle.views.specs.Change.{isDone, chunks, lower, deepest, tooDeep, hasRoom, free}
-use Rattle.rights.specs.Marks.{marksOf}
+use Rattle.views.specs.Change.{chunks, lower, deepest, tooDeep, hasRoom, free}
 use Rattle.views.specs.Nodes.{TreeOk, LabelOk}
 use Rattle.views.specs.How.Pass.{AtDone}
 use Rattle.views.specs.declared.insert.Place.{Place}
@@ -41,29 +40,29 @@ pub record RootSound (s t l : List ℕ) : Type 0 where
   pub has-room : ltb (free t) 1 ≡ false
 
 -- a tree that fits into the table; the root has no place beside it; stage E is neither reached nor left
-pub record InsertSound (s t : List ℕ) (at : Place) (ms : List ℕ) (m : ℕ) (tree : List ℕ) (g : ℕ) : Type 0 where
+pub record InsertSound (s t : List ℕ) (at : Place) (ms : List Bool) (m : ℕ) (tree : List ℕ) (g : ℕ) : Type 0 where
   pub rooted : stageC ≤ stage s
   pub behind-root : stageC ≤ g
   pub stages : g ≤ stageE
   pub session : eqb g stageE ≡ eqb (stage s) stageE
   pub good : TreeOk (chunks m tree)
-  pub shallow : tooDeep (lower at + deepest (chunks m tree)) (marksOf ms) (records t) ≡ false
+  pub shallow : tooDeep (lower at + deepest (chunks m tree)) ms (records t) ≡ false
   pub has-room : hasRoom t ms m ≡ true
-  pub spared : lower at ≡ 0 → getD (marksOf ms) 0 false ≡ false
+  pub spared : lower at ≡ 0 → getD ms 0 false ≡ false
 
 -- neither the new label nor an old one is a policy word
-pub record RenameSound (s t l ms : List ℕ) : Type 0 where
+pub record RenameSound (s t l : List ℕ) (ms : List Bool) : Type 0 where
   pub rooted : stageC ≤ stage s
   pub label : LabelOk l
   pub no-word : policyWord (policyIn s) l ≡ false
-  pub no-words : AtDone (NoWord (policyIn s)) (marksOf ms) (records t)
+  pub no-words : AtDone (NoWord (policyIn s)) ms (records t)
 
 -- `(remove P)` alone removes, and never the root
-pub record RemoveSound (f : Form) (s t ms : List ℕ) : Type 0 where
+pub record RemoveSound (f : Form) (s t : List ℕ) (ms : List Bool) : Type 0 where
   pub path : Part
   pub form : f ≡ Remove path
   pub rooted : stageC ≤ stage s
-  pub spared : getD (marksOf ms) 0 false ≡ false
+  pub spared : getD ms 0 false ≡ false
 
 -- `(user N)` alone logs in, and N is declared
 pub record LoginSound (f : Form) (line s : List ℕ) (u : ℕ) : Type 0 where

@@ -11,8 +11,7 @@ use Rattle.rights.specs.Record.{nodeRecord}
 use Rattle.rights.specs.Table.{count, records, recordOk, recordsOk, level, tableOk}
 use Rattle.rights.proofs.Facts.{both, table-records}
 use Rattle.rights.proofs.RecordMade.{length-node, node-ok}
-use Rattle.rights.specs.Marks.{marksOf}
-use Rattle.views.specs.Change.{isDone, remove, placed, removed, relabel, renamed, changed, free}
+use Rattle.views.specs.Change.{remove, placed, removed, relabel, renamed, changed, free}
 use Rattle.views.specs.Nodes.{All, Nested}
 use Rattle.views.proofs.TableFacts.{facts}
 use Rattle.views.proofs.TableKept.{Full, StoredAs, removed-stored, renamed-stored, placed-stored, changed-ok, length-changed, records-changed, count-changed, loosen, length-records, length-placed}
@@ -84,9 +83,9 @@ table-after f line s t ok (insertion at ms m tree g) x =
     (λ i. omega (arith, i, length-placed at t ms tree m))
 table-after f line s t ok (renaming l ms) x =
     changed-table t (renamed l ms (records t)) (renamed-stored t ms l ok (x .label))
-    (λ i. omega (arith, i, length-rename level (relabel l) (marksOf ms) (records t), length-records t))
+    (λ i. omega (arith, i, length-rename level (relabel l) ms (records t), length-records t))
 table-after f line s t ok (removal ms) x =
     changed-table t (removed ms (records t)) (removed-stored t ms ok)
-    (λ i. remove-some (marksOf ms) (records t) (x .spared) (omega (arith, i, length-records t)))
+    (λ i. remove-some ms (records t) (x .spared) (omega (arith, i, length-records t)))
 table-after f line s t ok (login u) x = same-table t ok
 table-after f line s t ok reading x = same-table t ok

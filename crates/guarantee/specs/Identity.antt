@@ -3,14 +3,13 @@
 -- A node is followed by a tag that its record carries; a node that came later has none.
 use Prim.Native.Nat.{ℕ, zero, suc, _≤_, _<_}
 use mathlib.Core.Path.{_≡_}
-use mathlib.Core.Bool.{not}
+use mathlib.Core.Bool.{Bool, not}
 use mathlib.Core.List.{List, [], _∷_, map, Sublistᴰ}
 use mathlib.Core.Option.{Option, none, some}
 use lib.ListN.{length, getD}
 use Rattle.rights.specs.Policy.{Policy}
 use Rattle.rights.specs.Rights.{rightsOn}
 use Rattle.rights.specs.Table.{records, level}
-use Rattle.rights.specs.Marks.{marksOf}
 use Rattle.views.specs.Nodes.{goes, only, tags}
 use Rattle.views.specs.Change.{chunks, raise, relabel, remove, append, insertAfter, insertBefore, rename}
 use Rattle.views.specs.declared.done.Change.the-variants as change
@@ -45,18 +44,18 @@ abbrev pub newTree : ℕ → List ℕ → ℕ → List Tagged
 newTree m tree l = new (raise l (chunks m tree))
 
 -- the nodes after an insertion at the places that are marked: those that stood there, and new ones
-abbrev pub afterInsert : Place → ℕ → List ℕ → List ℕ → List Tagged → List Tagged
-afterInsert place.Append m tree ms ns = append taggedLevel (newTree m tree) (marksOf ms) ns
-afterInsert place.After m tree ms ns = insertAfter taggedLevel (newTree m tree) (marksOf ms) ns
-afterInsert place.Before m tree ms ns = insertBefore taggedLevel (newTree m tree) (marksOf ms) ns
+abbrev pub afterInsert : Place → ℕ → List ℕ → List Bool → List Tagged → List Tagged
+afterInsert place.Append m tree ms ns = append taggedLevel (newTree m tree) ms ns
+afterInsert place.After m tree ms ns = insertAfter taggedLevel (newTree m tree) ms ns
+afterInsert place.Before m tree ms ns = insertBefore taggedLevel (newTree m tree) ms ns
 
 -- a node under another label is the same node
-abbrev pub afterRename : List ℕ → List ℕ → List Tagged → List Tagged
-afterRename l ms ns = rename taggedLevel (λ n. (relabel l (n .0), n .1)) (marksOf ms) ns
+abbrev pub afterRename : List ℕ → List Bool → List Tagged → List Tagged
+afterRename l ms ns = rename taggedLevel (λ n. (relabel l (n .0), n .1)) ms ns
 
 -- what is done goes, with all below it
-abbrev pub afterRemove : List ℕ → List Tagged → List Tagged
-afterRemove ms ns = remove taggedLevel (marksOf ms) ns
+abbrev pub afterRemove : List Bool → List Tagged → List Tagged
+afterRemove ms ns = remove taggedLevel ms ns
 
 -- the nodes after an effect: no line but a change, a child or the root touches any
 abbrev pub afterEffect : Effect → List Tagged → List Tagged
@@ -118,7 +117,7 @@ abbrev pub NodesRemoved : Type 0
 NodesRemoved =
     (choice : Choice) (s t : List ℕ) (i : Input) (ns : List Tagged) (p : Part) (text : List ℕ) → readForm (i .line) ≡ Remove p
     → outcome choice s t i .reply ≡ says text
-    → follow choice s t i ns ≡ only (λ k. not (goes taggedLevel (marksOf (doneIn change.Remove s t (bytesOf (i .line) p))) ns k)) ns
+    → follow choice s t i ns ≡ only (λ k. not (goes taggedLevel (doneIn change.Remove s t (bytesOf (i .line) p)) ns k)) ns
 
 -- "A removed node never comes back, whatever uses its record": after any lines the nodes that carry a tag are some of those that did before, in order.
 abbrev pub NoneBack : Type 0

@@ -14,13 +14,9 @@ use Rattle.rights.specs.Marks.{eachFrom, keep}
 use Rattle.rights.proofs.Lists.{byCase}
 use Rattle.views.specs.Change.{dropBelow, putBehind, remove, insertBehind, insertInFront, rename}
 use Rattle.views.specs.How.Pass.{Above, Front}
-use Rattle.views.specs.Nodes.{isBelow, isAncestor, goes, Goes, Behind}
+use Rattle.views.specs.Nodes.{isBelow, isAncestor, goes, Goes, only, Behind}
 use Rattle.views.proofs.Removal.{pass-below, pass-done}
 use Rattle.views.proofs.Waiting.{skip-one, above-less}
-
--- the nodes whose number passes the test, in order
-abbrev pub only : {E : Type 0} → (ℕ → Bool) → List E → List E
-only p t = keep (eachFrom p 0 (length t)) t
 
 each-shift : (p : ℕ → Bool) (i n : ℕ) → eachFrom p (suc i) n ≡ eachFrom (λ k. p (suc k)) i n
 unfolding eachFrom

@@ -8,6 +8,7 @@ use mathlib.Core.Option.{Option, none, some}
 use lib.Dec.{ltb}
 use lib.ListN.{length, drop, getD}
 use Rattle.rights.specs.Limits.{labelMax}
+use Rattle.rights.specs.Marks.{eachFrom, keep}
 use Rattle.rights.specs.Bytes.{all}
 use Rattle.rights.specs.Labels.{labelByte, sameLabel, restricted}
 use Rattle.rights.specs.Table.{level, recordOk}
@@ -58,6 +59,10 @@ pub record Behind {E : Type 0} (lev : E → ℕ) (x : E) (y w : List E) : Type 0
   pub is : w ≡ before ++ (x ∷ (below ++ (y ++ after)))
   pub deeper : Above lev (suc (lev x)) below
   pub next : Front lev (lev x) after
+
+-- the nodes whose number passes the test, in order
+abbrev pub only : {E : Type 0} → (ℕ → Bool) → List E → List E
+only p t = keep (eachFrom p 0 (length t)) t
 
 -- the tags of the nodes that carry one, in order
 abbrev pub put : {X : Type 0} → Option X → List X → List X
