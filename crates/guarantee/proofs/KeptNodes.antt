@@ -6,7 +6,7 @@ use mathlib.Core.Path.{_≡_, refl, sym, ap, ap₂, _∙_}
 use mathlib.Core.List.{List, [], _∷_, _++_, map, Sublistᴰ}
 use mathlib.Core.Option.{Option, none, some}
 use native.Mathlib.Omega.{arith}
-use lib.ListN.{length, take}
+use lib.ListN.{length, take, drop}
 use Rattle.rights.specs.Policy.{Policy, policyWord}
 use Rattle.rights.specs.Rights.{rightsBy, chains}
 use Rattle.rights.specs.Table.{records, level, label, tableOk}
@@ -110,7 +110,7 @@ module _ (P : Policy) (u : ℕ) (declared : u < length (P .names)) where
   keeps-done : (l : List ℕ) → policyWord P l ≡ false → (bs : List Bool) (ns : List Tagged) → AtDone (λ n. NoWord P (n .0)) bs ns
       → AtDone (Keeps taggedLevel keyed (λ x. (relabel l (x .0), x .1))) bs ns
   keeps-done l e bs [] a = tt
-  keeps-done l e bs (n ∷ ns) a = ((λ d. keeps l e n (a .0 d)), keeps-done l e (later bs) ns (a .1))
+  keeps-done l e bs (n ∷ ns) a = ((λ d. keeps l e n (a .0 d)), keeps-done l e (drop 1 bs) ns (a .1))
 
   -- a renaming leaves all rights: neither the old label nor the new one is a policy word
   pub kept-rename : (l : List ℕ) (ms : List Bool) (ns : List Tagged) → policyWord P l ≡ false → AtDone (λ n. NoWord P (n .0)) ms ns
@@ -136,7 +136,7 @@ nodes-nested t ns ok e = nested-tagged 0 ns (rw e (table-nested t ok))
 
 done-tagged : (Q : List ℕ → Type 0) (bs : List Bool) (ns : List Tagged) → AtDone Q bs (map (λ n. n .0) ns) → AtDone (λ n. Q (n .0)) bs ns
 done-tagged Q bs [] a = tt
-done-tagged Q bs (n ∷ ns) a = (a .0, done-tagged Q (later bs) ns (a .1))
+done-tagged Q bs (n ∷ ns) a = (a .0, done-tagged Q (drop 1 bs) ns (a .1))
 
 pub nodes-free : (P : Policy) (t : List ℕ) (ms : List Bool) (ns : List Tagged) → map (λ n. n .0) ns ≡ records t → AtDone (NoWord P) ms (records t)
     → AtDone (λ n. NoWord P (n .0)) ms ns
