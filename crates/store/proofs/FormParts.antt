@@ -8,8 +8,8 @@ use lib.ListN.{length, drop, length-append, length-drop}
 use lib.Seq.{take-at}
 use Rattle.rights.specs.Policy.{Right, bitOf}
 use mathlib.Core.Logic.{_⊎_, inl, inr}
-use Rattle.forms.specs.declared.word.Word.{Word}
-use Rattle.forms.specs.declared.word.Word.the-variants as word
+use Rattle.forms.specs.declared.layout.Word.{Word}
+use Rattle.forms.specs.declared.layout.Word.the-variants as word
 use Rattle.forms.specs.declared.form.Part.{Part}
 use Rattle.forms.specs.declared.form.Form.{Form}
 use Rattle.forms.specs.declared.form.Form.the-variants.{Subject, Isa, Rule, Root, Child, User, View, Query, Find, Rename, Update, Append, Before, After, Remove, NoForm}
@@ -18,7 +18,8 @@ use Rattle.rights.specs.Tree.{writeTree, writeTrees, nodesOf, nodesIn}
 use Rattle.forms.specs.TreeText.{GoodTree, GoodTrees, GoodLabel}
 use Rattle.forms.specs.Kind.{Kind}
 use Rattle.forms.specs.Kind as kind
-use Rattle.forms.specs.Form.{shapeOf, part, placeIn, formWith, readForm, treeIn}
+use Rattle.forms.specs.Layout.{shapeOf}
+use Rattle.forms.specs.Form.{part, placeIn, formWith, readForm, treeIn}
 use Rattle.forms.specs.FormText.{Value, Values, Said, writeValue, writeValues, GoodValue, GoodValues, write, Good, nodesOr, nodesSaid}
 use Rattle.store.specs.Line.{bytesOf}
 use Rattle.forms.proofs.FormTextLaws.{right-reads, part-after, values-stop, placesOf, endOf, after-word, written-form, written-tree, read-or-none}
