@@ -43,7 +43,7 @@ ghost use Rattle.lines.specs.State.{stage, storeOk};
 ghost use Rattle.lines.specs.Outcome.{Made};
 ghost use Rattle.lines.specs.Refusal.{firstRefusal};
 ghost use Rattle.lines.specs.Effect.{Performs};
-ghost use Rattle.store.specs.Line.{stageOf, inStage, isNoForm, bytesOf, acceptByte, workOf, textChecks, formChecks, step};
+ghost use Rattle.store.specs.Line.{least, stageOf, inStage, isNoForm, bytesOf, acceptByte, workOf, textChecks, formChecks, step};
 
 // What is no form belongs to no stage.
 const NO_STAGE: u8 = 5;
@@ -116,13 +116,19 @@ fn accept_byte(accept: bool) -> u8
     if accept { 1 } else { 0 }
 }
 
-// The bytes of a part of the line.
+// The smaller of two numbers.
+fn smaller(a: usize, b: usize) -> usize
+    ensures { λ r. ⌜ (r ≡ least a b) × (r ≤ b) ⌝ }
+{
+    if a <= b { a } else { b }
+}
+
+// The bytes of a part of the line, as far as the line goes.
 fn part_of(line: &[u8], p: Part) -> &[u8]
-    requires { ⌜ (p .at ≤ p .end) × (p .end ≤ length (now line)) ⌝ }
     ensures { λ r. ⌜ now r ≡ bytesOf (now (line .entry)) p ⌝ }
 {
-    let at = p.at;
-    let end = p.end;
+    let end = smaller(p.end, line.len());
+    let at = smaller(p.at, end);
     &line[at..end]
 }
 
@@ -151,6 +157,7 @@ fn run(
         (now (state .entry)) (now (table .entry)) (now (area .entry)) r (now (state .exit)) (now (table .exit)) (now (area .exit)) ⌝ }
 {
     match f {
+        Form::NoForm => Answer::Refused(NO_FORM),
         Form::Subject(n) => declare(state, table, part_of(line, n), area),
         Form::Isa(n, r) => relate(state, table, part_of(line, n), part_of(line, r), area),
         Form::Rule(a, b, p, n) => rule(
@@ -212,7 +219,6 @@ fn run(
             area,
         ),
         Form::Remove(p) => remove(state, table, part_of(line, p), area),
-        Form::NoForm => Answer::Refused(NO_FORM),
     }
 }
 
