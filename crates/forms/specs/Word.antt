@@ -1,4 +1,4 @@
--- Words by their letters: tables, the table of accept and deny, and that of the rights (document 01, "Lines"). Those that begin a form stand in Layout.
+-- Words by their letters: accept and deny, and the rights (document 01, "Lines"). Those that begin a form stand in Layout.
 use Prim.Native.Nat.{ℕ, _+_, _*_}
 use mathlib.Core.Bool.{Bool, true, false, cond, _&&_}
 use mathlib.Core.List.{List, [], _∷_}

@@ -2,7 +2,7 @@
 use Prim.Native.Nat.{ℕ, suc, _+_, _-_, _*_, _≤_, _<_}
 use mathlib.Core.Path.{_≡_, refl, sym, ap, _∙_, subst}
 use mathlib.Core.List.{List, [], _∷_, _++_, append-assoc}
-use mathlib.Core.Bool.{Bool, true, false, _&&_, Bool·beq, and-eq-true-iff}
+use mathlib.Core.Bool.{Bool, true, false, cond, _&&_, Bool·beq, and-eq-true-iff}
 use native.Mathlib.Omega.{arith}
 use borrow.Author.Tests.{leb-true, le-leb, lt-leb, leb-false, not-false}
 use lib.Dec.{leb, ltb}
@@ -30,12 +30,16 @@ use Rattle.lines.specs.declared.line.Answer.{Answer}
 use Rattle.lines.specs.declared.line.Answer.the-variants.{Refused}
 use Rattle.lines.proofs.OutcomeLaws.{made-at}
 use Rattle.lines.proofs.RefusalLaws.{first-behind, first-front, passed, passed-append, performs-refused, performed-guarded}
-use Rattle.store.specs.Line.{least, stageOf, inStage, isNoForm, workOf, textChecks, formChecks, lineChecks, step}
+use Rattle.store.specs.Line.{stageOf, inStage, isNoForm, workOf, textChecks, formChecks, lineChecks, step}
 use Rattle.store.proofs.FormParts.{TreePart, Fits, form-fits}
 
 -- the parts of a form that was read, where its variant is known
 pub fits-at : (line : List ℕ) {f g : Form} → f ≡ readForm line → f ≡ g → Fits line g
 fits-at line e q = subst (Fits line) (sym e ∙ q) (form-fits line)
+
+-- the smaller of two numbers
+abbrev least : ℕ → ℕ → ℕ
+least a b = cond (leb a b) a b
 
 -- the bytes from a up to b, as far as they go
 pub part-clipped : (s : List ℕ) (a b : ℕ) → take (least b (length s) - least a (least b (length s))) (drop (least a (least b (length s))) s) ≡ take (b - a) (drop a s)

@@ -52,10 +52,6 @@ inStage k g = leb g k && Bool·beq (ltb stageC k) (leb stageC g)
 abbrev pub isNoForm : Form → Bool
 isNoForm f = eqb (stageOf f) noStage
 
--- the smaller of two numbers
-abbrev pub least : ℕ → ℕ → ℕ
-least a b = cond (leb a b) a b
-
 -- the bytes of a part of a line
 abbrev pub bytesOf : List ℕ → Part → List ℕ
 bytesOf line p = take (p .end - p .at) (drop (p .at) line)

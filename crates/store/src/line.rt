@@ -31,8 +31,9 @@ use rights::limits::RECORD_BYTES;
 use views::done::Change;
 use views::insert::Place;
 ghost use mathlib.Core.Path.{_≡_};
-ghost use mathlib.Core.Bool.{true};
+ghost use mathlib.Core.Bool.{true, cond};
 ghost use Prim.Native.Nat.{_*_, _≤_};
+ghost use lib.Dec.{leb};
 ghost use lib.ListN.{length, take, replicate};
 ghost use Rattle.rights.specs.Record.{pasted};
 ghost use Rattle.forms.specs.Text.{lineOk};
@@ -43,7 +44,7 @@ ghost use Rattle.lines.specs.State.{stage, storeOk};
 ghost use Rattle.lines.specs.Outcome.{Made};
 ghost use Rattle.lines.specs.Refusal.{firstRefusal};
 ghost use Rattle.lines.specs.Effect.{Performs};
-ghost use Rattle.store.specs.Line.{least, stageOf, inStage, isNoForm, bytesOf, acceptByte, workOf, textChecks, formChecks, step};
+ghost use Rattle.store.specs.Line.{stageOf, inStage, isNoForm, bytesOf, acceptByte, workOf, textChecks, formChecks, step};
 
 // What is no form belongs to no stage.
 const NO_STAGE: u8 = 5;
@@ -118,7 +119,7 @@ fn accept_byte(accept: bool) -> u8
 
 // The smaller of two numbers.
 fn smaller(a: usize, b: usize) -> usize
-    ensures { λ r. ⌜ (r ≡ least a b) × (r ≤ b) ⌝ }
+    ensures { λ r. ⌜ (r ≡ cond (leb a b) a b) × (r ≤ b) ⌝ }
 {
     if a <= b { a } else { b }
 }

@@ -1,6 +1,5 @@
 -- The numbers are those of the letters, by computing.
 use mathlib.Core.Path.{refl}
-use borrow.Author.Needs.{needs}
 use Rattle.forms.specs.Word.{byNumber, number}
 use Rattle.forms.specs.declared.layout.Word.the-variants.{Other}
 use Rattle.forms.specs.Layout.{words}

@@ -1,5 +1,4 @@
 -- The numbers are those of the letters, by computing.
-use borrow.Author.Needs.{needs}
 use Rattle.forms.specs.Word.{byNumber, number, rights}
 use Rattle.forms.proofs.WordLaws.{finds-none}
 use Rattle.forms.proofs.word.numbered_right.Statement.{statement}
