@@ -18,14 +18,23 @@ use Rattle.rights.proofs.Lists.{byCase}
 use Rattle.rights.proofs.PathLaws.{inside}
 use Rattle.rights.proofs.PathTexts.{and-left}
 use Rattle.rights.proofs.RecordLaws.{pasted-none}
-use Rattle.forms.specs.declared.word.Word.{Word}
+use Rattle.forms.specs.declared.layout.Word.{Word}
+use Rattle.forms.specs.declared.layout.Layout.{Layout}
 use Rattle.forms.specs.declared.form.Form.{Form}
 use Rattle.forms.specs.declared.form.Form.the-variants.{NoForm}
-use Rattle.forms.specs.Word.{wordAt}
+use Rattle.forms.specs.Layout.{LaidOut, codesOf, shapeOf, wordAt}
 use Rattle.forms.specs.Part.{runEnd}
 use Rattle.forms.specs.Kind.{Kind, Label, Path, Tree, Sign, Right, codeOf, partEnd, endBy}
 use Rattle.forms.specs.Tree.{recordsOf}
-use Rattle.forms.specs.Form.{shapeOf, codesOf, onePart, oneBy, Places, are, none, _onTo_, closes, partsOf, placeIn, treePlace, nodesAt, formWith, endsIn, readForm, treeIn, PartsPut}
+use Rattle.forms.specs.Form.{onePart, oneBy, Places, are, none, _onTo_, closes, partsOf, placeIn, treePlace, nodesAt, formWith, endsIn, readForm, treeIn, PartsPut}
+
+-- A word with its kinds
+
+pub laid-out : (w : Word) → length (codesOf (shapeOf w)) ≡ 5 → LaidOut w (record { word = w; kinds = codesOf (shapeOf w) })
+laid-out w e = record { word = refl; kinds = refl; size = e }
+
+pub laid-at : {w v : Word} {l : Layout} → w ≡ v → LaidOut w l → LaidOut v l
+laid-at e h = rw (← e) h
 
 -- A shape's kinds by their numbers
 
@@ -69,15 +78,12 @@ module _ (m : ℕ) where
 
 pub kind-at : (ks : List Kind) (i : ℕ) → (getD (codesOf ks) i 0 ≡ 0 → ⊥)
     → (k : Kind) × (drop i ks ≡ k ∷ drop (suc i) ks) × (getD (codesOf ks) i 0 ≡ codeOf k) × (i < length ks)
-unfolding codesOf
 kind-at ks i h = more-at (1 + (4 - length ks)) ks i h
 
 pub kinds-over : (ks : List Kind) (i : ℕ) → getD (codesOf ks) i 0 ≡ 0 → drop i ks ≡ []
-unfolding codesOf
 kinds-over ks i h = over-at (1 + (4 - length ks)) ks i h
 
 pub few-kinds : (ks : List Kind) → length (codesOf ks) ≡ 5 → length ks ≤ 4
-unfolding codesOf
 few-kinds ks e =
     omega (arith, e, length-append (map codeOf ks) (replicate {A = ℕ} (1 + (4 - length ks)) 0), length-codes 0 ks, length-replicate {A = ℕ} (1 + (4 - length ks)) 0)
 

@@ -1,7 +1,7 @@
 -- What is read as a form is what is written as one. Assumes nothing.
 use Prim.Native.Nat.{ℕ, suc, _+_, _≤_}
 use mathlib.Core.Path.{_≡_, refl, sym, ap, subst, _∙_}
-use mathlib.Core.List.{List, [], _∷_, _++_}
+use mathlib.Core.List.{List, [], _∷_, _++_, map}
 use mathlib.Core.Bool.{Bool, true, false, cond, _&&_}
 use mathlib.Core.Logic.{_⊎_, inl, inr, _↔_}
 use native.Mathlib.Omega.{arith}
@@ -16,17 +16,18 @@ use Rattle.rights.specs.PathReader.{runAt}
 use Rattle.rights.specs.declared.path.Read.{Read}
 use Rattle.rights.specs.declared.path.Read.the-variants.{At, Bad}
 use Rattle.rights.proofs.PathTexts.{and-left, and-right, cond-elim, Reads, reads-byte, reads-take, run-all, run-length, run-over, byte-here}
-use Rattle.forms.specs.declared.word.Word.{Word}
-use Rattle.forms.specs.declared.word.Word.the-variants as word
+use Rattle.forms.specs.declared.layout.Word.{Word}
+use Rattle.forms.specs.declared.layout.Word.the-variants as word
 use Rattle.forms.specs.declared.form.Form.{Form}
 use Rattle.forms.specs.declared.form.Form.the-variants.{NoForm}
-use Rattle.forms.specs.Word.{letters, accept, deny, words, signs, rights, sameText, among, labelAt, wordAt, signAt, rightAt}
+use Rattle.forms.specs.Word.{accept, deny, signs, rights, sameText, among, labelAt, signAt, rightAt}
 use Rattle.forms.specs.Part.{pathByte, labelEnd, runEnd, knownEnd}
 use Rattle.forms.specs.Kind.{Kind, Label, Path, Tree, Sign, Right as RightKind, partEnd}
 use Rattle.forms.specs.Tree.{_andThen_}
-use Rattle.forms.specs.Form.{shapeOf, onePart, Places, are, none, _onTo_, closes, partsOf, placeIn, treePlace, nodesAt, formWith, endsIn, readForm, treeIn}
+use Rattle.forms.specs.Layout.{letters, shapeOf, formWords, words, wordAt}
+use Rattle.forms.specs.Form.{onePart, Places, are, none, _onTo_, closes, partsOf, placeIn, treePlace, nodesAt, formWith, endsIn, readForm, treeIn}
 use Rattle.forms.specs.FormText.{Value, Values, Said, writeRight, writeValue, writeValues, write, GoodValue, GoodValues, Good, nodesOr, nodesSaid}
-use Rattle.forms.proofs.WordLaws.{among-is, among-or}
+use Rattle.forms.proofs.WordLaws.{wordText, wordTexts, Every, among-is, among-or}
 use Rattle.forms.proofs.TreeTextLaws.{drop-over, label-reads, tree-complete, tree-sound, tree-unique, label-unique}
 
 -- A form that is written is read
@@ -94,25 +95,30 @@ parts-complete (k ∷ ks) (v, vs) g s at e =
     let d = part-after k v s at (writeValues ks vs) e in
     rw (b, value-reads s (at + 1) k v (writeValues ks vs) (g .0) (d .0) (values-stop ks vs), parts-complete ks vs (g .1) s (at + 1 + length (writeValue k v)) (d .1))
 
--- each word is written in label bytes, and found by them
-pub spelt : (w : Word) → (all labelByte (letters w) ≡ true) × (among word.Other words (letters w) ≡ w)
+-- What is known of each word, one clause a word: it is written in label bytes, it is found by them, and its form is none only if it has no letters
+pub record WordLaw (w : Word) : Type 0 where
+  pub spelt : all labelByte (letters w) ≡ true
+  pub found : among word.Other words (letters w) ≡ w
+  pub some : (s : List ℕ) (e : ℕ → ℕ) (n : ℕ) → formWith w s e n ≡ NoForm → length (letters w) ≡ 0
+
+pub word-law : (w : Word) → WordLaw w
 unfolding labelByte all among sameText
-spelt word.Subject = (refl, refl)
-spelt word.Isa = (refl, refl)
-spelt word.Rule = (refl, refl)
-spelt word.Root = (refl, refl)
-spelt word.Child = (refl, refl)
-spelt word.User = (refl, refl)
-spelt word.View = (refl, refl)
-spelt word.Query = (refl, refl)
-spelt word.Find = (refl, refl)
-spelt word.Rename = (refl, refl)
-spelt word.Update = (refl, refl)
-spelt word.Append = (refl, refl)
-spelt word.Before = (refl, refl)
-spelt word.After = (refl, refl)
-spelt word.Remove = (refl, refl)
-spelt word.Other = (refl, refl)
+word-law word.Subject = record { spelt = refl; found = refl; some = λ s e n q. cc }
+word-law word.Isa = record { spelt = refl; found = refl; some = λ s e n q. cc }
+word-law word.Rule = record { spelt = refl; found = refl; some = λ s e n q. cc }
+word-law word.Root = record { spelt = refl; found = refl; some = λ s e n q. cc }
+word-law word.Child = record { spelt = refl; found = refl; some = λ s e n q. cc }
+word-law word.User = record { spelt = refl; found = refl; some = λ s e n q. cc }
+word-law word.View = record { spelt = refl; found = refl; some = λ s e n q. cc }
+word-law word.Query = record { spelt = refl; found = refl; some = λ s e n q. cc }
+word-law word.Find = record { spelt = refl; found = refl; some = λ s e n q. cc }
+word-law word.Rename = record { spelt = refl; found = refl; some = λ s e n q. cc }
+word-law word.Update = record { spelt = refl; found = refl; some = λ s e n q. cc }
+word-law word.Append = record { spelt = refl; found = refl; some = λ s e n q. cc }
+word-law word.Before = record { spelt = refl; found = refl; some = λ s e n q. cc }
+word-law word.After = record { spelt = refl; found = refl; some = λ s e n q. cc }
+word-law word.Remove = record { spelt = refl; found = refl; some = λ s e n q. cc }
+word-law word.Other = record { spelt = refl; found = refl; some = λ s e n q. refl }
 
 abbrev pub endOf : Said → ℕ
 endOf f = 1 + length (letters (f .word))
@@ -134,13 +140,13 @@ pub form-complete : (f : Said) → Good f → WrittenRead f
 unfolding write wordAt endsIn
 form-complete f g =
     let r : List ℕ = writeValues (shapeOf (f .word)) (f .values) in
-    let x = spelt (f .word) in
+    let x = word-law (f .word) in
     let stop = values-stop (shapeOf (f .word)) (f .values) .no-label in
-    let l = label-at (write f) 1 (letters (f .word)) r (x .0) refl stop in
-    let w : wordAt (write f) 1 ≡ f .word = rw (l .0) (x .1) in
+    let l = label-at (write f) 1 (letters (f .word)) r (x .spelt) refl stop in
+    let w : wordAt (write f) 1 ≡ f .word = rw (l .0) (x .found) in
     record {
       word = w;
-      ends = rw (run-reads (write f) 1 labelByte (letters (f .word)) r (g .word) (x .0) refl stop, w) (parts-complete (shapeOf (f .word)) (f .values) (g .values) (write f) (endOf f) (after-word f));
+      ends = rw (run-reads (write f) 1 labelByte (letters (f .word)) r (g .word) (x .spelt) refl stop, w) (parts-complete (shapeOf (f .word)) (f .values) (g .values) (write f) (endOf f) (after-word f));
     }
 
 -- the nodes that are put into the area are those of the tree that the line writes
@@ -290,11 +296,18 @@ parts-sound (k ∷ ks) s at es =
         λ _. never-read
 
 -- a word that is found is written by its letters
+each-lettered : (ws : List Word) → wordTexts (map (λ w. (letters w, w)) ws) ≡ true → Every (λ w t. (t ≡ letters w) × (1 ≤ length (letters w))) (map (λ w. (letters w, w)) ws)
+each-lettered [] g = tt
+each-lettered (w ∷ ws) g =
+    let rest = wordTexts (map (λ w. (letters w, w)) ws) in (
+      (refl, leb-true 1 (length (letters w)) (and-left (leb 1 (length (letters w))) (leb (length (letters w)) 8 && all labelByte (letters w)) (and-left (wordText (letters w)) rest g))),
+      each-lettered ws (and-right (wordText (letters w)) rest g),
+    )
+
 word-found : (s : List ℕ) (at : ℕ) → (wordAt s at ≡ word.Other) ⊎ ((labelAt s at ≡ letters (wordAt s at)) × (1 ≤ length (letters (wordAt s at))))
-unfolding wordAt
+unfolding wordAt labelByte all
 word-found s at =
-    among-or (λ w t. (t ≡ letters w) × (1 ≤ length (letters w))) word.Other words (labelAt s at)
-    ((refl, omega arith), ((refl, omega arith), ((refl, omega arith), ((refl, omega arith), ((refl, omega arith), ((refl, omega arith), ((refl, omega arith), ((refl, omega arith), ((refl, omega arith), ((refl, omega arith), ((refl, omega arith), ((refl, omega arith), ((refl, omega arith), ((refl, omega arith), ((refl, omega arith), tt)))))))))))))))
+    among-or (λ w t. (t ≡ letters w) × (1 ≤ length (letters w))) word.Other words (labelAt s at) (each-lettered formWords refl)
 
 -- A line whose word and parts were read is a good form, written
 pub form-sound : (s es : List ℕ) → labelAt s 1 ≡ letters (wordAt s 1) → 1 ≤ length (letters (wordAt s 1)) → endsIn s ≡ are es → (f : Said) × Good f × (s ≡ write f)
@@ -322,26 +335,8 @@ read-or-none s = go (endsIn s) refl (word-found s 1)
     go (are es) q (inl o) = inl (rw (q, o))
     go (are es) q (inr (l, n)) = inr (form-sound s es l n q)
 
-form-some : (w : Word) (s : List ℕ) (e : ℕ → ℕ) (n : ℕ) → formWith w s e n ≡ NoForm → length (letters w) ≡ 0
-form-some word.Subject s e n q = cc
-form-some word.Isa s e n q = cc
-form-some word.Rule s e n q = cc
-form-some word.Root s e n q = cc
-form-some word.Child s e n q = cc
-form-some word.User s e n q = cc
-form-some word.View s e n q = cc
-form-some word.Query s e n q = cc
-form-some word.Find s e n q = cc
-form-some word.Rename s e n q = cc
-form-some word.Update s e n q = cc
-form-some word.Append s e n q = cc
-form-some word.Before s e n q = cc
-form-some word.After s e n q = cc
-form-some word.Remove s e n q = cc
-form-some word.Other s e n q = refl
-
 placed-some : (f : Said) → Good f → placed f ≡ NoForm → ⊥
-placed-some f g e = omega (arith, g .word, form-some (f .word) _ _ _ e)
+placed-some f g e = omega (arith, g .word, word-law (f .word) .some _ _ _ e)
 
 pub read-said : (s : List ℕ) → (readForm s ≡ NoForm → ⊥) → (f : Said) × Good f × (s ≡ write f)
 read-said s h = go (read-or-none s)
@@ -420,7 +415,7 @@ unfolding write
 unique f g a b e =
     let w : f .word ≡ g .word = sym (form-complete f a .word) ∙ ap (λ (s : List ℕ). wordAt s 1) e ∙ form-complete g b .word in
     let t : letters (f .word) ++ writeValues (shapeOf (f .word)) (f .values) ≡ letters (g .word) ++ writeValues (shapeOf (g .word)) (g .values) = cc in
-    let u = label-unique (letters (f .word)) (letters (g .word)) _ _ (spelt (f .word) .0) (spelt (g .word) .0) (values-stop (shapeOf (f .word)) (f .values) .no-label) (values-stop (shapeOf (g .word)) (g .values) .no-label) t in
+    let u = label-unique (letters (f .word)) (letters (g .word)) _ _ (word-law (f .word) .spelt) (word-law (g .word) .spelt) (values-stop (shapeOf (f .word)) (f .values) .no-label) (values-stop (shapeOf (g .word)) (g .values) .no-label) t in
     subst (λ (v : Word). (vs : Values (shapeOf v)) → GoodValues (shapeOf v) vs → writeValues (shapeOf (f .word)) (f .values) ≡ writeValues (shapeOf v) vs → f ≡ said v vs) w
     (λ vs h q. ap (said (f .word)) (values-unique (shapeOf (f .word)) (f .values) vs (a .values) h q))
     (g .values) (b .values) (u .1)

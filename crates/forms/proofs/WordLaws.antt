@@ -130,6 +130,22 @@ numbered-among other [] g s at = refl
 numbered-among other ((w, x) ∷ rest) g s at =
     rw (same-at s at w (and-left (wordText w) (wordTexts rest) g), numbered-among other rest (and-right (wordText w) (wordTexts rest) g) s at)
 
+-- A number that is none of a table's: what a `match` on the numbers leaves
+abbrev pub Missing : {A : Type 0} → Type 0 → List (List ℕ × A) → ℕ → Type 0
+Missing X [] n = X
+Missing X ((w, x) ∷ rest) n = Missing (X × (n ≡ number w → ⊥)) rest n
+
+missing-first : {A : Type 0} (X : Type 0) (t : List (List ℕ × A)) (n : ℕ) → Missing X t n → X
+missing-first X [] n h = h
+missing-first X ((w, x) ∷ rest) n h = missing-first (X × (n ≡ number w → ⊥)) rest n h .0
+
+pub finds-none : {A : Type 0} (X : Type 0) (other : A) (t : List (List ℕ × A)) (n : ℕ) → Missing X t n → other ≡ byNumber other t n
+unfolding byNumber
+finds-none X other [] n h = refl
+finds-none X other ((w, x) ∷ rest) n h =
+    let y = X × (n ≡ number w → ⊥) in
+    rw (ne-eqb n (number w) (missing-first y rest n h .1)) (finds-none y other rest n h)
+
 -- What every entry of a table is to its text, what is looked up is to the text that it is looked up by
 abbrev pub Every : {A : Type 0} → (A → List ℕ → Type 0) → List (List ℕ × A) → Type 0
 Every R [] = Unit {0}

@@ -1,48 +1,24 @@
 -- How a line's form is read (document 01, "Lines"): its word, then the parts of the word's shape. What is read stands in FormText.
--- A new form is a word with its letters, a variant of Form, and a clause in shapeOf and in formWith.
-use Prim.Native.Nat.{ℕ, suc, _+_, _-_, _<_}
+use Prim.Native.Nat.{ℕ, suc, _+_, _-_, _^_, _<_}
 use mathlib.Core.Path.{_≡_}
 use mathlib.Core.Bool.{Bool, true, false, cond, _&&_}
-use mathlib.Core.List.{List, [], _∷_, _++_, map}
-use lib.ListN.{length, getD, replicate}
+use mathlib.Core.List.{List, [], _∷_, _++_}
+use lib.ListN.{length, getD}
 use lib.Dec.{leb, eqb}
 use Rattle.rights.specs.Bytes.{byteAt}
 use Rattle.rights.specs.Labels.{labelByte}
 use Rattle.rights.specs.Nodes.{Node}
 use Rattle.rights.specs.declared.path.Read.{Read}
 use Rattle.rights.specs.declared.path.Read.the-variants.{At, Bad}
-use Rattle.forms.specs.declared.word.Word.{Word}
-use Rattle.forms.specs.declared.word.Word.the-variants as word
+use Rattle.forms.specs.declared.layout.Word.{Word}
 use Rattle.forms.specs.declared.form.Part.{Part}
 use Rattle.forms.specs.declared.form.Form.{Form}
-use Rattle.forms.specs.declared.form.Form.the-variants.{Subject, Isa, Rule, Root, Child, User, View, Query, Find, Rename, Update, Append, Before, After, Remove, NoForm}
-use Rattle.forms.specs.Word.{wordAt, signAt, rightAt}
+use Rattle.forms.specs.declared.form.Form.the-variants.{NoForm}
+use Rattle.forms.specs.Word.{signAt, rightAt}
+use Rattle.forms.specs.Layout.{Holds, FormOf, layout, shapeOf, wordAt}
 use Rattle.forms.specs.Part.{runEnd}
-use Rattle.forms.specs.Kind.{Kind, Label, Path, Tree, Sign, Right, codeOf, isTree, partEnd, endBy}
+use Rattle.forms.specs.Kind.{Kind, Label, Path, Tree, Sign, Right, isTree, partEnd, endBy}
 use Rattle.forms.specs.Tree.{_andThen_, treeNodes}
-
--- the parts of each form
-abbrev pub shapeOf : Word → List Kind
-shapeOf word.Subject = Label ∷ []
-shapeOf word.Isa = Label ∷ Label ∷ []
-shapeOf word.Rule = Sign ∷ Right ∷ Path ∷ Label ∷ []
-shapeOf word.Root = Label ∷ []
-shapeOf word.Child = Tree ∷ []
-shapeOf word.User = Label ∷ []
-shapeOf word.View = []
-shapeOf word.Query = Path ∷ []
-shapeOf word.Find = Path ∷ []
-shapeOf word.Rename = Path ∷ Label ∷ []
-shapeOf word.Update = Path ∷ Label ∷ []
-shapeOf word.Append = Path ∷ Tree ∷ []
-shapeOf word.Before = Path ∷ Tree ∷ []
-shapeOf word.After = Path ∷ Tree ∷ []
-shapeOf word.Remove = Path ∷ []
-shapeOf word.Other = []
-
--- the same by the kinds' numbers, as the code has it: at most four, and 0 after the last
-unfoldable pub codesOf : List Kind → List ℕ
-codesOf ks = map codeOf ks ++ replicate (1 + (4 - length ks)) 0
 
 -- "Parts are parted by one space": a space and a part
 abbrev pub onePart : Kind → List ℕ → ℕ → Read
@@ -74,6 +50,10 @@ partsOf (k ∷ ks) s at = onePart k s at andThen (none, λ e. (at ∷ []) onTo p
 abbrev pub placeIn : List ℕ → ℕ → ℕ
 placeIn es i = getD es i 0
 
+-- five places, each with room for a step
+abbrev pub Ends : List ℕ → Type 0
+Ends es = (length es ≡ 5) × ((i : ℕ) → placeIn es i + 1 < 2 ^ 64)
+
 -- the part that follows a space at a, up to b
 abbrev pub part : ℕ → ℕ → Part
 part a b = record { at = a + 1; end = b }
@@ -91,24 +71,22 @@ abbrev pub nodesAt : List ℕ → Read → List Node
 nodesAt s (At i) = treeNodes s i
 nodesAt s Bad = []
 
+-- what a form holds of the part of kind k that stands after place i; its tree has n nodes
+abbrev pub heldAt : (k : Kind) → List ℕ → (ℕ → ℕ) → ℕ → ℕ → Holds k
+heldAt Label s e n i = partAt e i
+heldAt Path s e n i = partAt e i
+heldAt Tree s e n i = n
+heldAt Sign s e n i = eqb (signAt s (e i + 1)) 1
+heldAt Right s e n i = rightAt s (e i + 1)
+
+-- a form made of the parts that stand after place i
+abbrev pub madeOf : (ks : List Kind) → FormOf ks → List ℕ → (ℕ → ℕ) → ℕ → ℕ → Form
+madeOf [] f s e n i = f
+madeOf (k ∷ ks) f s e n i = madeOf ks (f (heldAt k s e n i)) s e n (suc i)
+
 -- the form of a word whose parts stand after the places e; its tree has n nodes
 abbrev pub formWith : Word → List ℕ → (ℕ → ℕ) → ℕ → Form
-formWith word.Subject s e n = Subject (partAt e 0)
-formWith word.Isa s e n = Isa (partAt e 0) (partAt e 1)
-formWith word.Rule s e n = Rule (eqb (signAt s (e 0 + 1)) 1) (rightAt s (e 1 + 1)) (partAt e 2) (partAt e 3)
-formWith word.Root s e n = Root (partAt e 0)
-formWith word.Child s e n = Child n
-formWith word.User s e n = User (partAt e 0)
-formWith word.View s e n = View
-formWith word.Query s e n = Query (partAt e 0)
-formWith word.Find s e n = Find (partAt e 0)
-formWith word.Rename s e n = Rename (partAt e 0) (partAt e 1)
-formWith word.Update s e n = Update (partAt e 0) (partAt e 1)
-formWith word.Append s e n = Append (partAt e 0) n
-formWith word.Before s e n = Before (partAt e 0) n
-formWith word.After s e n = After (partAt e 0) n
-formWith word.Remove s e n = Remove (partAt e 0)
-formWith word.Other s e n = NoForm
+formWith w s e n = madeOf (shapeOf w) (layout w .form) s e n 0
 
 abbrev pub nodesBy : Word → List ℕ → Places → List Node
 nodesBy w s (are es) = nodesAt s (treePlace (shapeOf w) 0 (placeIn es))

@@ -7,12 +7,12 @@ use lib.ListN.{length}
 use Rattle.rights.specs.Bytes.{bytes, all}
 use Rattle.rights.specs.Policy.{Right, position, read, insert, update, delete}
 use Rattle.rights.specs.Nodes.{Node}
-use Rattle.forms.specs.declared.word.Word.{Word}
-use Rattle.forms.specs.Word.{letters, accept, deny}
+use Rattle.forms.specs.declared.layout.Word.{Word}
+use Rattle.forms.specs.Word.{accept, deny}
 use Rattle.forms.specs.Part.{pathByte}
 use Rattle.forms.specs.Kind.{Kind}
 use Rattle.forms.specs.Kind as kind
-use Rattle.forms.specs.Form.{shapeOf}
+use Rattle.forms.specs.Layout.{letters, shapeOf}
 use Rattle.rights.specs.Tree.{Tree, writeTree, nodesOf}
 use Rattle.forms.specs.TreeText.{GoodTree, GoodLabel}
 

@@ -3,6 +3,7 @@ pub mod Word
 pub mod Part
 pub mod Tree
 pub mod Kind
+pub mod Layout
 pub mod Form
 pub mod TreeText
 pub mod FormText

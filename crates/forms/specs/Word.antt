@@ -1,4 +1,4 @@
--- The words of a line: those that begin a form, accept and deny, and the rights (document 01, "Lines").
+-- Words by their letters: accept and deny, and the rights (document 01, "Lines"). Those that begin a form stand in Layout.
 use Prim.Native.Nat.{ℕ, _+_, _*_}
 use mathlib.Core.Bool.{Bool, true, false, cond, _&&_}
 use mathlib.Core.List.{List, [], _∷_}
@@ -8,27 +8,6 @@ use Rattle.rights.specs.Bytes.{bytes}
 use Rattle.rights.specs.Labels.{labelByte}
 use Rattle.rights.specs.PathReader.{runAt}
 use Rattle.rights.specs.Policy.{bitOf, position, read, insert, update, delete}
-use Rattle.forms.specs.declared.word.Word.{Word}
-use Rattle.forms.specs.declared.word.Word.the-variants.{Subject, Isa, Rule, Root, Child, User, View, Query, Find, Rename, Update, Append, Before, After, Remove, Other}
-
--- how each form's word is written
-abbrev pub letters : Word → List ℕ
-letters Subject = bytes "subject"
-letters Isa = bytes "isa"
-letters Rule = bytes "rule"
-letters Root = bytes "root"
-letters Child = bytes "child"
-letters User = bytes "user"
-letters View = bytes "view"
-letters Query = bytes "query"
-letters Find = bytes "find"
-letters Rename = bytes "rename"
-letters Update = bytes "update"
-letters Append = bytes "append"
-letters Before = bytes "before"
-letters After = bytes "after"
-letters Remove = bytes "remove"
-letters Other = []
 
 abbrev pub accept : List ℕ
 accept = bytes "accept"
@@ -37,25 +16,6 @@ abbrev pub deny : List ℕ
 deny = bytes "deny"
 
 -- tables of texts and what each stands for
-abbrev pub words : List (List ℕ × Word)
-words =
-    (letters Subject, Subject)
-    ∷ (letters Isa, Isa)
-    ∷ (letters Rule, Rule)
-    ∷ (letters Root, Root)
-    ∷ (letters Child, Child)
-    ∷ (letters User, User)
-    ∷ (letters View, View)
-    ∷ (letters Query, Query)
-    ∷ (letters Find, Find)
-    ∷ (letters Rename, Rename)
-    ∷ (letters Update, Update)
-    ∷ (letters Append, Append)
-    ∷ (letters Before, Before)
-    ∷ (letters After, After)
-    ∷ (letters Remove, Remove)
-    ∷ []
-
 abbrev pub signs : List (List ℕ × ℕ)
 signs = (accept, 1) ∷ (deny, 2) ∷ []
 
@@ -84,10 +44,7 @@ among other ((w, x) ∷ rest) s = cond (sameText s w) x (among other rest s)
 abbrev pub labelAt : List ℕ → ℕ → List ℕ
 labelAt s at = take (runAt labelByte s at) (drop at s)
 
--- the word that they write; the sign's number and the right's bit, and 0 if they write none
-unfoldable pub wordAt : List ℕ → ℕ → Word
-wordAt s at = among Other words (labelAt s at)
-
+-- the sign's number and the right's bit that they write, and 0 if they write none
 unfoldable pub signAt : List ℕ → ℕ → ℕ
 signAt s at = among 0 signs (labelAt s at)
 

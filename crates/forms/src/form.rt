@@ -1,25 +1,23 @@
-// Reading a line's form (document 01, "Lines"): its word, then the parts of the word's shape.
+// Reading a line's form (document 01, "Lines"): its word, then the parts of its layout.
 use crate::kind::END;
-use crate::kind::LABEL;
-use crate::kind::PATH;
-use crate::kind::RIGHT;
-use crate::kind::SIGN;
 use crate::kind::TREE;
 use crate::kind::WORD;
+use crate::layout::Layout;
+use crate::layout::Word;
+use crate::layout::layout_at;
 use crate::reader::next_part;
 use crate::tree::put_tree;
-use crate::word::Word;
 use crate::word::right_at;
 use crate::word::sign_at;
-use crate::word::word_at;
 use rights::path::Read;
 ghost use mathlib.Core.Path.{_≡_};
-ghost use Prim.Native.Nat.{ℕ, _+_, _*_, _^_, _≤_, _<_};
+ghost use Prim.Native.Nat.{ℕ, _+_, _*_, _≤_, _<_};
 ghost use lib.ListN.{length};
 ghost use Rattle.rights.specs.PathReader.{Onward};
 ghost use Rattle.rights.specs.Record.{pasted};
 ghost use Rattle.forms.specs.Tree.{recordsOf};
-ghost use Rattle.forms.specs.Form.{shapeOf, codesOf, oneBy, closes, partsOf, placeIn, partAt, PartsPut, nodesAt, treePlace, formWith, readForm, treeIn};
+ghost use Rattle.forms.specs.Layout.{LaidOut, shapeOf};
+ghost use Rattle.forms.specs.Form.{oneBy, closes, partsOf, placeIn, Ends, partAt, PartsPut, nodesAt, treePlace, formWith, readForm, treeIn};
 
 // The bytes of the line from `at` up to `end`.
 pub struct Part {
@@ -49,30 +47,6 @@ pub enum Form {
     NoForm,
 }
 
-// The kinds of the parts of a form, in order.
-fn shape_of(w: Word) -> [u8; 5]
-    ensures { λ r. ⌜ (r ≡ codesOf (shapeOf w)) × (length r ≡ 5) ⌝ }
-{
-    match w {
-        Word::Subject => [LABEL, END, END, END, END],
-        Word::Isa => [LABEL, LABEL, END, END, END],
-        Word::Rule => [SIGN, RIGHT, PATH, LABEL, END],
-        Word::Root => [LABEL, END, END, END, END],
-        Word::Child => [TREE, END, END, END, END],
-        Word::User => [LABEL, END, END, END, END],
-        Word::View => [END, END, END, END, END],
-        Word::Query => [PATH, END, END, END, END],
-        Word::Find => [PATH, END, END, END, END],
-        Word::Rename => [PATH, LABEL, END, END, END],
-        Word::Update => [PATH, LABEL, END, END, END],
-        Word::Append => [PATH, TREE, END, END, END],
-        Word::Before => [PATH, TREE, END, END, END],
-        Word::After => [PATH, TREE, END, END, END],
-        Word::Remove => [PATH, END, END, END, END],
-        Word::Other => [END, END, END, END, END],
-    }
-}
-
 // A space and a part of kind k.
 fn one_part(s: &[u8], at: usize, k: u8) -> Read
     requires { ⌜ at ≤ length (now s) ⌝ }
@@ -100,13 +74,13 @@ fn closed(s: &[u8], at: usize) -> bool
     s.len() <= at + 1
 }
 
-// Whether the parts of w's shape stand from `at` on, with `)` as the last byte. The places after the word and after each part are put into `ends`.
-fn parts(s: &[u8], at: usize, w: Word, ends: &mut [usize; 5]) -> bool
-    requires { ⌜ (at ≤ length (now s)) × (length (now ends) ≡ 5) × ((i : ℕ) → placeIn (now ends) i ≡ 0) ⌝ }
-    ensures { λ r. ⌜ PartsPut (partsOf (shapeOf w) (now (s .entry)) at) r (now (ends .exit)) (length (now (s .entry)))
+// Whether parts of the layout's kinds stand from `at` on, with `)` as the last byte. The places after the word and after each part are put into `ends`.
+fn parts(s: &[u8], at: usize, l: Layout, ends: &mut [usize; 5]) -> bool
+    requires { ⌜ (at ≤ length (now s)) × LaidOut (l .word) l × (length (now ends) ≡ 5) × ((i : ℕ) → placeIn (now ends) i ≡ 0) ⌝ }
+    ensures { λ r. ⌜ PartsPut (partsOf (shapeOf (l .word)) (now (s .entry)) at) r (now (ends .exit)) (length (now (s .entry)))
         × (length (now (ends .exit)) ≡ 5) ⌝ }
 {
-    let kinds = shape_of(w);
+    let kinds = l.kinds;
     let mut e = at;
     let mut i = 0;
     while kinds[i] != END {
@@ -121,12 +95,12 @@ fn parts(s: &[u8], at: usize, w: Word, ends: &mut [usize; 5]) -> bool
     closed(s, e)
 }
 
-// Where the tree of a form of word w stands.
-fn tree_place(w: Word, ends: &[usize; 5]) -> Read
-    requires { ⌜ (length (now ends) ≡ 5) × ((i : ℕ) → placeIn (now ends) i + 1 < 2 ^ 64) ⌝ }
-    ensures { λ r. ⌜ r ≡ treePlace (shapeOf w) 0 (placeIn (now (ends .entry))) ⌝ }
+// Where the tree of a form stands.
+fn tree_place(l: Layout, ends: &[usize; 5]) -> Read
+    requires { ⌜ LaidOut (l .word) l × Ends (now ends) ⌝ }
+    ensures { λ r. ⌜ r ≡ treePlace (shapeOf (l .word)) 0 (placeIn (now (ends .entry))) ⌝ }
 {
-    let kinds = shape_of(w);
+    let kinds = l.kinds;
     let mut i = 0;
     while kinds[i] != END {
         if kinds[i] == TREE {
@@ -151,7 +125,7 @@ fn put_tree_at(s: &[u8], place: Read, tree: &mut [u8]) -> usize
 
 // The part that stands after place i.
 fn part_at(ends: &[usize; 5], i: usize) -> Part
-    requires { ⌜ (i < 4) × (length (now ends) ≡ 5) × (placeIn (now ends) i + 1 < 2 ^ 64) ⌝ }
+    requires { ⌜ (i < 4) × Ends (now ends) ⌝ }
     ensures { λ r. ⌜ r ≡ partAt (placeIn (now (ends .entry))) i ⌝ }
 {
     Part {
@@ -162,7 +136,7 @@ fn part_at(ends: &[usize; 5], i: usize) -> Part
 
 // The rule of a line.
 fn rule_form(s: &[u8], ends: &[usize; 5]) -> Form
-    requires { ⌜ (length (now ends) ≡ 5) × ((i : ℕ) → placeIn (now ends) i < length (now s)) ⌝ }
+    requires { ⌜ Ends (now ends) × ((i : ℕ) → placeIn (now ends) i < length (now s)) ⌝ }
     ensures { λ r. ⌜ r ≡ formWith Word.Rule (now (s .entry)) (placeIn (now (ends .entry))) 0 ⌝ }
 {
     let accept = sign_at(s, ends[0] + 1) == 1;
@@ -172,12 +146,13 @@ fn rule_form(s: &[u8], ends: &[usize; 5]) -> Form
 
 // The form of a line of word w, whose tree has n nodes.
 fn build(s: &[u8], w: Word, ends: &[usize; 5], n: usize) -> Form
-    requires { ⌜ (length (now ends) ≡ 5) × ((i : ℕ) → placeIn (now ends) i < length (now s)) ⌝ }
+    requires { ⌜ Ends (now ends) × ((i : ℕ) → placeIn (now ends) i < length (now s)) ⌝ }
     ensures { λ r. ⌜ r ≡ formWith w (now (s .entry)) (placeIn (now (ends .entry))) n ⌝ }
 {
     let first = part_at(ends, 0);
     let second = part_at(ends, 1);
     match w {
+        Word::Other => Form::NoForm,
         Word::Subject => Form::Subject(first),
         Word::Isa => Form::Isa(first, second),
         Word::Rule => rule_form(s, ends),
@@ -193,7 +168,6 @@ fn build(s: &[u8], w: Word, ends: &[usize; 5], n: usize) -> Form
         Word::Before => Form::Before(first, n),
         Word::After => Form::After(first, n),
         Word::Remove => Form::Remove(first),
-        Word::Other => Form::NoForm,
     }
 }
 
@@ -211,10 +185,11 @@ pub fn read_form(s: &[u8], tree: &mut [u8]) -> Form
     let Read::At(e) = next_part(s, 1, WORD) else {
         return Form::NoForm;
     };
-    let w = word_at(s, 1);
+    let l = layout_at(s, 1);
     let mut ends = [0usize; 5];
-    if parts(s, e, w, &mut ends) {
-        let n = put_tree_at(s, tree_place(w, &ends), tree);
+    if parts(s, e, l, &mut ends) {
+        let n = put_tree_at(s, tree_place(l, &ends), tree);
+        let w = l.word;
         return build(s, w, &ends, n);
     }
     Form::NoForm

@@ -1,29 +1,10 @@
-// The words of a line: those that begin a form, accept and deny, and the rights (document 01, "Lines").
+// Words by their letters: accept and deny, and the rights (document 01, "Lines"). Those that begin a form stand in layout.
 use crate::limits::WORD_MAX;
 use rights::path::label_end;
 ghost use mathlib.Core.Path.{_≡_};
 ghost use Prim.Native.Nat.{_+_, _-_, _≤_};
 ghost use lib.ListN.{length, take, drop};
-ghost use Rattle.forms.specs.Word.{number, numberAt, byNumber, words, signs, rights, wordAt, signAt, rightAt};
-
-pub enum Word {
-    Subject,
-    Isa,
-    Rule,
-    Root,
-    Child,
-    User,
-    View,
-    Query,
-    Find,
-    Rename,
-    Update,
-    Append,
-    Before,
-    After,
-    Remove,
-    Other,
-}
+ghost use Rattle.forms.specs.Word.{number, numberAt, byNumber, signs, rights, signAt, rightAt};
 
 // The bytes from a up to e as a number, the first lowest.
 fn word_number(s: &[u8], a: usize, e: usize) -> u64
@@ -40,7 +21,7 @@ fn word_number(s: &[u8], a: usize, e: usize) -> u64
 }
 
 // The label bytes at `at` as a number; 0, which no word has, if they are too many for a word.
-fn number_at(s: &[u8], at: usize) -> u64
+pub fn number_at(s: &[u8], at: usize) -> u64
     requires { ⌜ at ≤ length (now s) ⌝ }
     ensures { λ r. ⌜ r ≡ numberAt (now (s .entry)) at ⌝ }
 {
@@ -49,29 +30,6 @@ fn number_at(s: &[u8], at: usize) -> u64
         return 0;
     }
     word_number(s, at, e)
-}
-
-fn numbered_word(n: u64) -> Word
-    ensures { λ r. ⌜ r ≡ byNumber Word.Other words n ⌝ }
-{
-    match n {
-        32760384526120307 => Word::Subject,
-        6386537 => Word::Isa,
-        1701606770 => Word::Rule,
-        1953460082 => Word::Root,
-        431315576931 => Word::Child,
-        1919251317 => Word::User,
-        2003134838 => Word::View,
-        521610294641 => Word::Query,
-        1684957542 => Word::Find,
-        111520460465522 => Word::Rename,
-        111550524584053 => Word::Update,
-        110425311047777 => Word::Append,
-        111542169658722 => Word::Before,
-        491328398945 => Word::After,
-        111559349986674 => Word::Remove,
-        _ => Word::Other,
-    }
 }
 
 fn numbered_sign(n: u64) -> u8
@@ -95,14 +53,6 @@ fn numbered_right(n: u64) -> u8
         111550592214372 => 16,
         _ => 0,
     }
-}
-
-// The word of a form that stands at `at`.
-pub fn word_at(s: &[u8], at: usize) -> Word
-    requires { ⌜ at ≤ length (now s) ⌝ }
-    ensures { λ r. ⌜ r ≡ wordAt (now (s .entry)) at ⌝ }
-{
-    numbered_word(number_at(s, at))
 }
 
 // 1 for `accept` and 2 for `deny` at `at`; 0 if neither stands there.

@@ -27,7 +27,8 @@ use Rattle.views.specs.Change.{dropBelow, putBehind, remove, insertBehind, rena
 use Rattle.views.specs.Done.{inTable}
 use Rattle.answers.specs.Answer.{hitLines, childLines, viewText}
 use Rattle.answers.specs.AnswerChoice.{Choice}
-use Rattle.forms.specs.Word.{sameText, among, wordAt, signAt, rightAt}
+use Rattle.forms.specs.Word.{sameText, among, signAt, rightAt}
+use Rattle.forms.specs.Layout.{wordAt}
 use Rattle.forms.specs.Part.{pathByte, labelEnd, runEnd, knownEnd}
 use Rattle.forms.specs.Tree.{openEnd, tailEnd, treeEnd, tailNodes, treeNodes, recordsOf}
 use Rattle.forms.specs.Form.{partsOf, treePlace, endsIn, readForm, treeIn}

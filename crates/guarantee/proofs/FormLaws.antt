@@ -17,7 +17,7 @@ use Rattle.answers.specs.AnswerChoice.{Choice}
 use Rattle.forms.specs.Form.{readForm, treeIn}
 use Rattle.forms.specs.Tree.{recordsOf}
 use Rattle.forms.specs.declared.form.Form.{Form}
-use Rattle.forms.specs.declared.form.Form.the-variants.{Subject, Isa, Rule, Root, Child, User, View, Query, Find, Rename, Update, Append, Before, After, Remove, NoForm}
+use Rattle.forms.specs.declared.form.Form.the-variants as form
 use Rattle.lines.specs.PolicyEdit.{subjectNamed, isUnknown, numberIn}
 use Rattle.lines.specs.State.{stageE, stage, policyIn, storeOk}
 use Rattle.lines.specs.Effect.{login, Work}
@@ -97,7 +97,7 @@ module _ (u : ℕ) (s t s' t' : List ℕ) (h : Tied u s t s' t') where
     effect = removals (doneIn change.Remove s t path) (doneIn change.Remove s' t' path) (done-both u s t s' t' h change.Remove path);
   }
 
-  none-alike : (choice : Choice) (line : List ℕ) → Alike (workOf choice NoForm s t line []) (workOf choice NoForm s' t' line [])
+  none-alike : (choice : Choice) (line : List ℕ) → Alike (workOf choice form.NoForm s t line []) (workOf choice form.NoForm s' t' line [])
   unfolding ChecksAlike
   none-alike choice line = record { checks = (same _ _, tt); text = refl; effect = readings }
 
@@ -118,43 +118,43 @@ module _ (choice : Choice) (line : List ℕ) where
   early i = absurd (false≢true i)
 
   form-law : (f : Form) → Fits line f → FormLaw choice line f
-  form-law (Subject n) w = record { sound = λ s t ok i p. subject-sound s t ok (bytesOf line n) i (w .good) p; alike = λ u s t s' t' h i. early i }
-  form-law (Isa n r) w = record { sound = λ s t ok i p. isa-sound s t ok (bytesOf line n) (bytesOf line r) i p; alike = λ u s t s' t' h i. early i }
-  form-law (Rule a b p n) w = record {
-    sound = λ s t ok i q. rule-sound s t ok a b (bytesOf line p) (bytesOf line n) i (w .2 .0) (w .2 .1) q;
+  form-law (form.Subject n) w = record { sound = λ s t ok i p. subject-sound s t ok (bytesOf line n) i w p; alike = λ u s t s' t' h i. early i }
+  form-law (form.Isa n r) w = record { sound = λ s t ok i p. isa-sound s t ok (bytesOf line n) (bytesOf line r) i p; alike = λ u s t s' t' h i. early i }
+  form-law (form.Rule a b p n) w = record {
+    sound = λ s t ok i q. rule-sound s t ok a b (bytesOf line p) (bytesOf line n) i (w .0) (w .1) q;
     alike = λ u s t s' t' h i. early i;
   }
-  form-law (Root l) w = record { sound = λ s t ok i p. root-sound s t ok (bytesOf line l) i (w .good) p; alike = λ u s t s' t' h i. early i }
-  form-law (Child m) w = record { sound = λ s t ok i p. child-sound s t ok line m i w p; alike = λ u s t s' t' h i. early i }
-  form-law (User n) w = record { sound = λ s t ok i p. user-sound s t ok line n i p; alike = λ u s t s' t' h i. user-alike u s t s' t' h (bytesOf line n) }
-  form-law View w = record { sound = λ s t ok i p. tt; alike = λ u s t s' t' h i. view-alike u s t s' t' h }
-  form-law (Query p) w = record { sound = λ s t ok i q. tt; alike = λ u s t s' t' h i. ask-alike u s t s' t' h choice ask.Query (bytesOf line p) }
-  form-law (Find p) w = record { sound = λ s t ok i q. tt; alike = λ u s t s' t' h i. ask-alike u s t s' t' h choice ask.Find (bytesOf line p) }
-  form-law (Rename p l) w = record {
-    sound = λ s t ok i q. rename-sound s t ok change.Rename (bytesOf line p) (bytesOf line l) i rename-frees (w .1 .good) q;
+  form-law (form.Root l) w = record { sound = λ s t ok i p. root-sound s t ok (bytesOf line l) i w p; alike = λ u s t s' t' h i. early i }
+  form-law (form.Child m) w = record { sound = λ s t ok i p. child-sound s t ok line m i w p; alike = λ u s t s' t' h i. early i }
+  form-law (form.User n) w = record { sound = λ s t ok i p. user-sound s t ok line n i p; alike = λ u s t s' t' h i. user-alike u s t s' t' h (bytesOf line n) }
+  form-law form.View w = record { sound = λ s t ok i p. tt; alike = λ u s t s' t' h i. view-alike u s t s' t' h }
+  form-law (form.Query p) w = record { sound = λ s t ok i q. tt; alike = λ u s t s' t' h i. ask-alike u s t s' t' h choice ask.Query (bytesOf line p) }
+  form-law (form.Find p) w = record { sound = λ s t ok i q. tt; alike = λ u s t s' t' h i. ask-alike u s t s' t' h choice ask.Find (bytesOf line p) }
+  form-law (form.Rename p l) w = record {
+    sound = λ s t ok i q. rename-sound s t ok change.Rename (bytesOf line p) (bytesOf line l) i rename-frees w q;
     alike = λ u s t s' t' h i. rename-alike u s t s' t' h change.Rename (bytesOf line p) (bytesOf line l);
   }
-  form-law (Update p l) w = record {
-    sound = λ s t ok i q. rename-sound s t ok change.Update (bytesOf line p) (bytesOf line l) i update-frees (w .1 .good) q;
+  form-law (form.Update p l) w = record {
+    sound = λ s t ok i q. rename-sound s t ok change.Update (bytesOf line p) (bytesOf line l) i update-frees w q;
     alike = λ u s t s' t' h i. rename-alike u s t s' t' h change.Update (bytesOf line p) (bytesOf line l);
   }
-  form-law (Append p m) w = record {
-    sound = λ s t ok i q. insert-sound s t ok line place.Append (bytesOf line p) m i (w .1) q;
+  form-law (form.Append p m) w = record {
+    sound = λ s t ok i q. insert-sound s t ok line place.Append (bytesOf line p) m i w q;
     alike = λ u s t s' t' h i. insert-alike u s t s' t' h place.Append (bytesOf line p) m (recordsOf (treeIn line));
   }
-  form-law (Before p m) w = record {
-    sound = λ s t ok i q. insert-sound s t ok line place.Before (bytesOf line p) m i (w .1) q;
+  form-law (form.Before p m) w = record {
+    sound = λ s t ok i q. insert-sound s t ok line place.Before (bytesOf line p) m i w q;
     alike = λ u s t s' t' h i. insert-alike u s t s' t' h place.Before (bytesOf line p) m (recordsOf (treeIn line));
   }
-  form-law (After p m) w = record {
-    sound = λ s t ok i q. insert-sound s t ok line place.After (bytesOf line p) m i (w .1) q;
+  form-law (form.After p m) w = record {
+    sound = λ s t ok i q. insert-sound s t ok line place.After (bytesOf line p) m i w q;
     alike = λ u s t s' t' h i. insert-alike u s t s' t' h place.After (bytesOf line p) m (recordsOf (treeIn line));
   }
-  form-law (Remove p) w = record {
+  form-law (form.Remove p) w = record {
     sound = λ s t ok i q. remove-sound s t ok p line i;
     alike = λ u s t s' t' h i. remove-alike u s t s' t' h (bytesOf line p);
   }
-  form-law NoForm w = record { sound = λ s t ok i p. tt; alike = λ u s t s' t' h i. none-alike u s t s' t' h choice line }
+  form-law form.NoForm w = record { sound = λ s t ok i p. tt; alike = λ u s t s' t' h i. none-alike u s t s' t' h choice line }
 
   -- the law of the form that was read
   pub read-law : FormLaw choice line (readForm line)

@@ -7,7 +7,7 @@ use lib.ListN.{length}
 use Rattle.rights.specs.Nodes.{Node}
 use Rattle.rights.specs.Tree.{Tree, tree, Trees, none, more, writeTree, nodesOf}
 use Rattle.forms.specs.declared.form.Form.the-variants.{Child}
-use Rattle.forms.specs.declared.word.Word.the-variants as word
+use Rattle.forms.specs.declared.layout.Word.the-variants as word
 use Rattle.forms.specs.TreeText.{GoodTree, GoodTrees}
 use Rattle.forms.specs.Form.{readForm, treeIn}
 use Rattle.forms.specs.FormText.{Said, writeValue, write, GoodValue, Good, nodesOr}

@@ -5,7 +5,7 @@ use mathlib.Core.Path.{_≡_, refl}
 use mathlib.Core.List.{List}
 use native.Mathlib.Omega.{arith}
 use Rattle.forms.specs.declared.form.Form.{Form}
-use Rattle.forms.specs.declared.form.Form.the-variants.{Subject, Isa, Rule, Root, Child, User, View, Query, Find, Rename, Update, Append, Before, After, Remove, NoForm}
+use Rattle.forms.specs.declared.form.Form.the-variants as form
 use Rattle.answers.specs.AnswerChoice.{Choice}
 use Rattle.lines.specs.Refusal.{Ordered, rising, placeIn}
 use Rattle.lines.specs.Effect.{checksIn, guarded}
@@ -14,19 +14,19 @@ use Rattle.store.specs.Line.{isNoForm, lineChecks, workOf}
 pub checks-ordered : (choice : Choice) (f : Form) (s t line tree : List ℕ) (room : ℕ) → isNoForm f ≡ false
     → Ordered (checksIn room (guarded (lineChecks s t line f) (workOf choice f s t line tree)))
 unfolding rising placeIn
-checks-ordered choice (Subject n) s t line tree room e = refl
-checks-ordered choice (Isa n r) s t line tree room e = refl
-checks-ordered choice (Rule a b p n) s t line tree room e = refl
-checks-ordered choice (Root l) s t line tree room e = refl
-checks-ordered choice (Child m) s t line tree room e = refl
-checks-ordered choice (User n) s t line tree room e = refl
-checks-ordered choice View s t line tree room e = refl
-checks-ordered choice (Query p) s t line tree room e = refl
-checks-ordered choice (Find p) s t line tree room e = refl
-checks-ordered choice (Rename p l) s t line tree room e = refl
-checks-ordered choice (Update p l) s t line tree room e = refl
-checks-ordered choice (Append p m) s t line tree room e = refl
-checks-ordered choice (Before p m) s t line tree room e = refl
-checks-ordered choice (After p m) s t line tree room e = refl
-checks-ordered choice (Remove p) s t line tree room e = refl
-checks-ordered choice NoForm s t line tree room e = absurd (let z : _≡_ {A = ℕ} 0 1 = cc in omega arith)
+checks-ordered choice (form.Subject n) s t line tree room e = refl
+checks-ordered choice (form.Isa n r) s t line tree room e = refl
+checks-ordered choice (form.Rule a b p n) s t line tree room e = refl
+checks-ordered choice (form.Root l) s t line tree room e = refl
+checks-ordered choice (form.Child m) s t line tree room e = refl
+checks-ordered choice (form.User n) s t line tree room e = refl
+checks-ordered choice form.View s t line tree room e = refl
+checks-ordered choice (form.Query p) s t line tree room e = refl
+checks-ordered choice (form.Find p) s t line tree room e = refl
+checks-ordered choice (form.Rename p l) s t line tree room e = refl
+checks-ordered choice (form.Update p l) s t line tree room e = refl
+checks-ordered choice (form.Append p m) s t line tree room e = refl
+checks-ordered choice (form.Before p m) s t line tree room e = refl
+checks-ordered choice (form.After p m) s t line tree room e = refl
+checks-ordered choice (form.Remove p) s t line tree room e = refl
+checks-ordered choice form.NoForm s t line tree room e = absurd (let z : _≡_ {A = ℕ} 0 1 = cc in omega arith)

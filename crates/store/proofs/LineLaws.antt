@@ -1,27 +1,25 @@
 -- One line, by the tests that it meets and the form that was read. Assumes nothing.
-use Prim.Native.Nat.{ℕ, suc, _+_, _*_, _≤_, _<_}
+use Prim.Native.Nat.{ℕ, suc, _+_, _-_, _*_, _≤_, _<_}
 use mathlib.Core.Path.{_≡_, refl, sym, ap, _∙_, subst}
 use mathlib.Core.List.{List, [], _∷_, _++_, append-assoc}
-use mathlib.Core.Bool.{Bool, true, false, _&&_, Bool·beq, and-eq-true-iff}
+use mathlib.Core.Bool.{Bool, true, false, cond, _&&_, Bool·beq, and-eq-true-iff}
 use native.Mathlib.Omega.{arith}
 use borrow.Author.Tests.{leb-true, le-leb, lt-leb, leb-false, not-false}
 use lib.Dec.{leb, ltb}
-use lib.ListN.{length, take, drop, replicate, length-append, length-drop, length-replicate}
-use lib.Seq.{take-at}
+use lib.ListN.{length, take, drop, replicate, length-append, length-drop, length-replicate, drop-of-length-le}
+use lib.Seq.{take-at, take-all, take-nil}
 use Rattle.rights.specs.Record.{nodeRecord, pasted}
 use Rattle.rights.proofs.Lists.{byCase}
 use Rattle.rights.proofs.RecordMade.{length-node}
-use Rattle.views.specs.declared.done.Change.the-variants as change
-use Rattle.views.specs.declared.insert.Place.the-variants as place
 use Rattle.forms.specs.declared.form.Part.{Part}
 use Rattle.forms.specs.declared.form.Form.{Form}
-use Rattle.forms.specs.declared.form.Form.the-variants.{Subject, Isa, Rule, Root, Child, User, View, Query, Find, Rename, Update, Append, Before, After, Remove, NoForm}
+use Rattle.forms.specs.declared.form.Form.the-variants.{Root}
 use Rattle.forms.specs.Text.{lineOk}
 use Rattle.rights.specs.Nodes.{Node, node}
 use Rattle.forms.specs.Tree.{held, recordsOf}
 use Rattle.rights.specs.Tree as text
 use Rattle.rights.specs.Tree.{nodesOf, nodesIn}
-use Rattle.forms.specs.TreeText.{GoodTree, GoodTrees}
+use Rattle.forms.specs.TreeText.{GoodTree, GoodTrees, GoodLabel}
 use Rattle.forms.specs.Form.{readForm, treeIn}
 use Rattle.answers.specs.AnswerChoice.{Choice}
 use Rattle.lines.specs.State.{stage, storeOk}
@@ -30,24 +28,32 @@ use Rattle.lines.specs.Refusal.{checked, Passed, firstRefusal}
 use Rattle.lines.specs.Effect.{Work, guarded, performed, Performs}
 use Rattle.lines.specs.declared.line.Answer.{Answer}
 use Rattle.lines.specs.declared.line.Answer.the-variants.{Refused}
-use Rattle.lines.specs.declared.queries.Ask.the-variants as ask
 use Rattle.lines.proofs.OutcomeLaws.{made-at}
 use Rattle.lines.proofs.RefusalLaws.{first-behind, first-front, passed, passed-append, performs-refused, performed-guarded}
-use Rattle.lines.specs.Work.{workSubject, workIsa, workRule, workRoot, workChild, workUser, workView, workAsk, workRename, workInsert, workRemove}
-use Rattle.store.specs.Line.{stageOf, inStage, isNoForm, bytesOf, acceptByte, workOf, textChecks, formChecks, lineChecks, step}
-use Rattle.store.proofs.FormParts.{Within, LabelPart, TreePart, Fits, form-fits}
+use Rattle.store.specs.Line.{stageOf, inStage, isNoForm, workOf, textChecks, formChecks, lineChecks, step}
+use Rattle.store.proofs.FormParts.{TreePart, Fits, form-fits}
 
 -- the parts of a form that was read, where its variant is known
 pub fits-at : (line : List ℕ) {f g : Form} → f ≡ readForm line → f ≡ g → Fits line g
 fits-at line e q = subst (Fits line) (sym e ∙ q) (form-fits line)
 
--- what is asked of a part before it is taken
-pub asks : {line : List ℕ} {p : Part} → Within line p → (p .at ≤ p .end) × (p .end ≤ length line)
-asks w = (w .order, w .inside)
+-- the smaller of two numbers
+abbrev least : ℕ → ℕ → ℕ
+least a b = cond (leb a b) a b
+
+-- the bytes from a up to b, as far as they go
+pub part-clipped : (s : List ℕ) (a b : ℕ) → take (least b (length s) - least a (least b (length s))) (drop (least a (least b (length s))) s) ≡ take (b - a) (drop a s)
+part-clipped s a b = byCase (leb b (length s))
+    (λ e. rw e (byCase (leb a b)
+    (λ f. rw f)
+    (λ f. let z : b - b ≡ 0 = omega arith in let y : b - a ≡ 0 = omega (arith, leb-false a b f) in rw (f, z, y))))
+    (λ e. rw e (byCase (leb a (length s))
+    (λ f. rw f (take-all (length s - a) (drop a s) (omega (arith, length-drop a s)) ∙ sym (take-all (b - a) (drop a s) (omega (arith, length-drop a s, leb-false b (length s) e)))))
+    (λ f. let z : length s - length s ≡ 0 = omega arith in let y : drop a s ≡ [] = drop-of-length-le s {i = a} (omega (arith, leb-false a (length s) f)) in rw (f, z, y) (sym (take-nil (b - a))))))
 
 -- a label that was taken is short
-pub label-short : {line : List ℕ} {p : Part} (x : List ℕ) → LabelPart line p → x ≡ bytesOf line p → length x ≤ 24
-label-short x w e = rw e (w .good .1)
+pub label-short : {l : List ℕ} (x : List ℕ) → GoodLabel l → x ≡ l → length x ≤ 24
+label-short x g e = rw e (g .1)
 
 -- The records of the line's tree
 
@@ -158,69 +164,6 @@ run-asks s t line {d} {g} {f} e z q k w =
 -- a refusal leaves all as it was
 pub refused : {n : ℕ} {s t area : List ℕ} → Made (refusal n s t) area (Refused n) s t area
 refused = record { answer = refl; state = refl; table = refl; area = refl }
-
--- Each form's own work
-
-module _ (choice : Choice) (f : Form) (s t : List ℕ) (room : ℕ) (line tree : List ℕ) where
-  abbrev done : Work → Outcome
-  done w = performed w room s t
-
-  abbrev own : Outcome
-  own = performed (workOf choice f s t line tree) room s t
-
-  at : {g : Form} → f ≡ g → own ≡ performed (workOf choice g s t line tree) room s t
-  at e = ap (λ g. performed (workOf choice g s t line tree) room s t) e
-
-  pub run-subject : {n : Part} (x : List ℕ) → f ≡ Subject n → x ≡ bytesOf line n → own ≡ done (workSubject s x)
-  run-subject x e q = at e ∙ (λ i. done (workSubject s (sym q i)))
-
-  pub run-isa : {n r : Part} (x y : List ℕ) → f ≡ Isa n r → x ≡ bytesOf line n → y ≡ bytesOf line r → own ≡ done (workIsa s x y)
-  run-isa x y e q w = at e ∙ (λ i. done (workIsa s (sym q i) (sym w i)))
-
-  pub run-rule : {a : Bool} {b : ℕ} {p n : Part} (k : ℕ) (x y : List ℕ) → f ≡ Rule a b p n → k ≡ acceptByte a → x ≡ bytesOf line p → y ≡ bytesOf line n
-      → own ≡ done (workRule s k b x y)
-  run-rule {b = b} k x y e z q w = at e ∙ (λ i. done (workRule s (sym z i) b (sym q i) (sym w i)))
-
-  pub run-root : {l : Part} (x : List ℕ) → f ≡ Root l → x ≡ bytesOf line l → own ≡ done (workRoot t x)
-  run-root x e q = at e ∙ (λ i. done (workRoot t (sym q i)))
-
-  pub run-child : {m : ℕ} (x : List ℕ) → f ≡ Child m → x ≡ tree → own ≡ done (workChild t m x)
-  run-child {m} x e q = at e ∙ (λ i. done (workChild t m (sym q i)))
-
-  pub run-user : {n : Part} (x : List ℕ) → f ≡ User n → x ≡ bytesOf line n → own ≡ done (workUser s x)
-  run-user x e q = at e ∙ (λ i. done (workUser s (sym q i)))
-
-  pub run-view : f ≡ View → own ≡ done (workView s t)
-  run-view e = at e
-
-  pub run-query : {p : Part} (x : List ℕ) → f ≡ Query p → x ≡ bytesOf line p → own ≡ done (workAsk choice ask.Query s t x)
-  run-query x e q = at e ∙ (λ i. done (workAsk choice ask.Query s t (sym q i)))
-
-  pub run-find : {p : Part} (x : List ℕ) → f ≡ Find p → x ≡ bytesOf line p → own ≡ done (workAsk choice ask.Find s t x)
-  run-find x e q = at e ∙ (λ i. done (workAsk choice ask.Find s t (sym q i)))
-
-  pub run-rename : {p l : Part} (x y : List ℕ) → f ≡ Rename p l → x ≡ bytesOf line p → y ≡ bytesOf line l → own ≡ done (workRename change.Rename s t x y)
-  run-rename x y e q w = at e ∙ (λ i. done (workRename change.Rename s t (sym q i) (sym w i)))
-
-  pub run-update : {p l : Part} (x y : List ℕ) → f ≡ Update p l → x ≡ bytesOf line p → y ≡ bytesOf line l → own ≡ done (workRename change.Update s t x y)
-  run-update x y e q w = at e ∙ (λ i. done (workRename change.Update s t (sym q i) (sym w i)))
-
-  pub run-append : {p : Part} {m : ℕ} (x y : List ℕ) → f ≡ Append p m → x ≡ bytesOf line p → y ≡ tree → own ≡ done (workInsert place.Append s t x m y)
-  run-append {m = m} x y e q w = at e ∙ (λ i. done (workInsert place.Append s t (sym q i) m (sym w i)))
-
-  pub run-before : {p : Part} {m : ℕ} (x y : List ℕ) → f ≡ Before p m → x ≡ bytesOf line p → y ≡ tree → own ≡ done (workInsert place.Before s t x m y)
-  run-before {m = m} x y e q w = at e ∙ (λ i. done (workInsert place.Before s t (sym q i) m (sym w i)))
-
-  pub run-after : {p : Part} {m : ℕ} (x y : List ℕ) → f ≡ After p m → x ≡ bytesOf line p → y ≡ tree → own ≡ done (workInsert place.After s t x m y)
-  run-after {m = m} x y e q w = at e ∙ (λ i. done (workInsert place.After s t (sym q i) m (sym w i)))
-
-  pub run-remove : {p : Part} (x : List ℕ) → f ≡ Remove p → x ≡ bytesOf line p → own ≡ done (workRemove s t x)
-  run-remove x e q = at e ∙ (λ i. done (workRemove s t (sym q i)))
-
-  -- a form that was not read is turned down
-  pub run-none : f ≡ NoForm → own ≡ refusal 2 s t
-  unfolding performed checked
-  run-none e = at e
 
 -- The whole line
 

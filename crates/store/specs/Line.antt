@@ -8,7 +8,7 @@ use Rattle.views.specs.declared.done.Change.the-variants as change
 use Rattle.views.specs.declared.insert.Place.the-variants as place
 use Rattle.forms.specs.declared.form.Part.{Part}
 use Rattle.forms.specs.declared.form.Form.{Form}
-use Rattle.forms.specs.declared.form.Form.the-variants.{Subject, Isa, Rule, Root, Child, User, View, Query, Find, Rename, Update, Append, Before, After, Remove, NoForm}
+use Rattle.forms.specs.declared.form.Form.the-variants as form
 use Rattle.forms.specs.Text.{lineOk}
 use Rattle.forms.specs.Tree.{recordsOf}
 use Rattle.forms.specs.Form.{readForm, treeIn}
@@ -26,22 +26,22 @@ noStage = 5
 
 -- the stage that a form belongs to
 abbrev pub stageOf : Form → ℕ
-stageOf (Subject n) = stageA
-stageOf (Isa n r) = stageA
-stageOf (Rule a b p n) = stageB
-stageOf (Root l) = stageC
-stageOf (Child m) = stageD
-stageOf (User n) = stageE
-stageOf View = stageE
-stageOf (Query p) = stageE
-stageOf (Find p) = stageE
-stageOf (Rename p l) = stageE
-stageOf (Update p l) = stageE
-stageOf (Append p m) = stageE
-stageOf (Before p m) = stageE
-stageOf (After p m) = stageE
-stageOf (Remove p) = stageE
-stageOf NoForm = noStage
+stageOf (form.Subject n) = stageA
+stageOf (form.Isa n r) = stageA
+stageOf (form.Rule a b p n) = stageB
+stageOf (form.Root l) = stageC
+stageOf (form.Child m) = stageD
+stageOf (form.User n) = stageE
+stageOf form.View = stageE
+stageOf (form.Query p) = stageE
+stageOf (form.Find p) = stageE
+stageOf (form.Rename p l) = stageE
+stageOf (form.Update p l) = stageE
+stageOf (form.Append p m) = stageE
+stageOf (form.Before p m) = stageE
+stageOf (form.After p m) = stageE
+stageOf (form.Remove p) = stageE
+stageOf form.NoForm = noStage
 
 -- A form of stage k where the state is in stage g: "A form of an earlier stage never follows a later one", and a root stands exactly for the forms
 -- behind C ("`(root L)`, once", "D and E need a root").
@@ -62,22 +62,22 @@ acceptByte a = cond a 1 0
 
 -- The line's own work, one clause a form; `tree` holds the records of the line's tree.
 abbrev pub workOf : Choice → Form → List ℕ → List ℕ → List ℕ → List ℕ → Work
-workOf choice (Subject n) s t line tree = workSubject s (bytesOf line n)
-workOf choice (Isa n r) s t line tree = workIsa s (bytesOf line n) (bytesOf line r)
-workOf choice (Rule a b p n) s t line tree = workRule s (acceptByte a) b (bytesOf line p) (bytesOf line n)
-workOf choice (Root l) s t line tree = workRoot t (bytesOf line l)
-workOf choice (Child m) s t line tree = workChild t m tree
-workOf choice (User n) s t line tree = workUser s (bytesOf line n)
-workOf choice View s t line tree = workView s t
-workOf choice (Query p) s t line tree = workAsk choice ask.Query s t (bytesOf line p)
-workOf choice (Find p) s t line tree = workAsk choice ask.Find s t (bytesOf line p)
-workOf choice (Rename p l) s t line tree = workRename change.Rename s t (bytesOf line p) (bytesOf line l)
-workOf choice (Update p l) s t line tree = workRename change.Update s t (bytesOf line p) (bytesOf line l)
-workOf choice (Append p m) s t line tree = workInsert place.Append s t (bytesOf line p) m tree
-workOf choice (Before p m) s t line tree = workInsert place.Before s t (bytesOf line p) m tree
-workOf choice (After p m) s t line tree = workInsert place.After s t (bytesOf line p) m tree
-workOf choice (Remove p) s t line tree = workRemove s t (bytesOf line p)
-workOf choice NoForm s t line tree = record { checks = check noForm true ∷ []; text = []; effect = reading }
+workOf choice (form.Subject n) s t line tree = workSubject s (bytesOf line n)
+workOf choice (form.Isa n r) s t line tree = workIsa s (bytesOf line n) (bytesOf line r)
+workOf choice (form.Rule a b p n) s t line tree = workRule s (acceptByte a) b (bytesOf line p) (bytesOf line n)
+workOf choice (form.Root l) s t line tree = workRoot t (bytesOf line l)
+workOf choice (form.Child m) s t line tree = workChild t m tree
+workOf choice (form.User n) s t line tree = workUser s (bytesOf line n)
+workOf choice form.View s t line tree = workView s t
+workOf choice (form.Query p) s t line tree = workAsk choice ask.Query s t (bytesOf line p)
+workOf choice (form.Find p) s t line tree = workAsk choice ask.Find s t (bytesOf line p)
+workOf choice (form.Rename p l) s t line tree = workRename change.Rename s t (bytesOf line p) (bytesOf line l)
+workOf choice (form.Update p l) s t line tree = workRename change.Update s t (bytesOf line p) (bytesOf line l)
+workOf choice (form.Append p m) s t line tree = workInsert place.Append s t (bytesOf line p) m tree
+workOf choice (form.Before p m) s t line tree = workInsert place.Before s t (bytesOf line p) m tree
+workOf choice (form.After p m) s t line tree = workInsert place.After s t (bytesOf line p) m tree
+workOf choice (form.Remove p) s t line tree = workRemove s t (bytesOf line p)
+workOf choice form.NoForm s t line tree = record { checks = check noForm true ∷ []; text = []; effect = reading }
 
 -- what comes before a line is read, and before the own checks of the form that was read, in stage g
 abbrev pub textChecks : List ℕ → List ℕ → List ℕ → List Check

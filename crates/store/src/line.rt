@@ -31,8 +31,9 @@ use rights::limits::RECORD_BYTES;
 use views::done::Change;
 use views::insert::Place;
 ghost use mathlib.Core.Path.{_≡_};
-ghost use mathlib.Core.Bool.{true};
+ghost use mathlib.Core.Bool.{true, cond};
 ghost use Prim.Native.Nat.{_*_, _≤_};
+ghost use lib.Dec.{leb};
 ghost use lib.ListN.{length, take, replicate};
 ghost use Rattle.rights.specs.Record.{pasted};
 ghost use Rattle.forms.specs.Text.{lineOk};
@@ -116,13 +117,19 @@ fn accept_byte(accept: bool) -> u8
     if accept { 1 } else { 0 }
 }
 
-// The bytes of a part of the line.
+// The smaller of two numbers.
+fn smaller(a: usize, b: usize) -> usize
+    ensures { λ r. ⌜ (r ≡ cond (leb a b) a b) × (r ≤ b) ⌝ }
+{
+    if a <= b { a } else { b }
+}
+
+// The bytes of a part of the line, as far as the line goes.
 fn part_of(line: &[u8], p: Part) -> &[u8]
-    requires { ⌜ (p .at ≤ p .end) × (p .end ≤ length (now line)) ⌝ }
     ensures { λ r. ⌜ now r ≡ bytesOf (now (line .entry)) p ⌝ }
 {
-    let at = p.at;
-    let end = p.end;
+    let end = smaller(p.end, line.len());
+    let at = smaller(p.at, end);
     &line[at..end]
 }
 
@@ -151,6 +158,7 @@ fn run(
         (now (state .entry)) (now (table .entry)) (now (area .entry)) r (now (state .exit)) (now (table .exit)) (now (area .exit)) ⌝ }
 {
     match f {
+        Form::NoForm => Answer::Refused(NO_FORM),
         Form::Subject(n) => declare(state, table, part_of(line, n), area),
         Form::Isa(n, r) => relate(state, table, part_of(line, n), part_of(line, r), area),
         Form::Rule(a, b, p, n) => rule(
@@ -212,7 +220,6 @@ fn run(
             area,
         ),
         Form::Remove(p) => remove(state, table, part_of(line, p), area),
-        Form::NoForm => Answer::Refused(NO_FORM),
     }
 }
 

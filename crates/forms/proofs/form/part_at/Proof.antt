@@ -10,7 +10,7 @@ element-copy-out-t6 : tie.Need-element-copy-out-t6
 element-copy-out-t6 c = search needs
 
 add-t7 : tie.Need-add-t7
-add-t7 c = search needs
+add-t7 c = let start = c .before in record { fits = start .pre .1 .1 (start .args .i) }
 
 add-t8 : tie.Need-add-t8
 add-t8 c = search needs

@@ -18,12 +18,12 @@ right-at-requires c κs = let h = c .before .before .before .before .pre .1 1 in
 part-at-requires : tie.Need-part-at-requires
 part-at-requires c κs =
     let start = c .before .before .before .before .before in
-    let h = start .pre .1 2 in (omega arith, start .pre .0, omega arith)
+    (omega arith, start .pre .0)
 
 part-at-requires-2 : tie.Need-part-at-requires-2
 part-at-requires-2 c κs =
     let start = c .before .before .before .before .before .before in
-    let h = start .pre .1 3 in (omega arith, start .pre .0, omega arith)
+    (omega arith, start .pre .0)
 
 returns : tie.Need-returns
 returns c =

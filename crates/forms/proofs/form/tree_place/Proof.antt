@@ -6,7 +6,8 @@ use native.Mathlib.Numerals.{add-one}
 use native.Mathlib.Omega.{arith}
 use lib.ListN.{length, getD, drop}
 use Rattle.forms.specs.Kind.{Kind}
-use Rattle.forms.specs.Form.{shapeOf, codesOf, placeIn, treePlace}
+use Rattle.forms.specs.Layout.{codesOf, shapeOf}
+use Rattle.forms.specs.Form.{placeIn, treePlace}
 use Rattle.forms.proofs.FormLaws.{few-kinds, kind-at, tree-here, tree-later, tree-none}
 use borrow.Author.Needs.{needs}
 use Rattle.forms.proofs.form.tree_place.Statement.{statement}
@@ -22,42 +23,42 @@ abbrev μ-loop : tie.MeasureT-loop
 loop-holds : tie.Need-loop-holds Inv-loop μ-loop
 loop-holds c = (omega arith, λ ks q. refl)
 
-add-t16 : tie.Need-add-t16 Inv-loop μ-loop
-add-t16 c =
+add-t15 : tie.Need-add-t15 Inv-loop μ-loop
+add-t15 c =
     let at-loop = c .before .before .before in let start = at-loop .before .before in
-    record { fits = start .pre .1 (at-loop .loop .i) }
+    record { fits = start .pre .1 .1 (at-loop .loop .i) }
 
 returns : tie.Need-returns Inv-loop μ-loop
 returns c =
-    let at-if1 = c .before in let at-loop = at-if1 .before .before in let at-shape-of = at-loop .before in let start = at-shape-of .before in
+    let at-if1 = c .before in let at-loop = at-if1 .before .before in let start = at-loop .before .before in
     let i : ℕ = at-loop .loop .i in
-    let ks : List Kind = shapeOf (start .args .w) in
-    let q : at-shape-of .shape-of .result ≡ codesOf ks = at-shape-of .shape-of .ensures .0 in
+    let ks : List Kind = shapeOf (start .args .l .word) in
+    let q : start .args .l .kinds ≡ codesOf ks = start .pre .0 .kinds in
     sym (at-loop .loop .inv .1 ks q ∙ tree-here ks i _ (ap (λ (xs : List ℕ). getD xs i 0) (sym q) ∙ at-if1 .if1 .taken))
 
 loop-again : tie.Need-loop-again Inv-loop μ-loop
 loop-again c =
-    let at-test = c .before in let at-loop = at-test .before in let at-shape-of = at-loop .before in let start = at-shape-of .before in
+    let at-test = c .before in let at-loop = at-test .before in let start = at-loop .before .before in
     let i : ℕ = at-loop .loop .i in
-    let here : (ks : List Kind) → at-shape-of .shape-of .result ≡ codesOf ks → getD (at-shape-of .shape-of .result) i 0 ≡ getD (codesOf ks) i 0 = λ ks q. ap (λ (xs : List ℕ). getD xs i 0) q in
-    let some : (ks : List Kind) → at-shape-of .shape-of .result ≡ codesOf ks → getD (codesOf ks) i 0 ≡ 0 → ⊥ = λ ks q z. at-test .loop-test .taken (here ks q ∙ z) in
-    let w : List Kind = shapeOf (start .args .w) in
-    let q = at-shape-of .shape-of .ensures in (
-      omega (arith, kind-at w i (some w (q .0)) .3, few-kinds w (sym (ap length (q .0)) ∙ q .1)),
+    let here : (ks : List Kind) → start .args .l .kinds ≡ codesOf ks → getD (start .args .l .kinds) i 0 ≡ getD (codesOf ks) i 0 = λ ks q. ap (λ (xs : List ℕ). getD xs i 0) q in
+    let some : (ks : List Kind) → start .args .l .kinds ≡ codesOf ks → getD (codesOf ks) i 0 ≡ 0 → ⊥ = λ ks q z. at-test .loop-test .taken (here ks q ∙ z) in
+    let w : List Kind = shapeOf (start .args .l .word) in
+    let q = start .pre .0 in (
+      omega (arith, kind-at w i (some w (q .kinds)) .3, few-kinds w (sym (ap length (q .kinds)) ∙ q .size)),
       λ ks e. rw (add-one i) (at-loop .loop .inv .1 ks e ∙ tree-later ks i _ (some ks e) (λ z. c .if1 .left (here ks e ∙ z))),
     )
 
 returns-2 : tie.Need-returns-2 Inv-loop μ-loop
 returns-2 c =
-    let at-loop = c .before in let at-shape-of = at-loop .before in let start = at-shape-of .before in
+    let at-loop = c .before in let start = at-loop .before .before in
     let i : ℕ = at-loop .loop .i in
-    let ks : List Kind = shapeOf (start .args .w) in
-    let q : at-shape-of .shape-of .result ≡ codesOf ks = at-shape-of .shape-of .ensures .0 in
+    let ks : List Kind = shapeOf (start .args .l .word) in
+    let q : start .args .l .kinds ≡ codesOf ks = start .pre .0 .kinds in
     sym (at-loop .loop .inv .1 ks q ∙ tree-none ks i _ (ap (λ (xs : List ℕ). getD xs i 0) (sym q) ∙ c .loop-test .left))
 
 pub tree-place-spec : {M : Type 1} → statement M
 tree-place-spec =
     tie.close
-    (tie.spec Inv-loop μ-loop (λ c κs. search needs) loop-holds (λ c. search needs) (λ c. search needs)
-    (λ c. search needs) (λ c. search needs) add-t16 returns (λ c. search needs) (λ c. search needs) loop-again
+    (tie.spec Inv-loop μ-loop loop-holds (λ c. search needs) (λ c. search needs)
+    (λ c. search needs) (λ c. search needs) add-t15 returns (λ c. search needs) (λ c. search needs) loop-again
     returns-2)

@@ -1,44 +1,15 @@
-use Rattle.lines.proofs.OutcomeLaws.{made-at}
-use Rattle.store.proofs.LineLaws.{refused, fits-at, asks, label-short, tree-asks, tree-taken, tree-holds, root-stage, run-subject, run-isa, run-rule, run-root, run-child, run-user, run-view, run-query, run-find, run-rename, run-update, run-append, run-before, run-after, run-remove, run-none}
+use Rattle.lines.specs.Effect.{performed}
+use Rattle.lines.specs.Refusal.{checked}
+use Rattle.store.proofs.LineLaws.{refused, fits-at, label-short, tree-asks, tree-taken, tree-holds, root-stage}
 use borrow.Author.Needs.{needs}
 use Rattle.store.proofs.line.run.Statement.{statement}
 use Rattle.store.proofs.line.run.Tie as tie
-
-part-of-requires : tie.Need-part-of-requires
-part-of-requires c κs =
-    let at-f = c .before .before .before in let start = at-f .before .before .before .before .before .before .before in
-    asks ((fits-at (start .args .line .now) (start .pre .2) (at-f .f .given .1)) .within)
 
 declare-requires : tie.Need-declare-requires
 declare-requires c κs =
     let at-part-of = c .before in let at-f = at-part-of .before .before .before .before in
     let start = at-f .before .before .before .before .before .before .before in
     (start .pre .0, label-short _ (fits-at (start .args .line .now) (start .pre .2) (at-f .f .given .1)) (at-part-of .part-of .ensures))
-
-part-of-requires-2 : tie.Need-part-of-requires-2
-part-of-requires-2 c κs =
-    let at-f2 = c .before .before .before in let start = at-f2 .before .before .before .before .before .before .before in
-    asks ((fits-at (start .args .line .now) (start .pre .2) (at-f2 .f2 .given .1)) .0 .within)
-
-part-of-requires-3 : tie.Need-part-of-requires-3
-part-of-requires-3 c κs =
-    let at-f2 = c .before .before .before .before in let start = at-f2 .before .before .before .before .before .before .before in
-    asks ((fits-at (start .args .line .now) (start .pre .2) (at-f2 .f2 .given .1)) .1 .within)
-
-part-of-requires-4 : tie.Need-part-of-requires-4
-part-of-requires-4 c κs =
-    let at-f3 = c .before .before .before .before in let start = at-f3 .before .before .before .before .before .before .before in
-    asks ((fits-at (start .args .line .now) (start .pre .2) (at-f3 .f3 .given .1)) .0)
-
-part-of-requires-5 : tie.Need-part-of-requires-5
-part-of-requires-5 c κs =
-    let at-f3 = c .before .before .before .before .before in let start = at-f3 .before .before .before .before .before .before .before in
-    asks ((fits-at (start .args .line .now) (start .pre .2) (at-f3 .f3 .given .1)) .1 .within)
-
-part-of-requires-6 : tie.Need-part-of-requires-6
-part-of-requires-6 c κs =
-    let at-f4 = c .before .before .before in let start = at-f4 .before .before .before .before .before .before .before in
-    asks ((fits-at (start .args .line .now) (start .pre .2) (at-f4 .f4 .given .1)) .within)
 
 root-requires : tie.Need-root-requires
 root-requires c κs =
@@ -58,214 +29,160 @@ child-requires c κs =
     let h = tree-holds (fits-at (start .args .line .now) (start .pre .2) (at-f5 .f5 .given .1)) (start .args .tree .now) (start .pre .4) (start .pre .1) _ (at-tree-of .tree-of .ensures) in
     (start .pre .0, h .0, h .1)
 
-part-of-requires-7 : tie.Need-part-of-requires-7
-part-of-requires-7 c κs =
-    let at-f6 = c .before .before .before in let start = at-f6 .before .before .before .before .before .before .before in
-    asks ((fits-at (start .args .line .now) (start .pre .2) (at-f6 .f6 .given .1)) .within)
-
-part-of-requires-8 : tie.Need-part-of-requires-8
-part-of-requires-8 c κs =
-    let at-f7 = c .before .before .before in let start = at-f7 .before .before .before .before .before .before .before in
-    asks (fits-at (start .args .line .now) (start .pre .2) (at-f7 .f7 .given .1))
-
-part-of-requires-9 : tie.Need-part-of-requires-9
-part-of-requires-9 c κs =
-    let at-f8 = c .before .before .before in let start = at-f8 .before .before .before .before .before .before .before in
-    asks (fits-at (start .args .line .now) (start .pre .2) (at-f8 .f8 .given .1))
-
-part-of-requires-10 : tie.Need-part-of-requires-10
-part-of-requires-10 c κs =
-    let at-f9 = c .before .before .before in let start = at-f9 .before .before .before .before .before .before .before in
-    asks ((fits-at (start .args .line .now) (start .pre .2) (at-f9 .f9 .given .1)) .0)
-
-part-of-requires-11 : tie.Need-part-of-requires-11
-part-of-requires-11 c κs =
-    let at-f9 = c .before .before .before .before in let start = at-f9 .before .before .before .before .before .before .before in
-    asks ((fits-at (start .args .line .now) (start .pre .2) (at-f9 .f9 .given .1)) .1 .within)
-
 rename-requires : tie.Need-rename-requires
 rename-requires c κs =
     let at-part-of11 = c .before in let at-f9 = at-part-of11 .before .before .before .before .before in
     let start = at-f9 .before .before .before .before .before .before .before in
-    (start .pre .0, label-short _ ((fits-at (start .args .line .now) (start .pre .2) (at-f9 .f9 .given .1)) .1) (at-part-of11 .part-of11 .ensures))
-
-part-of-requires-12 : tie.Need-part-of-requires-12
-part-of-requires-12 c κs =
-    let at-f10 = c .before .before .before in let start = at-f10 .before .before .before .before .before .before .before in
-    asks ((fits-at (start .args .line .now) (start .pre .2) (at-f10 .f10 .given .1)) .0)
-
-part-of-requires-13 : tie.Need-part-of-requires-13
-part-of-requires-13 c κs =
-    let at-f10 = c .before .before .before .before in let start = at-f10 .before .before .before .before .before .before .before in
-    asks ((fits-at (start .args .line .now) (start .pre .2) (at-f10 .f10 .given .1)) .1 .within)
+    (start .pre .0, label-short _ (fits-at (start .args .line .now) (start .pre .2) (at-f9 .f9 .given .1)) (at-part-of11 .part-of11 .ensures))
 
 rename-requires-2 : tie.Need-rename-requires-2
 rename-requires-2 c κs =
     let at-part-of13 = c .before in let at-f10 = at-part-of13 .before .before .before .before .before in
     let start = at-f10 .before .before .before .before .before .before .before in
-    (start .pre .0, label-short _ ((fits-at (start .args .line .now) (start .pre .2) (at-f10 .f10 .given .1)) .1) (at-part-of13 .part-of13 .ensures))
-
-part-of-requires-14 : tie.Need-part-of-requires-14
-part-of-requires-14 c κs =
-    let at-f11 = c .before .before .before in let start = at-f11 .before .before .before .before .before .before .before in
-    asks ((fits-at (start .args .line .now) (start .pre .2) (at-f11 .f11 .given .1)) .0)
+    (start .pre .0, label-short _ (fits-at (start .args .line .now) (start .pre .2) (at-f10 .f10 .given .1)) (at-part-of13 .part-of13 .ensures))
 
 tree-of-requires-2 : tie.Need-tree-of-requires-2
 tree-of-requires-2 c κs =
     let at-f11 = c .before .before .before .before in let start = at-f11 .before .before .before .before .before .before .before in
-    tree-asks ((fits-at (start .args .line .now) (start .pre .2) (at-f11 .f11 .given .1)) .1) (start .args .tree .now) (start .pre .4) (start .pre .1)
+    tree-asks (fits-at (start .args .line .now) (start .pre .2) (at-f11 .f11 .given .1)) (start .args .tree .now) (start .pre .4) (start .pre .1)
 
 insert-requires : tie.Need-insert-requires
 insert-requires c κs =
     let at-tree-of2 = c .before in let at-f11 = at-tree-of2 .before .before .before .before .before in
     let start = at-f11 .before .before .before .before .before .before .before in
-    let h = tree-holds ((fits-at (start .args .line .now) (start .pre .2) (at-f11 .f11 .given .1)) .1) (start .args .tree .now) (start .pre .4) (start .pre .1) _ (at-tree-of2 .tree-of2 .ensures) in
+    let h = tree-holds (fits-at (start .args .line .now) (start .pre .2) (at-f11 .f11 .given .1)) (start .args .tree .now) (start .pre .4) (start .pre .1) _ (at-tree-of2 .tree-of2 .ensures) in
     (start .pre .0, h .0, h .1)
-
-part-of-requires-15 : tie.Need-part-of-requires-15
-part-of-requires-15 c κs =
-    let at-f12 = c .before .before .before in let start = at-f12 .before .before .before .before .before .before .before in
-    asks ((fits-at (start .args .line .now) (start .pre .2) (at-f12 .f12 .given .1)) .0)
 
 tree-of-requires-3 : tie.Need-tree-of-requires-3
 tree-of-requires-3 c κs =
     let at-f12 = c .before .before .before .before in let start = at-f12 .before .before .before .before .before .before .before in
-    tree-asks ((fits-at (start .args .line .now) (start .pre .2) (at-f12 .f12 .given .1)) .1) (start .args .tree .now) (start .pre .4) (start .pre .1)
+    tree-asks (fits-at (start .args .line .now) (start .pre .2) (at-f12 .f12 .given .1)) (start .args .tree .now) (start .pre .4) (start .pre .1)
 
 insert-requires-2 : tie.Need-insert-requires-2
 insert-requires-2 c κs =
     let at-tree-of3 = c .before in let at-f12 = at-tree-of3 .before .before .before .before .before in
     let start = at-f12 .before .before .before .before .before .before .before in
-    let h = tree-holds ((fits-at (start .args .line .now) (start .pre .2) (at-f12 .f12 .given .1)) .1) (start .args .tree .now) (start .pre .4) (start .pre .1) _ (at-tree-of3 .tree-of3 .ensures) in
+    let h = tree-holds (fits-at (start .args .line .now) (start .pre .2) (at-f12 .f12 .given .1)) (start .args .tree .now) (start .pre .4) (start .pre .1) _ (at-tree-of3 .tree-of3 .ensures) in
     (start .pre .0, h .0, h .1)
-
-part-of-requires-16 : tie.Need-part-of-requires-16
-part-of-requires-16 c κs =
-    let at-f13 = c .before .before .before in let start = at-f13 .before .before .before .before .before .before .before in
-    asks ((fits-at (start .args .line .now) (start .pre .2) (at-f13 .f13 .given .1)) .0)
 
 tree-of-requires-4 : tie.Need-tree-of-requires-4
 tree-of-requires-4 c κs =
     let at-f13 = c .before .before .before .before in let start = at-f13 .before .before .before .before .before .before .before in
-    tree-asks ((fits-at (start .args .line .now) (start .pre .2) (at-f13 .f13 .given .1)) .1) (start .args .tree .now) (start .pre .4) (start .pre .1)
+    tree-asks (fits-at (start .args .line .now) (start .pre .2) (at-f13 .f13 .given .1)) (start .args .tree .now) (start .pre .4) (start .pre .1)
 
 insert-requires-3 : tie.Need-insert-requires-3
 insert-requires-3 c κs =
     let at-tree-of4 = c .before in let at-f13 = at-tree-of4 .before .before .before .before .before in
     let start = at-f13 .before .before .before .before .before .before .before in
-    let h = tree-holds ((fits-at (start .args .line .now) (start .pre .2) (at-f13 .f13 .given .1)) .1) (start .args .tree .now) (start .pre .4) (start .pre .1) _ (at-tree-of4 .tree-of4 .ensures) in
+    let h = tree-holds (fits-at (start .args .line .now) (start .pre .2) (at-f13 .f13 .given .1)) (start .args .tree .now) (start .pre .4) (start .pre .1) _ (at-tree-of4 .tree-of4 .ensures) in
     (start .pre .0, h .0, h .1)
 
-part-of-requires-17 : tie.Need-part-of-requires-17
-part-of-requires-17 c κs =
-    let at-f14 = c .before .before .before in let start = at-f14 .before .before .before .before .before .before .before in
-    asks (fits-at (start .args .line .now) (start .pre .2) (at-f14 .f14 .given .1))
-
 returns : tie.Need-returns
-returns c =
-    let at-declare = c .before .before .before .before in let at-part-of = at-declare .before .before in
-    let at-f = at-part-of .before .before .before .before in
-    made-at (run-subject _ _ _ _ _ _ _ _ (at-f .f .given .1) (at-part-of .part-of .ensures)) (at-declare .declare .ensures)
+unfolding performed checked
+returns c = rw (c .enum-told .given .1) refused
 
 returns-2 : tie.Need-returns-2
 returns-2 c =
-    let at-relate = c .before .before .before .before in let at-part-of3 = at-relate .before .before in let at-part-of2 = at-part-of3 .before in
-    let at-f2 = at-part-of2 .before .before .before .before in
-    made-at (run-isa _ _ _ _ _ _ _ _ _ (at-f2 .f2 .given .1) (at-part-of2 .part-of2 .ensures) (at-part-of3 .part-of3 .ensures)) (at-relate .relate .ensures)
+    let at-declare = c .before .before .before .before in let at-part-of = at-declare .before .before in
+    let at-f = at-part-of .before .before .before .before in
+    rw (at-f .f .given .1, ← (at-part-of .part-of .ensures)) (at-declare .declare .ensures)
 
 returns-3 : tie.Need-returns-3
 returns-3 c =
-    let at-rule = c .before .before .before .before in let at-part-of5 = at-rule .before .before in let at-part-of4 = at-part-of5 .before in
-    let at-accept-byte = at-part-of4 .before in let at-f3 = at-accept-byte .before .before .before .before in
-    made-at (run-rule _ _ _ _ _ _ _ _ _ _ (at-f3 .f3 .given .1) (at-accept-byte .accept-byte .ensures) (at-part-of4 .part-of4 .ensures) (at-part-of5 .part-of5 .ensures)) (at-rule .rule .ensures)
+    let at-relate = c .before .before .before .before in let at-part-of3 = at-relate .before .before in let at-part-of2 = at-part-of3 .before in
+    let at-f2 = at-part-of2 .before .before .before .before in
+    rw (at-f2 .f2 .given .1, ← (at-part-of2 .part-of2 .ensures), ← (at-part-of3 .part-of3 .ensures)) (at-relate .relate .ensures)
 
 returns-4 : tie.Need-returns-4
 returns-4 c =
-    let at-root = c .before .before .before .before .before .before in let at-part-of6 = at-root .before .before in
-    let at-f4 = at-part-of6 .before .before .before .before in
-    made-at (run-root _ _ _ _ _ _ _ _ (at-f4 .f4 .given .1) (at-part-of6 .part-of6 .ensures)) (at-root .root .ensures)
+    let at-rule = c .before .before .before .before in let at-part-of5 = at-rule .before .before in let at-part-of4 = at-part-of5 .before in
+    let at-accept-byte = at-part-of4 .before in let at-f3 = at-accept-byte .before .before .before .before in
+    rw (at-f3 .f3 .given .1, ← (at-accept-byte .accept-byte .ensures), ← (at-part-of4 .part-of4 .ensures), ← (at-part-of5 .part-of5 .ensures)) (at-rule .rule .ensures)
 
 returns-5 : tie.Need-returns-5
 returns-5 c =
-    let at-child = c .before .before .before .before .before .before in let at-tree-of = at-child .before .before in
-    let at-f5 = at-tree-of .before .before .before .before in let start = at-f5 .before .before .before .before .before .before .before in
-    made-at (run-child _ _ _ _ _ _ _ _ (at-f5 .f5 .given .1) (tree-taken (fits-at (start .args .line .now) (start .pre .2) (at-f5 .f5 .given .1)) (start .args .tree .now) (start .pre .4) (start .pre .1) _ (at-tree-of .tree-of .ensures))) (at-child .child .ensures)
+    let at-root = c .before .before .before .before .before .before in let at-part-of6 = at-root .before .before in
+    let at-f4 = at-part-of6 .before .before .before .before in
+    rw (at-f4 .f4 .given .1, ← (at-part-of6 .part-of6 .ensures)) (at-root .root .ensures)
 
 returns-6 : tie.Need-returns-6
 returns-6 c =
-    let at-log-in = c .before .before .before .before in let at-part-of7 = at-log-in .before .before in
-    let at-f6 = at-part-of7 .before .before .before .before in
-    made-at (run-user _ _ _ _ _ _ _ _ (at-f6 .f6 .given .1) (at-part-of7 .part-of7 .ensures)) (at-log-in .log-in .ensures)
+    let at-child = c .before .before .before .before .before .before in let at-tree-of = at-child .before .before in
+    let at-f5 = at-tree-of .before .before .before .before in let start = at-f5 .before .before .before .before .before .before .before in
+    rw (at-f5 .f5 .given .1, ← (tree-taken (fits-at (start .args .line .now) (start .pre .2) (at-f5 .f5 .given .1)) (start .args .tree .now) (start .pre .4) (start .pre .1) _ (at-tree-of .tree-of .ensures))) (at-child .child .ensures)
 
 returns-7 : tie.Need-returns-7
 returns-7 c =
-    let at-view = c .before .before in let at-enum-told = at-view .before .before .before .before in
-    made-at (run-view _ _ _ _ _ _ _ (at-enum-told .enum-told .given .1)) (at-view .view .ensures)
+    let at-log-in = c .before .before .before .before in let at-part-of7 = at-log-in .before .before in
+    let at-f6 = at-part-of7 .before .before .before .before in
+    rw (at-f6 .f6 .given .1, ← (at-part-of7 .part-of7 .ensures)) (at-log-in .log-in .ensures)
 
 returns-8 : tie.Need-returns-8
 returns-8 c =
-    let at-ask-path = c .before .before in let at-part-of8 = at-ask-path .before .before in let at-f7 = at-part-of8 .before .before .before .before in
-    made-at (run-query _ _ _ _ _ _ _ _ (at-f7 .f7 .given .1) (at-part-of8 .part-of8 .ensures)) (at-ask-path .ask-path .ensures)
+    let at-view = c .before .before in let at-enum-told2 = at-view .before .before .before .before in
+    rw (at-enum-told2 .enum-told2 .given .1) (at-view .view .ensures)
 
 returns-9 : tie.Need-returns-9
 returns-9 c =
-    let at-ask-path2 = c .before .before in let at-part-of9 = at-ask-path2 .before .before in
-    let at-f8 = at-part-of9 .before .before .before .before in
-    made-at (run-find _ _ _ _ _ _ _ _ (at-f8 .f8 .given .1) (at-part-of9 .part-of9 .ensures)) (at-ask-path2 .ask-path2 .ensures)
+    let at-ask-path = c .before .before in let at-part-of8 = at-ask-path .before .before in let at-f7 = at-part-of8 .before .before .before .before in
+    rw (at-f7 .f7 .given .1, ← (at-part-of8 .part-of8 .ensures)) (at-ask-path .ask-path .ensures)
 
 returns-10 : tie.Need-returns-10
 returns-10 c =
-    let at-rename = c .before .before .before .before in let at-part-of11 = at-rename .before .before in let at-part-of10 = at-part-of11 .before in
-    let at-f9 = at-part-of10 .before .before .before .before in
-    made-at (run-rename _ _ _ _ _ _ _ _ _ (at-f9 .f9 .given .1) (at-part-of10 .part-of10 .ensures) (at-part-of11 .part-of11 .ensures)) (at-rename .rename .ensures)
+    let at-ask-path2 = c .before .before in let at-part-of9 = at-ask-path2 .before .before in
+    let at-f8 = at-part-of9 .before .before .before .before in
+    rw (at-f8 .f8 .given .1, ← (at-part-of9 .part-of9 .ensures)) (at-ask-path2 .ask-path2 .ensures)
 
 returns-11 : tie.Need-returns-11
 returns-11 c =
-    let at-rename2 = c .before .before .before .before in let at-part-of13 = at-rename2 .before .before in let at-part-of12 = at-part-of13 .before in
-    let at-f10 = at-part-of12 .before .before .before .before in
-    made-at (run-update _ _ _ _ _ _ _ _ _ (at-f10 .f10 .given .1) (at-part-of12 .part-of12 .ensures) (at-part-of13 .part-of13 .ensures)) (at-rename2 .rename2 .ensures)
+    let at-rename = c .before .before .before .before in let at-part-of11 = at-rename .before .before in let at-part-of10 = at-part-of11 .before in
+    let at-f9 = at-part-of10 .before .before .before .before in
+    rw (at-f9 .f9 .given .1, ← (at-part-of10 .part-of10 .ensures), ← (at-part-of11 .part-of11 .ensures)) (at-rename .rename .ensures)
 
 returns-12 : tie.Need-returns-12
 returns-12 c =
-    let at-insert = c .before .before .before .before in let at-tree-of2 = at-insert .before .before in let at-part-of14 = at-tree-of2 .before in
-    let at-f11 = at-part-of14 .before .before .before .before in let start = at-f11 .before .before .before .before .before .before .before in
-    made-at (run-append _ _ _ _ _ _ _ _ _ (at-f11 .f11 .given .1) (at-part-of14 .part-of14 .ensures) (tree-taken ((fits-at (start .args .line .now) (start .pre .2) (at-f11 .f11 .given .1)) .1) (start .args .tree .now) (start .pre .4) (start .pre .1) _ (at-tree-of2 .tree-of2 .ensures))) (at-insert .insert .ensures)
+    let at-rename2 = c .before .before .before .before in let at-part-of13 = at-rename2 .before .before in let at-part-of12 = at-part-of13 .before in
+    let at-f10 = at-part-of12 .before .before .before .before in
+    rw (at-f10 .f10 .given .1, ← (at-part-of12 .part-of12 .ensures), ← (at-part-of13 .part-of13 .ensures)) (at-rename2 .rename2 .ensures)
 
 returns-13 : tie.Need-returns-13
 returns-13 c =
-    let at-insert2 = c .before .before .before .before in let at-tree-of3 = at-insert2 .before .before in let at-part-of15 = at-tree-of3 .before in
-    let at-f12 = at-part-of15 .before .before .before .before in let start = at-f12 .before .before .before .before .before .before .before in
-    made-at (run-before _ _ _ _ _ _ _ _ _ (at-f12 .f12 .given .1) (at-part-of15 .part-of15 .ensures) (tree-taken ((fits-at (start .args .line .now) (start .pre .2) (at-f12 .f12 .given .1)) .1) (start .args .tree .now) (start .pre .4) (start .pre .1) _ (at-tree-of3 .tree-of3 .ensures))) (at-insert2 .insert2 .ensures)
+    let at-insert = c .before .before .before .before in let at-tree-of2 = at-insert .before .before in let at-part-of14 = at-tree-of2 .before in
+    let at-f11 = at-part-of14 .before .before .before .before in let start = at-f11 .before .before .before .before .before .before .before in
+    rw (at-f11 .f11 .given .1, ← (at-part-of14 .part-of14 .ensures), ← (tree-taken (fits-at (start .args .line .now) (start .pre .2) (at-f11 .f11 .given .1)) (start .args .tree .now) (start .pre .4) (start .pre .1) _ (at-tree-of2 .tree-of2 .ensures))) (at-insert .insert .ensures)
 
 returns-14 : tie.Need-returns-14
 returns-14 c =
-    let at-insert3 = c .before .before .before .before in let at-tree-of4 = at-insert3 .before .before in let at-part-of16 = at-tree-of4 .before in
-    let at-f13 = at-part-of16 .before .before .before .before in let start = at-f13 .before .before .before .before .before .before .before in
-    made-at (run-after _ _ _ _ _ _ _ _ _ (at-f13 .f13 .given .1) (at-part-of16 .part-of16 .ensures) (tree-taken ((fits-at (start .args .line .now) (start .pre .2) (at-f13 .f13 .given .1)) .1) (start .args .tree .now) (start .pre .4) (start .pre .1) _ (at-tree-of4 .tree-of4 .ensures))) (at-insert3 .insert3 .ensures)
+    let at-insert2 = c .before .before .before .before in let at-tree-of3 = at-insert2 .before .before in let at-part-of15 = at-tree-of3 .before in
+    let at-f12 = at-part-of15 .before .before .before .before in let start = at-f12 .before .before .before .before .before .before .before in
+    rw (at-f12 .f12 .given .1, ← (at-part-of15 .part-of15 .ensures), ← (tree-taken (fits-at (start .args .line .now) (start .pre .2) (at-f12 .f12 .given .1)) (start .args .tree .now) (start .pre .4) (start .pre .1) _ (at-tree-of3 .tree-of3 .ensures))) (at-insert2 .insert2 .ensures)
 
 returns-15 : tie.Need-returns-15
 returns-15 c =
-    let at-remove = c .before .before .before .before in let at-part-of17 = at-remove .before .before in
-    let at-f14 = at-part-of17 .before .before .before .before in
-    made-at (run-remove _ _ _ _ _ _ _ _ (at-f14 .f14 .given .1) (at-part-of17 .part-of17 .ensures)) (at-remove .remove .ensures)
+    let at-insert3 = c .before .before .before .before in let at-tree-of4 = at-insert3 .before .before in let at-part-of16 = at-tree-of4 .before in
+    let at-f13 = at-part-of16 .before .before .before .before in let start = at-f13 .before .before .before .before .before .before .before in
+    rw (at-f13 .f13 .given .1, ← (at-part-of16 .part-of16 .ensures), ← (tree-taken (fits-at (start .args .line .now) (start .pre .2) (at-f13 .f13 .given .1)) (start .args .tree .now) (start .pre .4) (start .pre .1) _ (at-tree-of4 .tree-of4 .ensures))) (at-insert3 .insert3 .ensures)
 
 returns-16 : tie.Need-returns-16
-returns-16 c = made-at (run-none _ _ _ _ _ _ _ (c .enum-told2 .given .1)) refused
+returns-16 c =
+    let at-remove = c .before .before .before .before in let at-part-of17 = at-remove .before .before in
+    let at-f14 = at-part-of17 .before .before .before .before in
+    rw (at-f14 .f14 .given .1, ← (at-part-of17 .part-of17 .ensures)) (at-remove .remove .ensures)
 
 pub run-spec : {M : Type 1} → statement M
 run-spec =
     tie.close
-    (tie.spec (λ c. search needs) part-of-requires declare-requires (λ c. search needs) part-of-requires-2
-    part-of-requires-3 (λ c κs. search needs) (λ c. search needs) (λ c κs. search needs) part-of-requires-4
-    part-of-requires-5 (λ c κs. search needs) (λ c. search needs) part-of-requires-6 root-requires (λ c. search needs)
-    tree-of-requires child-requires (λ c. search needs) part-of-requires-7 (λ c κs. search needs) (λ c. search needs)
-    (λ c κs. search needs) (λ c. search needs) part-of-requires-8 (λ c κs. search needs) (λ c. search needs)
-    part-of-requires-9 (λ c κs. search needs) (λ c. search needs) part-of-requires-10 part-of-requires-11
-    rename-requires (λ c. search needs) part-of-requires-12 part-of-requires-13 rename-requires-2 (λ c. search needs)
-    part-of-requires-14 tree-of-requires-2 insert-requires (λ c. search needs) part-of-requires-15 tree-of-requires-3
-    insert-requires-2 (λ c. search needs) part-of-requires-16 tree-of-requires-4 insert-requires-3 (λ c. search needs)
-    part-of-requires-17 (λ c κs. search needs) (λ c. search needs) (λ c. search needs) (λ c. search needs)
-    (λ c. search needs) returns (λ c. search needs) (λ c. search needs) (λ c. search needs) returns-2
+    (tie.spec (λ c. search needs) (λ c. search needs) (λ c κs. search needs) declare-requires (λ c. search needs)
+    (λ c κs. search needs) (λ c κs. search needs) (λ c κs. search needs) (λ c. search needs) (λ c κs. search needs)
+    (λ c κs. search needs) (λ c κs. search needs) (λ c κs. search needs) (λ c. search needs) (λ c κs. search needs)
+    root-requires (λ c. search needs) tree-of-requires child-requires (λ c. search needs) (λ c κs. search needs)
+    (λ c κs. search needs) (λ c. search needs) (λ c κs. search needs) (λ c. search needs) (λ c κs. search needs)
+    (λ c κs. search needs) (λ c. search needs) (λ c κs. search needs) (λ c κs. search needs) (λ c. search needs)
+    (λ c κs. search needs) (λ c κs. search needs) rename-requires (λ c. search needs) (λ c κs. search needs)
+    (λ c κs. search needs) rename-requires-2 (λ c. search needs) (λ c κs. search needs) tree-of-requires-2
+    insert-requires (λ c. search needs) (λ c κs. search needs) tree-of-requires-3 insert-requires-2 (λ c. search needs)
+    (λ c κs. search needs) tree-of-requires-4 insert-requires-3 (λ c. search needs) (λ c κs. search needs)
+    (λ c κs. search needs) returns (λ c. search needs) (λ c. search needs) (λ c. search needs) returns-2
     (λ c. search needs) (λ c. search needs) (λ c. search needs) returns-3 (λ c. search needs) (λ c. search needs)
     (λ c. search needs) returns-4 (λ c. search needs) (λ c. search needs) (λ c. search needs) returns-5
     (λ c. search needs) (λ c. search needs) (λ c. search needs) returns-6 (λ c. search needs) (λ c. search needs)
@@ -274,4 +191,5 @@ run-spec =
     (λ c. search needs) returns-10 (λ c. search needs) (λ c. search needs) (λ c. search needs) returns-11
     (λ c. search needs) (λ c. search needs) (λ c. search needs) returns-12 (λ c. search needs) (λ c. search needs)
     (λ c. search needs) returns-13 (λ c. search needs) (λ c. search needs) (λ c. search needs) returns-14
-    (λ c. search needs) (λ c. search needs) (λ c. search needs) returns-15 returns-16)
+    (λ c. search needs) (λ c. search needs) (λ c. search needs) returns-15 (λ c. search needs) (λ c. search needs)
+    (λ c. search needs) returns-16)
