@@ -1,13 +1,13 @@
 -- What a call that may ask is known to have. Assumes nothing.
-use Prim.Native.Nat.{ℕ, zero, suc, _≤_, _<_}
+use Prim.Native.Nat.{ℕ, _≤_, _<_}
 use mathlib.Core.Bool.{Bool, true, false, and-eq-true-iff}
 use mathlib.Core.Path.{_≡_, refl, sym}
-use mathlib.Core.List.{List, [], _∷_, _++_}
+use mathlib.Core.List.{List, _++_}
 use native.Mathlib.Omega.{arith}
 use borrow.Author.Tests.{leb-true, ltb-true, le-leb, lt-leb, lt-ltb, le-ltb}
 use lib.Dec.{leb}
 use lib.IntN.{pos}
-use lib.ListN.{length, getD, take, drop}
+use lib.ListN.{length, take, drop}
 use lib.Seq.{take-all}
 use mir.Facts.{toZ-pos}
 use mir.Syntax.{w64}
@@ -26,6 +26,7 @@ use Rattle.rights.specs.How.Selection.{selection, Selects}
 use Rattle.rights.specs.Table.{tableOk, count, records}
 use Rattle.rights.specs.declared.path.Read.the-variants.{At, Bad}
 use Rattle.rights.proofs.Facts.{both, table-few}
+use Rattle.rights.proofs.Lists.{all-at}
 use Rattle.rights.proofs.NodeLaws.{table-fits}
 use Rattle.rights.proofs.PassLaws.{view-length}
 use Rattle.rights.proofs.Sounds.{policy-sound}
@@ -71,12 +72,6 @@ module _ (p : List ℕ) (u : ℕ) (t : List ℕ) where
           (f .0, leb-true _ _ (g .0), leb-true _ _ (h .0), h .1)
 
 -- every number that passed is one of n
-pub all-at : (f : ℕ → Bool) (xs : List ℕ) → all f xs ≡ true → (i : ℕ) → i < length xs → f (getD xs i 0) ≡ true
-unfolding all
-all-at f [] e i h = absurd (omega arith)
-all-at f (x ∷ xs) e zero h = both (f x) _ e .0
-all-at f (x ∷ xs) e (suc i) h = all-at f xs (both (f x) _ e .1) i (omega arith)
-
 pub nodes-fit : (p : List ℕ) (u : ℕ) (t : List ℕ) (room : ℕ) (shown : List ℕ) → asksNodes p u t shown room ≡ true → Fits t shown
 nodes-fit p u t room shown e =
     let g = nodes-gives p u t room shown e in

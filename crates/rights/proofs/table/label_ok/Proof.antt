@@ -1,94 +1,105 @@
--- The label bytes counted and those left are those of the 24 bytes; the bits gathered and those left behind the label are those behind it.
-use Prim.Native.Nat.{ℕ, _+_, _-_, _≤_}
-use mathlib.Core.Bool.{Bool, and-false, and-true}
-use mathlib.Core.Path.{_≡_, sym, ap, _∙_}
+-- No fault is gathered exactly if there is none at the places before i and at those 8 behind them.
+use Prim.Native.Nat.{ℕ, _+_, _-_, _<_, _≤_}
+use mathlib.Core.Bool.{Bool, true, false, _&&_, and-comm}
+use mathlib.Core.Path.{_≡_, refl, sym, _∙_}
 use mathlib.Core.List.{List}
-use native.Mathlib.Nat.{zero-add}
 use native.Mathlib.Omega.{arith}
+use borrow.Author.Count.{below-more}
 use borrow.Author.Needs.{needs}
-use borrow.Author.Tests.{ne-eqb, eq-eqb}
-use lib.Dec.{eqb}
+use borrow.Author.Tests.{ne-eqb, eq-eqb, ltb-true, ltb-false}
+use lib.Bits.{bitOr}
+use lib.Dec.{eqb, ltb}
 use lib.ListN.{length, take, drop}
-use Rattle.rights.specs.Bytes.{all, isZero, orAll}
-use Rattle.rights.specs.Labels.{sameLabel, restricted}
-use Rattle.rights.proofs.LabelLaws.{labelCount, count-step, count-end, count-label}
-use Rattle.rights.proofs.Lists.{or-end, or-all-zero}
-use Rattle.rights.proofs.Records.{behind-step}
+use Rattle.rights.specs.Bytes.{all, isZero}
+use Rattle.rights.specs.Labels.{labelByte}
+use Rattle.rights.proofs.BoolLaws.{both-ways}
+use Rattle.rights.proofs.Facts.{both}
+use Rattle.rights.proofs.LabelLaws.{faultsAt, FaultlessAt, faultless-label, label-faultless}
+use Rattle.rights.proofs.Lists.{byCase, or-zero}
 use Rattle.rights.proofs.table.label_ok.Statement.{statement}
 use Rattle.rights.proofs.table.label_ok.Tie as tie
 
+-- what the faults that are gathered before place i tell, and what they are told by
+abbrev Tells : List ℕ → ℕ → ℕ → ℕ → Type 0
+Tells s n faults i = eqb faults 0 ≡ true → (k : ℕ) → k < i → FaultlessAt s n k × FaultlessAt s n (k + 8)
+
+abbrev Told : List ℕ → ℕ → ℕ → Type 0
+Told s n faults = ((k : ℕ) → k < length s → FaultlessAt s n k) → eqb faults 0 ≡ true
+
 abbrev Inv-loop : tie.InvT-loop
-Inv-loop r n labels₀ bits₀ side₀ i₀ labels bits side i =
-    (i ≤ 24)
-    × (side + i ≡ 127 + n)
-    × (labels ≤ i)
-    × (labelCount r ≡ labels + labelCount (drop i r))
-    × (orAll 0 (drop n r) ≡ orAll bits (drop (n - i + i) r))
+Inv-loop s n faults₀ place₀ i₀ faults place i = (i ≤ 16) × (place ≡ i) × Tells s n faults i × Told s n faults
 
 abbrev μ-loop : tie.MeasureT-loop
-μ-loop r n labels₀ bits₀ side₀ i₀ labels bits side i = 24 - i
+μ-loop s n faults₀ place₀ i₀ faults place i = 16 - i
+
+-- those of two places more
+module _ (s : List ℕ) (n faults i x y : ℕ) (ex : x ≡ faultsAt s n i) (ey : y ≡ faultsAt s n (i + 8)) where
+  none : eqb (bitOr (bitOr faults x) y) 0 ≡ ((eqb faults 0 && eqb (faultsAt s n i) 0) && eqb (faultsAt s n (i + 8)) 0)
+  none = or-zero (bitOr faults x) y ∙ rw (or-zero faults x, ex, ey)
+
+  tells-more : Tells s n faults i → Tells s n (bitOr (bitOr faults x) y) (i + 1)
+  tells-more t e =
+      let w = both _ _ (sym none ∙ e) in
+      let v = both _ _ (w .0) in
+      below-more _ i (t (v .0)) (v .1, w .1)
+
+  told-more : i + 8 < length s → Told s n faults → Told s n (bitOr (bitOr faults x) y)
+  told-more h t f = none ∙ rw (t f, f i (omega arith), f (i + 8) h)
+
+-- those of all 24, whatever else is tested
+module _ (s : List ℕ) (n faults i : ℕ) (h : length s ≡ 24) (l : n ≤ 24) (d : 16 ≤ i) (t : Tells s n faults i) (u : Told s n faults) where
+  all-told : eqb faults 0 ≡ (all labelByte (take n s) && all isZero (drop n s))
+  all-told =
+      both-ways _ _
+      (λ e. faultless-label s n (omega arith) (λ k b.
+      byCase (ltb k 16)
+      (λ q. t e k (omega (arith, ltb-true k 16 q)) .0)
+      (λ q. let z : (k - 8) + 8 ≡ k = omega (arith, ltb-false k 16 q) in rw z at (t e (k - 8) (omega arith) .1))))
+      (λ e. u (label-faultless s n (omega arith) e))
+
+  told-with : (b : Bool) → (all labelByte (take n s) && (b && all isZero (drop n s))) ≡ (eqb faults 0 && b)
+  told-with b = rw all-told (swap (all labelByte (take n s)) b (all isZero (drop n s)))
+    where
+      swap : (x y z : Bool) → x && (y && z) ≡ (x && z) && y
+      swap true y z = and-comm y z
+      swap false y z = refl
 
 loop-holds : tie.Need-loop-holds Inv-loop μ-loop
-loop-holds c =
-    let n = c .before .args .n in
-    let e : n - 0 + 0 ≡ n = omega arith in
-    (omega arith, omega arith, omega arith, sym (zero-add _), rw e)
-
-add-labels : tie.Need-add-labels Inv-loop μ-loop
-add-labels c = omega (arith, c .label-bit .ensures .1)
+loop-holds c = (omega arith, refl, (λ e k h. absurd (omega arith)), (λ f. refl))
 
 loop-again : tie.Need-loop-again Inv-loop μ-loop
 loop-again c =
-    let at-label-bit = c .before in let at-loop = at-label-bit .before .before .before in let start = at-loop .before .before in
+    let first = c .before .before in let at-loop = first .before .before .before in let a = at-loop .before .before .args in
     let at = at-loop .loop in
-    let r = start .args .field .now in
-    let e = start .args .n in
-    let bit = at-label-bit .label-bit .ensures in (
+    let s = a .field .now in
+    let x : first .faults-of .result ≡ faultsAt s (a .n) (at .i) = first .faults-of .ensures ∙ rw (at .inv .1) in
+    let y : c .faults-of2 .result ≡ faultsAt s (a .n) (at .i + 8) = c .faults-of2 .ensures ∙ rw (at .inv .1) in (
       omega arith,
       omega arith,
-      omega (arith, bit .1),
-      at .inv .3 ∙ rw (count-step r (at .i) (omega arith), ← (bit .0)) (omega arith),
-      at .inv .4 ∙ behind-step r e (at .i) (at .side) (at .bits) (omega arith) (omega arith) ∙ rw (← (c .behind .ensures)),
+      tells-more s (a .n) (at .faults) (at .i) _ _ x y (at .inv .2),
+      told-more s (a .n) (at .faults) (at .i) _ _ x y (omega arith) (at .inv .3),
     )
-
--- the bits gathered are those behind the label
-module _ (r : List ℕ) (n i bits : ℕ) (h : length r ≤ i) (e : orAll 0 (drop n r) ≡ orAll bits (drop (n - i + i) r)) where
-  zeros-told : eqb bits 0 ≡ all isZero (drop n r)
-  zeros-told = rw (← or-end bits r (n - i + i) (omega arith), ← e) (or-all-zero 0 (drop n r))
-
-banned-told : (r : List ℕ) (n m : ℕ) (v : Bool) → m ≡ n → v ≡ sameLabel (take m r) restricted → v ≡ sameLabel (take n r) restricted
-banned-told r n m v e h = h ∙ ap (λ k. sameLabel (take k r) restricted) e
 
 returns : tie.Need-returns Inv-loop μ-loop
 returns c =
-    let at-loop = c .before .before in let start = at-loop .before .before in
+    let at-loop = c .before .before in let a = at-loop .before .before .args in
     let at = at-loop .loop in
-    let a = start .args in
-    let zero = sym (zeros-told (a .field .now) (a .n) (at .i) (at .bits) (omega arith) (at .inv .4)) ∙ ne-eqb (at .bits) 0 (c .if1 .taken) in
-    simp (zero, and-false)
+    rw (told-with (a .field .now) (a .n) (at .faults) (at .i) (omega arith) (omega arith) (omega arith) (at .inv .2) (at .inv .3), ne-eqb (at .faults) 0 (c .if1 .taken))
 
 returns-2 : tie.Need-returns-2 Inv-loop μ-loop
 returns-2 c =
-    let at-is-restricted = c .before in let at-wide = at-is-restricted .before in let start = at-wide .before .before .before .before .before in
-    let a = start .args in
-    let same = sym (banned-told (a .field .now) (a .n) (at-wide .wide .result) (at-is-restricted .is-restricted .result) (omega arith) (at-is-restricted .is-restricted .ensures)) ∙ c .if2 .taken in
-    simp (same, and-false)
-
-returns-3 : tie.Need-returns-3 Inv-loop μ-loop
-returns-3 c =
-    let at-is-restricted = c .before in let at-wide = at-is-restricted .before in let at-if1 = at-wide .before in
-    let at-loop = at-if1 .before .before in let start = at-loop .before .before in
+    let at-if1 = c .before .before in let at-loop = at-if1 .before .before in let a = at-loop .before .before .args in
     let at = at-loop .loop in
-    let a = start .args in
-    let r = a .field .now in
-    let zero = sym (zeros-told r (a .n) (at .i) (at .bits) (omega arith) (at .inv .4)) ∙ eq-eqb (at .bits) 0 (at-if1 .if1 .left) in
-    let same = sym (banned-told r (a .n) (at-wide .wide .result) (at-is-restricted .is-restricted .result) (omega arith) (at-is-restricted .is-restricted .ensures)) ∙ c .if2 .left in
-    let labels : labelCount r ≡ at .labels = at .inv .3 ∙ rw (count-end r (at .i) (omega arith)) (omega arith) in
-    rw (zero, same, ← count-label r (a .n) (omega arith) zero, labels) (sym (and-true _))
+    rw (
+      told-with (a .field .now) (a .n) (at .faults) (at .i) (omega arith) (omega arith) (omega arith) (at .inv .2) (at .inv .3),
+      eq-eqb (at .faults) 0 (at-if1 .if1 .left),
+      c .is-restricted .ensures,
+      c .before .wide .ensures,
+    )
 
 pub label-ok-spec : {M : Type 1} → statement M
 label-ok-spec =
     tie.close
-    (tie.spec Inv-loop μ-loop (λ c. omega arith) loop-holds (λ c. omega arith) (λ c κs. tt) add-labels (λ c κs. tt)
-    (λ c. omega arith) (λ c. omega arith) (λ c. omega arith) loop-again returns (λ c κs. search needs)
-    (λ c κs. search needs) returns-2 returns-3)
+    (tie.spec Inv-loop μ-loop loop-holds (λ c. omega arith) (λ c κs. tt) (λ c. omega arith) (λ c. omega arith)
+    (λ c. omega arith) (λ c κs. tt) (λ c. omega arith) (λ c. omega arith) (λ c. omega arith) loop-again returns
+    (λ c κs. search needs) (λ c κs. search needs) returns-2)
