@@ -15,18 +15,17 @@ use Rattle.rights.specs.Marks.{bit, marksOf}
 use Rattle.rights.specs.Nodes.{Nodes, Fits, viewOf}
 use Rattle.rights.specs.Isa.{passesOwn}
 use Rattle.rights.specs.PolicyBytes.{policyOf, subjectCount}
-use Rattle.rights.specs.How.Roles.{Declared}
-use Rattle.rights.specs.PolicyCheck.{policyOk}
+use Rattle.rights.specs.How.Roles.{Declared, OwnFirst, Subjects, nameAmong}
 use Rattle.rights.specs.Rights.{rightsBy, chains, askedOn}
 use Rattle.rights.specs.How.Selection.{selection, Selects}
-use Rattle.rights.specs.XPath.{xpathSelection}
-use Rattle.rights.specs.Table.{count, records, tableOk}
-use Rattle.rights.proofs.Facts.{table-few}
+use Rattle.rights.specs.Table.{count, records}
 use Rattle.rights.proofs.FiveRights.{asked-all}
 use Rattle.rights.proofs.Lists.{rest-of}
 use Rattle.rights.proofs.MarkLaws.{marks-bits, each-length}
+use Rattle.rights.proofs.OwnNames.{own-sound, own-passes, own-part}
 use Rattle.rights.proofs.PassLaws.{view-length}
 use Rattle.rights.proofs.RightsLaws.{rule-bit}
+use Rattle.rights.proofs.Sounds.{policy-sound}
 use Rattle.rights.proofs.XPathLaws.{selection-xpath}
 use Rattle.views.specs.Shown.{storedFrom, stored, shownNumbers}
 use Rattle.views.proofs.AskedView.{shown-asked}
@@ -64,13 +63,13 @@ chains-length c (r ∷ rs) = ap suc (chains-length _ rs)
 pub rights-length : (s t : List ℕ) → length (rightsIn s t) ≡ count t
 rights-length s t = length-map (chains [] (records t)) (rightsBy _ (userOf s)) ∙ chains-length [] (records t) ∙ length-records t
 
--- what the rights of the user ask, where the policy is a part of the state
-module _ (s t : List ℕ) (ok : storeOk s t ≡ true) (u : noUser s ≡ false) (user n : ℕ) (e : user ≡ userByte s) where
-  pub rights-asks : n ≡ 16384
-      → (policyOk (take (length s - 8) (drop 8 s)) ≡ true) × (user - 1 < subjectCount (take (length s - 8) (drop 8 s))) × (tableOk t ≡ true) × (count t ≤ n)
-  rights-asks q =
-      let h = store-held s t ok in
-      rw (rest-of s 8) (h .policy, rw e (user-declared s t ok u), h .table, omega (arith, table-few t (h .table)))
+-- the user where the policy is a part of the state, and the subjects for which `$` stands
+module _ (s : List ℕ) (user : ℕ) (e : user ≡ userByte s) where
+  pub user-asks : (t : List ℕ) → storeOk s t ≡ true → noUser s ≡ false → Declared (take (length s - 8) (drop 8 s)) (user - 1)
+  user-asks t ok u = rw (rest-of s 8, e) (record { policy = store-held s t ok .policy; subject = user-declared s t ok u })
+
+  pub user-own : (ks : List ℕ) (m : ℕ) → OwnFirst (take (length s - 8) (drop 8 s)) (user - 1) ks m → OwnFirst (policyBytes s) (userOf s) ks m
+  user-own ks m o = rw (rest-of s 8, e) at o
 
 -- what the asked rights of the user are, and give
 module _ (s t rights' more : List ℕ) (user asked : ℕ) (e : user ≡ userByte s) (q : rights' ≡ askedOn asked (policyOf (take (length s - 8) (drop 8 s))) (user - 1) (records t) ++ more) where
@@ -113,10 +112,9 @@ module _ (s t : List ℕ) (ok : storeOk s t ≡ true) (shown' more : List ℕ) (
   pub shown-view : viewOf t (take (k - 0) (drop 0 shown')) ≡ viewIn s t
   shown-view = ap (viewOf t) shown-part ∙ view-by-numbers t (rightsIn s t) (store-held s t ok .table)
 
--- the policy's part, as the selection asks for its user
-pub subject-asks : (s t : List ℕ) → storeOk s t ≡ true → noUser s ≡ false → (user : ℕ) → user ≡ userByte s → Declared (take (length s - 8) (drop 8 s)) (user - 1)
-subject-asks s t ok u user e =
-    rw (rest-of s 8, e) (record { policy = store-held s t ok .policy; subject = user-declared s t ok u })
+-- the subjects for which `$` stands, as the selection asks for them
+pub own-asks : (s t : List ℕ) → storeOk s t ≡ true → (ks : List ℕ) (m : ℕ) → OwnFirst (policyBytes s) (userOf s) ks m → Subjects (take (length s - 8) (drop 8 s)) (take (m - 0) (drop 0 ks))
+own-asks s t ok ks m o = rw (rest-of s 8) (own-sound (own-part o) (policy-sound _ (store-held s t ok .policy)))
 
 marks-long : (s t path : List ℕ) → length (marksIn s t path) ≡ length (viewIn s t)
 marks-long s t path = each-length _ 0 (length (viewIn s t))
@@ -128,16 +126,19 @@ pub marks-size : (s t path : List ℕ) → storeOk s t ≡ true → length (mark
 marks-size s t path ok = marks-long s t path ∙ view-long s t ok
 
 -- what is selected from the user's view
-module _ (s t path : List ℕ) (ok : storeOk s t ≡ true) (user : ℕ) (e : user ≡ userByte s) (nodes : Nodes) (v : nodes ≡ viewIn s t) where
+module _ (s t path : List ℕ) (ok : storeOk s t ≡ true) (ks : List ℕ) (m : ℕ) (own : OwnFirst (policyBytes s) (userOf s) ks m) (nodes : Nodes) (v : nodes ≡ viewIn s t) where
   pub picked-are : (before after : List ℕ) (k : ℕ) → k ≡ length (shownNumbers (storedIn s t))
-      → Selects nodes (passesOwn (policyOf (take (length s - 8) (drop 8 s))) (user - 1)) path before after → after ≡ map bit (marksIn s t path) ++ drop k before
+      → Selects nodes (nameAmong (take (length s - 8) (drop 8 s)) (take (m - 0) (drop 0 ks))) path before after → after ≡ map bit (marksIn s t path) ++ drop k before
   picked-are before after k z q =
-      let m : selection path (passesOwn (policyOf (take (length s - 8) (drop 8 s))) (user - 1)) nodes ≡ marksIn s t path =
-      ap (selection path (passesOwn (policyOf (take (length s - 8) (drop 8 s))) (user - 1))) v
-      ∙ selection-xpath (passesOwn (policyOf (take (length s - 8) (drop 8 s))) (user - 1)) (viewIn s t) (view-nested t (rightsIn s t) (store-held s t ok .table)) path
-      ∙ ap (λ p. xpathSelection path (passesOwn (policyOf p) (user - 1)) (viewIn s t)) (rest-of s 8)
-      ∙ ap (λ n. xpathSelection path (passesOwn (policyIn s) (n - 1)) (viewIn s t)) e in
-      q ∙ ap (λ l. map bit l ++ drop (length nodes) before) m ∙ ap (λ n. map bit (marksIn s t path) ++ drop n before) (ap length v ∙ view-long s t ok ∙ sym z)
+      let mine : nameAmong (take (length s - 8) (drop 8 s)) (take (m - 0) (drop 0 ks)) ≡ passesOwn (policyIn s) (userOf s) =
+      ap (λ p. nameAmong p (take (m - 0) (drop 0 ks))) (rest-of s 8) ∙ own-passes (own-part own) in
+      let marks : selection path (passesOwn (policyIn s) (userOf s)) nodes ≡ marksIn s t path =
+      ap (selection path (passesOwn (policyIn s) (userOf s))) v
+      ∙ selection-xpath (passesOwn (policyIn s) (userOf s)) (viewIn s t) (view-nested t (rightsIn s t) (store-held s t ok .table)) path in
+      q
+      ∙ ap (λ f. map bit (selection path f nodes) ++ drop (length nodes) before) mine
+      ∙ ap (λ l. map bit l ++ drop (length nodes) before) marks
+      ∙ ap (λ n. map bit (marksIn s t path) ++ drop n before) (ap length v ∙ view-long s t ok ∙ sym z)
 
 -- a part that holds the marks
 pub marks-part : (s t path marks' more : List ℕ) (k : ℕ) → storeOk s t ≡ true → k ≡ length (shownNumbers (storedIn s t)) → marks' ≡ map bit (marksIn s t path) ++ more

@@ -8,7 +8,10 @@ use answers::answer::answer_find;
 use answers::answer::answer_query;
 use answers::answer::answer_view;
 use rights::bytes::wide;
+use rights::isa::own_subjects;
+use rights::isa::roles_of;
 use rights::limits::RECORDS_MAX;
+use rights::limits::SUBJECTS_MAX;
 use rights::limits::VIEW_RIGHTS;
 use rights::path::Read;
 use rights::path::check_path;
@@ -22,6 +25,7 @@ ghost use Prim.Native.Nat.{_≤_};
 ghost use lib.ListN.{length, drop};
 ghost use Rattle.rights.specs.Limits.{recordsMax};
 ghost use Rattle.rights.specs.Marks.{marksOf};
+ghost use Rattle.rights.specs.How.Roles.{OwnFirst};
 ghost use Rattle.rights.specs.Nodes.{Fits, viewOf};
 ghost use Rattle.views.specs.Shown.{shownNumbers};
 ghost use Rattle.answers.specs.How.AnswerArea.{Answered};
@@ -29,7 +33,7 @@ ghost use Rattle.answers.specs.AnswerChoice.{chosen};
 ghost use Rattle.lines.specs.How.ChangeRoom.{AskedHeld, Chosen, ForView};
 ghost use Rattle.lines.specs.Effect.{Performs};
 ghost use Rattle.lines.specs.Refusal.{Passed, firstRefusal};
-ghost use Rattle.lines.specs.State.{storeOk};
+ghost use Rattle.lines.specs.State.{userOf, policyBytes, storeOk};
 ghost use Rattle.lines.specs.UserView.{storedIn};
 ghost use Rattle.lines.specs.Work.{viewChecks, onView, answerTo, workView, workAsk};
 
@@ -61,17 +65,42 @@ pub fn path_refusal(state: &[u8], path: &[u8]) -> u8
     view_refusal(state)
 }
 
-// Writes the asked rights of the user on each node, position and read among them, and the numbers of the nodes that the user is shown, and returns how many they are.
-fn show_user(state: &[u8], table: &[u8], asked: u8, rights: &mut [u8], shown: &mut [u16]) -> usize
+// What is worked out of a user: the subjects for which `$` stands, in the first `own` places of `subjects`, and how many nodes are shown.
+struct Seen {
+    subjects: [u8; 64],
+    own: usize,
+    nodes: usize,
+}
+
+// Writes the asked rights of the user on each node, position and read among them, and the numbers of the nodes that the user is shown.
+fn show_user(state: &[u8], table: &[u8], asked: u8, rights: &mut [u8], shown: &mut [u16]) -> Seen
     requires { ⌜ (storeOk (now state) (now table) ≡ true) × Passed (viewChecks (now state)) × ForView asked
         × (length (now rights) ≡ recordsMax) × (length (now shown) ≡ recordsMax) ⌝ }
-    ensures { λ r. ⌜ (r ≡ length (shownNumbers (storedIn (now (state .entry)) (now (table .entry)))))
-        × (now (shown .exit) ≡ shownNumbers (storedIn (now (state .entry)) (now (table .entry))) ++ drop r (now (shown .entry)))
+    ensures { λ r. ⌜ OwnFirst (policyBytes (now (state .entry))) (userOf (now (state .entry))) (r .subjects) (r .own)
+        × (r .nodes ≡ length (shownNumbers (storedIn (now (state .entry)) (now (table .entry)))))
+        × (now (shown .exit) ≡ shownNumbers (storedIn (now (state .entry)) (now (table .entry))) ++ drop (r .nodes) (now (shown .entry)))
         × AskedHeld asked (now (state .entry)) (now (table .entry)) (now (rights .entry)) (now (rights .exit)) ⌝ }
 {
+    let policy = &state[POLICY_AT..];
     let user = wide(state[1]) - 1;
-    asked_on(&state[POLICY_AT..], user, table, asked, rights);
-    show(table, &rights[..], shown)
+    let roles = roles_of(policy, user);
+    let mut subjects = [0u8; SUBJECTS_MAX];
+    let own = own_subjects(policy, user, &roles, &mut subjects);
+    asked_on(
+        policy,
+        user,
+        &roles,
+        &subjects[0..own],
+        table,
+        asked,
+        rights,
+    );
+    let nodes = show(table, &rights[..], shown);
+    Seen {
+        subjects: subjects,
+        own: own,
+        nodes: nodes,
+    }
 }
 
 // `(view)`.
@@ -86,7 +115,8 @@ pub fn view(state: &[u8], table: &[u8], area: &mut [u8]) -> Answer
     }
     let mut rights = [0u8; RECORDS_MAX];
     let mut shown = [0u16; RECORDS_MAX];
-    let k = show_user(state, table, VIEW_RIGHTS, &mut rights, &mut shown);
+    let seen = show_user(state, table, VIEW_RIGHTS, &mut rights, &mut shown);
+    let k = seen.nodes;
     let need = answer_view(table, &shown[0..k], area);
     let short = area_refusal(need, area.len());
     if short != 0 {
@@ -112,9 +142,18 @@ pub fn select_user(
         (now (shown .exit)) (now (marks .exit)))
         × AskedHeld asked (now (state .entry)) (now (table .entry)) (now (rights .entry)) (now (rights .exit)) ⌝ }
 {
-    let k = show_user(state, table, asked, rights, shown);
-    let user = wide(state[1]) - 1;
-    select(&state[POLICY_AT..], user, table, &shown[0..k], path, marks);
+    let seen = show_user(state, table, asked, rights, shown);
+    let subjects = seen.subjects;
+    let m = seen.own;
+    let k = seen.nodes;
+    select(
+        &state[POLICY_AT..],
+        &subjects[0..m],
+        table,
+        &shown[0..k],
+        path,
+        marks,
+    );
     k
 }
 

@@ -12,9 +12,9 @@ use lib.ListN.{length, take, drop, getD, length-append, List·getD-append}
 use lib.Seq.{take-suc, take-all, getD-append-seam}
 use Rattle.rights.specs.Labels.{sameLabel}
 use Rattle.rights.specs.Policy.{Policy, nameOf, some}
-use Rattle.rights.specs.Isa.{standsFor, subjectsWhere, ownSubjects, passesOwn}
+use Rattle.rights.specs.Isa.{standsFor, subjectsWhere, passesOwn}
 use Rattle.rights.specs.PolicyBytes.{policyOf, nameAt}
-use Rattle.rights.specs.How.Roles.{Own, Subjects, nameAmong}
+use Rattle.rights.specs.How.Roles.{Own, OwnFirst, Subjects, nameAmong}
 use Rattle.rights.specs.How.Automaton.{Sound}
 use Rattle.rights.proofs.Held.{names-length, name-held}
 use Rattle.rights.proofs.Lists.{byCase}
@@ -72,32 +72,25 @@ module _ (f : ℕ → Bool) where
       (λ z. rw z at e)) in
       (r .0, omega (arith, r .1), r .2))
 
-module _ (p : List ℕ) (u : ℕ) where
-  pub own-sound : Sound p → Subjects p (ownSubjects (policyOf p) u)
+module _ {p ks : List ℕ} {u : ℕ} (own : Own p u ks) where
+  pub own-sound : Sound p → Subjects p ks
   own-sound s =
       let f = standsFor (policyOf p) u in
       let n = names-length p in
-      record {
+      subst (Subjects p) (sym (own .are)) (record {
         few = omega (arith, where-few f (length (policyOf p .names)), n, s .subjects);
         at = λ i h. let k = where-below f (length (policyOf p .names)) i h in
             record { declared = omega (arith, k, n); name = s .names _ (omega (arith, k, n)) };
-      }
+      })
 
-  pub own-passes : nameAmong p (ownSubjects (policyOf p) u) ≡ passesOwn (policyOf p) u
+  pub own-passes : nameAmong p ks ≡ passesOwn (policyOf p) u
   unfolding passesOwn
-  own-passes = λ i x. where-some (standsFor (policyOf p) u) (λ k. sameLabel x (nameAt p k)) (λ k. sameLabel x (nameOf (policyOf p) k)) (length (policyOf p .names))
-      (λ k h. ap (sameLabel x) (sym (name-held p k (omega (arith, h, names-length p))))) i
+  own-passes = ap (nameAmong p) (own .are) ∙ (λ i x. where-some (standsFor (policyOf p) u) (λ k. sameLabel x (nameAt p k)) (λ k. sameLabel x (nameOf (policyOf p) k)) (length (policyOf p .names))
+      (λ k h. ap (sameLabel x) (sym (name-held p k (omega (arith, h, names-length p))))) i)
 
 -- what a slice of the first m of the subjects holds
-module _ {p : List ℕ} {u m : ℕ} {ks : List ℕ} (o : Own p u ks m) where
-  part : take (m - 0) (drop 0 ks) ≡ ownSubjects (policyOf p) u
-  part = ap (λ (k : ℕ). take k ks) (sub-zero m) ∙ o .are
-
-  pub part-sound : Sound p → Subjects p (take (m - 0) (drop 0 ks))
-  part-sound s = subst (Subjects p) (sym part) (own-sound p u s)
-
-  pub part-passes : nameAmong p (take (m - 0) (drop 0 ks)) ≡ passesOwn (policyOf p) u
-  part-passes = ap (nameAmong p) part ∙ own-passes p u
+pub own-part : {p ks : List ℕ} {u m : ℕ} → OwnFirst p u ks m → Own p u (take (m - 0) (drop 0 ks))
+own-part {ks = ks} {m = m} o = record { are = ap (λ (k : ℕ). take k ks) (sub-zero m) ∙ o .own .are }
 
 -- a label that passes `$` is a subject's name
 pub own-named : (P : Policy) (u : ℕ) (x : List ℕ) → passesOwn P u x ≡ true → (k : ℕ) × (k < length (P .names)) × (sameLabel x (nameOf P k) ≡ true)

@@ -10,7 +10,7 @@ ghost use lib.ListN.{length, take};
 ghost use Rattle.rights.specs.Isa.{standsFor};
 ghost use Rattle.rights.specs.PolicyBytes.{policyOf, subjectCount, isaCount};
 ghost use Rattle.rights.specs.PolicyCheck.{policyOk};
-ghost use Rattle.rights.specs.How.Roles.{Roles, Own, lined, widened};
+ghost use Rattle.rights.specs.How.Roles.{Roles, OwnFirst, lined, widened};
 ghost use Rattle.rights.specs.How.Automaton.{Sound};
 
 // Sets the role that isa line j gives to subject k.
@@ -80,8 +80,8 @@ fn put_subject(on: bool, k: usize, m: usize, out: &mut [u8; 64]) -> usize
 
 // Writes the subjects for which `$` stands, and returns how many they are.
 pub fn own_subjects(policy: &[u8], u: usize, roles: &[u8; 64], out: &mut [u8; 64]) -> usize
-    requires { ⌜ Sound (now policy) × Roles (now policy) u (now roles) × (length (now out) ≡ 64) ⌝ }
-    ensures { λ r. ⌜ Own (now (policy .entry)) u (now (out .exit)) r ⌝ }
+    requires { ⌜ (policyOk (now policy) ≡ true) × Roles (now policy) u (now roles) × (length (now out) ≡ 64) ⌝ }
+    ensures { λ r. ⌜ OwnFirst (now (policy .entry)) u (now (out .exit)) r ⌝ }
 {
     let count = wide(policy[0]);
     let mut m = 0;

@@ -12,16 +12,15 @@ use crate::vocabulary::sort_words;
 ghost use mathlib.Core.Path.{_≡_};
 ghost use mathlib.Core.List.{_++_};
 ghost use mathlib.Core.Bool.{true};
-ghost use Prim.Native.Nat.{ℕ, _+_, _*_, _/_, _%_, _≤_, _<_};
+ghost use Prim.Native.Nat.{ℕ, _/_, _%_, _≤_, _<_};
 ghost use lib.ListN.{length, drop};
 ghost use lib.Dec.{eqb};
-ghost use Rattle.rights.specs.Limits.{recordsMax};
-ghost use Rattle.rights.specs.Table.{recordsFrom, recordsOk, records, count, tableOk};
-ghost use Rattle.rights.specs.PolicyCheck.{bitOk, policyOk};
-ghost use Rattle.rights.specs.PolicyBytes.{policyOf, subjectCount, ruleCount, rightBit};
+ghost use Rattle.rights.specs.Table.{records, count, tableOk};
+ghost use Rattle.rights.specs.PolicyCheck.{policyOk};
+ghost use Rattle.rights.specs.PolicyBytes.{policyOf, subjectCount};
 ghost use Rattle.rights.specs.Rights.{rightsOn, askedOn};
-ghost use Rattle.rights.specs.How.Roles.{Roles};
-ghost use Rattle.rights.specs.How.Automaton.{Each, Sound};
+ghost use Rattle.rights.specs.How.Roles.{Roles, Own};
+ghost use Rattle.rights.specs.How.Automaton.{Each};
 
 // Sets the first n bytes of out to 0: no rights.
 fn clear_rights(out: &mut [u8], n: usize)
@@ -35,29 +34,27 @@ fn clear_rights(out: &mut [u8], n: usize)
     }
 }
 
-// Writes the asked rights that subject u has on each of the first n nodes.
-fn rights_of(
+// Writes the asked ones of the rights that subject u has on each node of a table: one byte a node, one bit a right. `roles` is what u is, and `own` are the
+// subjects for which `$` stands.
+pub fn asked_on(
     policy: &[u8],
     u: usize,
     roles: &[u8; 64],
-    t: &[u8],
-    n: usize,
+    own: &[u8],
+    table: &[u8],
     asked: u8,
     out: &mut [u8],
 )
-    requires { ⌜ Sound (now policy) × ((k : ℕ) → k < ruleCount (now policy) → bitOk (rightBit (now policy) k) ≡ true)
-        × Roles (now policy) u (now roles) × (4 + n * 32 ≤ length (now t)) × (recordsOk 0 0 (recordsFrom (now t) n 0) ≡ true) × (n ≤ recordsMax)
-        × (n ≤ length (now out)) ⌝ }
-    ensures { λ _. ⌜ now (out .exit) ≡ askedOn asked (policyOf (now (policy .entry))) u (recordsFrom (now (t .entry)) n 0) ++ drop n
-        (now (out .entry)) ⌝ }
+    requires { ⌜ (policyOk (now policy) ≡ true) × Roles (now policy) u (now roles) × Own (now policy) u (now own) × (tableOk (now table) ≡ true)
+        × (count (now table) ≤ length (now out)) ⌝ }
+    ensures { λ _. ⌜ now (out .exit) ≡ askedOn asked (policyOf (now (policy .entry))) u (records (now (table .entry))) ++ drop
+        (count (now (table .entry))) (now (out .entry)) ⌝ }
 {
-    let mut subjects = [0u8; SUBJECTS_MAX];
-    let m = own_subjects(policy, u, roles, &mut subjects);
-    let own = &subjects[0..m];
+    let n = count_of(table);
     let mut words = [0u32; WORDS_MAX];
     let count = sort_words(policy, own, &mut words);
     let mut numbers = [0u16; RECORDS_MAX];
-    number_nodes(policy, &words, count, t, n, &mut numbers);
+    number_nodes(policy, &words, count, table, n, &mut numbers);
     let mut rows = [0u64; WORDS_MAX + 1];
     clear_rights(out, n);
     try_rights(
@@ -67,24 +64,12 @@ fn rights_of(
         &words,
         count,
         roles,
-        t,
+        table,
         n,
         &numbers,
         &mut rows,
         out,
     );
-}
-
-// Writes the asked ones of the rights that subject u has on each node of a table: one byte a node, one bit a right.
-pub fn asked_on(policy: &[u8], u: usize, table: &[u8], asked: u8, out: &mut [u8])
-    requires { ⌜ (policyOk (now policy) ≡ true) × (u < subjectCount (now policy)) × (tableOk (now table) ≡ true)
-        × (count (now table) ≤ length (now out)) ⌝ }
-    ensures { λ _. ⌜ now (out .exit) ≡ askedOn asked (policyOf (now (policy .entry))) u (records (now (table .entry))) ++ drop
-        (count (now (table .entry))) (now (out .entry)) ⌝ }
-{
-    let roles = roles_of(policy, u);
-    let n = count_of(table);
-    rights_of(policy, u, &roles, table, n, asked, out);
 }
 
 // Writes the rights that subject u has on each node of a table.
@@ -94,7 +79,10 @@ pub fn rights_on(policy: &[u8], u: usize, table: &[u8], out: &mut [u8])
     ensures { λ _. ⌜ now (out .exit) ≡ rightsOn (policyOf (now (policy .entry))) u (records (now (table .entry))) ++ drop (count (now (table .entry)))
         (now (out .entry)) ⌝ }
 {
-    asked_on(policy, u, table, ALL_RIGHTS, out);
+    let roles = roles_of(policy, u);
+    let mut subjects = [0u8; SUBJECTS_MAX];
+    let m = own_subjects(policy, u, &roles, &mut subjects);
+    asked_on(policy, u, &roles, &subjects[0..m], table, ALL_RIGHTS, out);
 }
 
 // Whether a set of rights holds the right with this bit.

@@ -1,7 +1,7 @@
 -- What a call that may ask is known to have. Assumes nothing.
 use Prim.Native.Nat.{ℕ, _≤_, _<_}
 use mathlib.Core.Bool.{Bool, true, false, and-eq-true-iff}
-use mathlib.Core.Path.{_≡_, refl, sym}
+use mathlib.Core.Path.{_≡_, refl, sym, ap, _∙_}
 use mathlib.Core.List.{List, _++_, map}
 use native.Mathlib.Omega.{arith}
 use borrow.Author.Tests.{leb-true, ltb-true, le-leb, lt-leb, lt-ltb, le-ltb}
@@ -19,7 +19,7 @@ use Rattle.rights.specs.PathReader.{Got, got, bad, placeOf, pathOf}
 use Rattle.rights.specs.Isa.{passesOwn}
 use Rattle.rights.specs.Policy.{policyWord}
 use Rattle.rights.specs.PolicyBytes.{policyOf, subjectCount}
-use Rattle.rights.specs.How.Roles.{Declared}
+use Rattle.rights.specs.How.Roles.{Declared, Own, nameAmong}
 use Rattle.rights.specs.PolicyCheck.{policyOk}
 use Rattle.rights.specs.Rights.{rightsOn}
 use Rattle.rights.specs.Marks.{bit}
@@ -29,6 +29,7 @@ use Rattle.rights.specs.declared.path.Read.the-variants.{At, Bad}
 use Rattle.rights.proofs.Facts.{both, table-few}
 use Rattle.rights.proofs.Lists.{all-at}
 use Rattle.rights.proofs.NodeLaws.{table-fits}
+use Rattle.rights.proofs.OwnNames.{own-passes}
 use Rattle.rights.proofs.PassLaws.{view-length}
 use Rattle.rights.proofs.Sounds.{policy-sound}
 use Rattle.trials.specs.Trials.{refused, notWellFormed, yes, either, pathCode, wordCode, asks, asksRights, RightsTried, below, asksNodes, SelectionTried}
@@ -129,10 +130,11 @@ module _ (p : List ℕ) (u : ℕ) (t : List ℕ) (before : List ℕ) where
   rights-refused e = record { answer = rw e; out = rw e }
 
   module _ (shown s : List ℕ) where
-    pub nodes-done : asksNodes p u t shown (length before) ≡ true → (i : ℕ) → placeOf (pathOf s) ≡ At i → (after : List ℕ) → Selects (viewOf t shown) (passesOwn (policyOf p) u) s before after
-        → SelectionTried p u t shown s before after (toZ w64 (length shown))
-    nodes-done e i q after h =
+    pub nodes-done : asksNodes p u t shown (length before) ≡ true → (i : ℕ) → placeOf (pathOf s) ≡ At i → (own after : List ℕ) → Own p u own
+        → Selects (viewOf t shown) (nameAmong p own) s before after → SelectionTried p u t shown s before after (toZ w64 (length shown))
+    nodes-done e i q own after o found =
         let g = nodes-gives p u t (length before) shown e in
+        let h = found ∙ ap (λ mine. selection s mine (viewOf t shown) ++ drop (length (viewOf t shown)) before) (own-passes o) in
         record {
           answer = rw (e, either-read (pathOf s) i (pos (length shown)) notWellFormed q) (counted (length shown) (g .1));
           marks = rw (e, ← (view-length t shown), either-read (pathOf s) i (map bit (selection s (passesOwn (policyOf p) u) (viewOf t shown)) ++ drop (length (viewOf t shown)) before) before q) h;

@@ -1,7 +1,10 @@
 // The lower crate for callers that have checked nothing: C programs, tests and benches. Each function checks all that it is lent first, and answers a
 // number: what was asked, or -1 where the bytes are no table or no policy, the subject is not declared or an area is too short.
 use rights::bytes::wide;
+use rights::isa::own_subjects;
+use rights::isa::roles_of;
 use rights::limits::RECORDS_MAX;
+use rights::limits::SUBJECTS_MAX;
 use rights::path::Read;
 use rights::path::check_path;
 use rights::policy::is_policy_word;
@@ -152,7 +155,10 @@ pub extern "C" fn trial_select(
         let Read::At(_) = check_path(path) else {
             return -2;
         };
-        select(policy, u, table, shown, path, marks);
+        let roles = roles_of(policy, u);
+        let mut subjects = [0u8; SUBJECTS_MAX];
+        let m = own_subjects(policy, u, &roles, &mut subjects);
+        select(policy, &subjects[0..m], table, shown, path, marks);
         return shown.len() as i64;
     }
     -1

@@ -36,10 +36,13 @@ unfoldable pub sweep : List ℕ → ℕ → List ℕ → List ℕ
 sweep p zero out = out
 sweep p (suc k) out = sweep p k (widened p k out)
 
--- the first m places hold the subjects for which `$` stands
-pub record Own (p : List ℕ) (u : ℕ) (ks : List ℕ) (m : ℕ) : Type 0 where
+-- the subjects for which `$` stands, and the same in the first m places
+pub record Own (p : List ℕ) (u : ℕ) (ks : List ℕ) : Type 0 where
+  pub are : ks ≡ ownSubjects (policyOf p) u
+
+pub record OwnFirst (p : List ℕ) (u : ℕ) (ks : List ℕ) (m : ℕ) : Type 0 where
   pub few : m ≤ length ks
-  pub are : take m ks ≡ ownSubjects (policyOf p) u
+  pub own : Own p u (take m ks)
 
 -- subjects of a policy
 pub record Subjects (p ks : List ℕ) : Type 0 where

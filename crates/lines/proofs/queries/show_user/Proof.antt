@@ -1,42 +1,55 @@
+use mathlib.Core.Path.{refl}
 use native.Mathlib.Omega.{arith}
 use borrow.Author.Needs.{needs}
 use lib.ListN.{drop}
 use Rattle.rights.specs.Table.{count}
-use Rattle.lines.proofs.UserViewLaws.{asked-cover, asked-shown, asked-held, user-some, rights-asks}
 use Rattle.rights.proofs.Facts.{table-few}
+use Rattle.rights.proofs.OwnNames.{own-part}
 use Rattle.lines.proofs.StateLaws.{store-held}
+use Rattle.lines.proofs.UserViewLaws.{asked-cover, asked-shown, asked-held, user-some, user-asks, user-own}
 use Rattle.lines.proofs.queries.show_user.Statement.{statement}
 use Rattle.lines.proofs.queries.show_user.Tie as tie
 
+sub-policy : tie.Need-sub-policy
+sub-policy c = omega (arith, store-held _ _ (c .before .before .before .before .pre .0) .size)
+
+part-policy-start : tie.Need-part-policy-start
+part-policy-start c = omega (arith, store-held _ _ (c .before .before .before .before .pre .0) .size)
+
 shared-slice-read-wide : tie.Need-shared-slice-read-wide
-shared-slice-read-wide c =
-    let start = c .before .before .before .before .before in
-    let g = start .pre in omega (arith, store-held _ _ (g .0) .size)
+shared-slice-read-wide c = omega (arith, store-held _ _ (c .before .before .before .before .before .before .pre .0) .size)
 
 sub-user : tie.Need-sub-user
-sub-user c =
-    let start = c .before .before .before .before .before .before in
-    let g = start .pre in omega (arith, c .wide .ensures, user-some _ _ (g .0) (g .1 .0))
+sub-user c = let g = c .before .before .before .before .before .before .before .pre in omega (arith, c .wide .ensures, user-some _ _ (g .0) (g .1 .0))
 
-sub-asked-on : tie.Need-sub-asked-on
-sub-asked-on c =
-    let start = c .before .before .before .before .before .before in
-    let g = start .pre in omega (arith, store-held _ _ (g .0) .size)
+roles-of-requires : tie.Need-roles-of-requires
+roles-of-requires c κs =
+    let start = c .before .before .before .before .before .before .before in
+    let user = user-asks (start .args .state .now) _ (c .wide .ensures) _ (start .pre .0) (start .pre .1 .0) in
+    (user .policy, user .subject)
 
-part-asked-on-start : tie.Need-part-asked-on-start
-part-asked-on-start c =
-    let start = c .before .before .before .before .before .before in
-    let g = start .pre in omega (arith, store-held _ _ (g .0) .size)
+own-subjects-requires : tie.Need-own-subjects-requires
+own-subjects-requires c κs =
+    let at-roles-of = c .before .before in let at-wide = at-roles-of .before in let start = at-wide .before .before .before .before .before .before .before in
+    (user-asks (start .args .state .now) _ (at-wide .wide .ensures) _ (start .pre .0) (start .pre .1 .0) .policy, at-roles-of .roles-of .ensures, refl)
 
 asked-on-requires : tie.Need-asked-on-requires
 asked-on-requires c κs =
-    let at-wide = c .before .before in let start = at-wide .before .before .before .before .before .before in
-    let g = start .pre in rights-asks _ _ (g .0) (g .1 .0) _ _ (at-wide .wide .ensures) (g .3)
+    let at-own-subjects = c .before .before .before .before in let at-roles-of = at-own-subjects .before .before .before in let at-wide = at-roles-of .before in
+    let start = at-wide .before .before .before .before .before .before .before in
+    let g = start .pre in
+    let table = store-held _ _ (g .0) .table in (
+      user-asks (start .args .state .now) _ (at-wide .wide .ensures) _ (g .0) (g .1 .0) .policy,
+      at-roles-of .roles-of .ensures,
+      own-part (at-own-subjects .own-subjects .ensures),
+      table,
+      omega (arith, table-few _ table, g .3),
+    )
 
 show-requires : tie.Need-show-requires
 show-requires c κs =
-    let at-asked-on = c .before .before .before .before in let at-wide = at-asked-on .before .before .before in
-    let start = at-wide .before .before .before .before .before .before in
+    let at-asked-on = c .before .before .before .before in let at-wide = at-asked-on .before .before .before .before .before .before .before .before .before in
+    let start = at-wide .before .before .before .before .before .before .before in
     let g = start .pre in
     let a = start .args in
     let h = store-held _ _ (g .0) in
@@ -44,17 +57,23 @@ show-requires c κs =
 
 returns : tie.Need-returns
 returns c =
-    let at-show = c .before .before in let at-asked-on = at-show .before .before .before .before .before in
-    let at-wide = at-asked-on .before .before .before in let start = at-wide .before .before .before .before .before .before in
+    let at-show = c .before .before in let at-asked-on = at-show .before .before .before .before .before in let at-own-subjects = at-asked-on .before .before .before .before .before in
+    let at-wide = at-own-subjects .before .before .before .before in let start = at-wide .before .before .before .before .before .before .before in
     let r = at-show .show .ensures in
     let a = start .args in
     let g = start .pre in
     let more = drop (count (a .table .now)) (a .rights .now) in
-    let e = asked-shown (a .state .now) (a .table .now) _ more _ (a .asked) (at-wide .wide .ensures) (at-asked-on .asked-on .ensures) (g .2) in
-    (rw e at (r .0), rw e at (r .1), asked-held (a .state .now) (a .table .now) _ more _ (a .asked) (at-wide .wide .ensures) (at-asked-on .asked-on .ensures))
+    let user = at-wide .wide .ensures in
+    let e = asked-shown (a .state .now) (a .table .now) _ more _ (a .asked) user (at-asked-on .asked-on .ensures) (g .2) in (
+      user-own (a .state .now) _ user _ _ (at-own-subjects .own-subjects .ensures),
+      rw e at (r .0),
+      rw e at (r .1),
+      asked-held (a .state .now) (a .table .now) _ more _ (a .asked) user (at-asked-on .asked-on .ensures),
+    )
 
 pub show-user-spec : {M : Type 1} → statement M
 show-user-spec =
     tie.close
-    (tie.spec shared-slice-read-wide (λ c κs. search needs) sub-user sub-asked-on part-asked-on-start
-    (λ c. search needs) asked-on-requires show-requires (λ c. search needs) (λ c. search needs) returns)
+    (tie.spec sub-policy part-policy-start (λ c. search needs) shared-slice-read-wide (λ c κs. search needs) sub-user
+    roles-of-requires own-subjects-requires (λ c. search needs) (λ c. search needs) (λ c. search needs) asked-on-requires
+    show-requires (λ c. search needs) (λ c. search needs) returns)

@@ -24,14 +24,14 @@ part-answer-view-end : tie.Need-part-answer-view-end
 part-answer-view-end c =
     let at-show-user = c .before .before .before in let start = at-show-user .before .before .before .before .before .before .before .before in
     let a = start .args in
-    shown-long (a .state .now) (a .table .now) (start .pre) _ _ _ (at-show-user .show-user .ensures .0) (at-show-user .show-user .ensures .1)
+    shown-long (a .state .now) (a .table .now) (start .pre) _ _ _ (at-show-user .show-user .ensures .1) (at-show-user .show-user .ensures .2)
 
 answer-view-requires : tie.Need-answer-view-requires
 answer-view-requires c κs =
     let at-show-user = c .before .before .before .before .before in
     let start = at-show-user .before .before .before .before .before .before .before .before in
     let a = start .args in
-    shown-fits (a .state .now) (a .table .now) (start .pre) _ _ _ (at-show-user .show-user .ensures .0) (at-show-user .show-user .ensures .1)
+    shown-fits (a .state .now) (a .table .now) (start .pre) _ _ _ (at-show-user .show-user .ensures .1) (at-show-user .show-user .ensures .2)
 
 returns-2 : tie.Need-returns-2
 returns-2 c =
@@ -39,7 +39,7 @@ returns-2 c =
     let at-show-user = at-answer-view .before .before .before .before .before .before in let at-if1 = at-show-user .before .before .before in
     let at-view-refusal = at-if1 .before in let start = at-view-refusal .before .before .before .before in
     let a = start .args in
-    performs-short _ _ _ (passed (viewChecks (a .state .now)) _ refl (at-view-refusal .view-refusal .ensures) (at-if1 .if1 .left)) (rw (shown-view (a .state .now) (a .table .now) (start .pre) _ _ _ (at-show-user .show-user .ensures .0) (at-show-user .show-user .ensures .1)) at (at-answer-view .answer-view .ensures)) (at-area-refusal .area-refusal .ensures) (c .if2 .taken)
+    performs-short _ _ _ (passed (viewChecks (a .state .now)) _ refl (at-view-refusal .view-refusal .ensures) (at-if1 .if1 .left)) (rw (shown-view (a .state .now) (a .table .now) (start .pre) _ _ _ (at-show-user .show-user .ensures .1) (at-show-user .show-user .ensures .2)) at (at-answer-view .answer-view .ensures)) (at-area-refusal .area-refusal .ensures) (c .if2 .taken)
 
 returns-3 : tie.Need-returns-3
 returns-3 c =
@@ -47,7 +47,7 @@ returns-3 c =
     let at-show-user = at-answer-view .before .before .before .before .before .before in let at-if1 = at-show-user .before .before .before in
     let at-view-refusal = at-if1 .before in let start = at-view-refusal .before .before .before .before in
     let a = start .args in
-    performs-done _ _ _ (passed (viewChecks (a .state .now)) _ refl (at-view-refusal .view-refusal .ensures) (at-if1 .if1 .left)) (rw (shown-view (a .state .now) (a .table .now) (start .pre) _ _ _ (at-show-user .show-user .ensures .0) (at-show-user .show-user .ensures .1)) at (at-answer-view .answer-view .ensures)) (at-area-refusal .area-refusal .ensures) (c .if2 .left) refl refl
+    performs-done _ _ _ (passed (viewChecks (a .state .now)) _ refl (at-view-refusal .view-refusal .ensures) (at-if1 .if1 .left)) (rw (shown-view (a .state .now) (a .table .now) (start .pre) _ _ _ (at-show-user .show-user .ensures .1) (at-show-user .show-user .ensures .2)) at (at-answer-view .answer-view .ensures)) (at-area-refusal .area-refusal .ensures) (c .if2 .left) refl refl
 
 pub view-spec : {M : Type 1} → statement M
 view-spec =

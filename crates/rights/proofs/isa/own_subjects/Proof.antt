@@ -7,6 +7,7 @@ use lib.ListN.{length, take}
 use Rattle.rights.specs.Isa.{standsFor, subjectsWhere}
 use Rattle.rights.specs.PolicyBytes.{policyOf}
 use Rattle.rights.proofs.Held.{names-length}
+use Rattle.rights.proofs.Sounds.{policy-sound}
 use Rattle.rights.proofs.isa.own_subjects.Statement.{statement}
 use Rattle.rights.proofs.isa.own_subjects.Tie as tie
 
@@ -17,7 +18,7 @@ abbrev μ-loop : tie.MeasureT-loop
 μ-loop policy u roles out₀ count m₀ k₀ out m k = count - k
 
 shared-slice-read-wide : tie.Need-shared-slice-read-wide Inv-loop μ-loop
-shared-slice-read-wide c = omega (arith, c .before .before .pre .0 .size)
+shared-slice-read-wide c = omega (arith, policy-sound _ (c .before .before .pre .0) .size)
 
 loop-holds : tie.Need-loop-holds Inv-loop μ-loop
 loop-holds c = (omega arith, omega arith, (unfold subjectsWhere in refl), c .before .before .before .pre .2)
@@ -25,17 +26,17 @@ loop-holds c = (omega arith, omega arith, (unfold subjectsWhere in refl), c .bef
 stands-for-requires : tie.Need-stands-for-requires Inv-loop μ-loop
 stands-for-requires c κs =
     let at-wide = c .before .before in let start = at-wide .before .before .before in
-    omega (arith, at-wide .wide .ensures, start .pre .0 .subjects)
+    omega (arith, at-wide .wide .ensures, policy-sound _ (start .pre .0) .subjects)
 
 put-subject-requires : tie.Need-put-subject-requires Inv-loop μ-loop
 put-subject-requires c κs =
     let at-loop = c .before .before .before in let at-wide = at-loop .before in let start = at-wide .before .before .before in
-    (omega (arith, at-wide .wide .ensures, start .pre .0 .subjects), omega arith, at-loop .loop .inv .3)
+    (omega (arith, at-wide .wide .ensures, policy-sound _ (start .pre .0) .subjects), omega arith, at-loop .loop .inv .3)
 
 add-k : tie.Need-add-k Inv-loop μ-loop
 add-k c =
     let at-wide = c .before .before .before .before .before in let start = at-wide .before .before .before in
-    omega (arith, at-wide .wide .ensures, start .pre .0 .subjects)
+    omega (arith, at-wide .wide .ensures, policy-sound _ (start .pre .0) .subjects)
 
 loop-again : tie.Need-loop-again Inv-loop μ-loop
 unfolding subjectsWhere
@@ -52,7 +53,10 @@ returns c =
     let l = at-loop .loop in
     let a = start .args in
     let e : l .k ≡ length (policyOf (a .policy .now) .names) = omega (arith, at-wide .wide .ensures, names-length (a .policy .now)) in
-    record { few = omega (arith, l .inv .3, at-wide .wide .ensures, start .pre .0 .subjects); are = l .inv .2 ∙ ap (subjectsWhere (standsFor (policyOf (a .policy .now)) (a .u))) e }
+    record {
+      few = omega (arith, l .inv .3, at-wide .wide .ensures, policy-sound _ (start .pre .0) .subjects);
+      own = record { are = l .inv .2 ∙ ap (subjectsWhere (standsFor (policyOf (a .policy .now)) (a .u))) e };
+    }
 
 pub own-subjects-spec : {M : Type 1} → statement M
 own-subjects-spec =

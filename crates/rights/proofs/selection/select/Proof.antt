@@ -1,38 +1,31 @@
 use Prim.Native.Nat.{ℕ}
-use mathlib.Core.Path.{refl, ap, _∙_}
-use mathlib.Core.List.{List, _++_, map}
+use mathlib.Core.List.{List}
 use mathlib.Core.Bool.{Bool}
+use native.Mathlib.Nat.{zero-add}
 use native.Mathlib.Omega.{arith}
 use borrow.Author.Needs.{needs}
-use lib.ListN.{length, drop}
-use Rattle.rights.specs.Nodes.{viewOf}
-use Rattle.rights.specs.Marks.{bit}
-use Rattle.rights.specs.How.Selection.{selection}
-use Rattle.rights.proofs.Sounds.{policy-sound}
-use Rattle.rights.proofs.OwnNames.{part-sound, part-passes}
+use lib.ListN.{length}
+use Rattle.rights.specs.How.Roles.{nameAmong}
+use Rattle.rights.specs.Nodes.{Nodes, viewOf}
+use Rattle.rights.proofs.PassLaws.{view-length}
+use Rattle.rights.proofs.WalkLaws.{select-done}
 use Rattle.rights.proofs.selection.select.Statement.{statement}
 use Rattle.rights.proofs.selection.select.Tie as tie
 
-roles-of-requires : tie.Need-roles-of-requires
-roles-of-requires c κs = let g = c .before .before .before .before .before .pre .0 in (g .policy, g .subject)
-
-own-subjects-requires : tie.Need-own-subjects-requires
-own-subjects-requires c κs = (policy-sound _ (c .before .before .before .before .before .before .before .before .pre .0 .policy), c .before .before .roles-of .ensures, refl)
-
-select-with-requires : tie.Need-select-with-requires
-select-with-requires c κs =
-    let g = c .before .before .before .before .before .before .before .before .before .before .before .before .before .before .pre in
-    (part-sound (c .before .before .before .before .before .own-subjects .ensures) (policy-sound _ (g .0 .policy)), g .1, g .2, omega (arith, g .1 .few), omega (arith, g .1 .few), g .3)
-
 returns : tie.Need-returns
 returns c =
-    let a = c .before .before .before .before .before .before .before .before .before .before .before .before .before .before .before .before .before .before .before .args in
-    let t = viewOf (a .table .now) (a .shown .now) in
-    c .before .before .before .before .select-with .ensures
-    ∙ ap (λ (mine : List ℕ → Bool). map bit (selection (a .path .now) mine t) ++ drop (length t) (a .marks .now)) (part-passes (c .before .before .before .before .before .before .before .before .before .before .own-subjects .ensures))
+    let at-copy = c .before .before in let walked = at-copy .before .before .before .before .before in
+    let first = walked .before .before .before .before .before .before .before .before .before in
+    let args = first .args in
+    let n : ℕ = length (args .shown .now) in
+    let t : Nodes = viewOf (args .table .now) (args .shown .now) in
+    let mine : List ℕ → Bool = nameAmong (args .policy .now) (args .own .now) in
+    let found : List ℕ = walked .walk-path .last .1 .1 .1 .1 .1 .1 .1 .1 .1 .0 in
+    select-done t mine (args .path .now) _ _ (first .pre .2) n (view-length (args .table .now) (args .shown .now)) _ found _ (walked .walk-path .ensures)
+    (omega (arith, walked .walk-path .kept .1 .1 .1 .1 .1 .1 .1 .1 .1 .0, first .pre .1 .few)) (rw (zero-add n) at (at-copy .copy .ensures))
 
 pub select-spec : {M : Type 1} → statement M
 select-spec =
     tie.close
-    (tie.spec roles-of-requires own-subjects-requires (λ c. search needs) (λ c. search needs) (λ c. search needs) (λ c. search needs)
-    (λ c. search needs) select-with-requires (λ c. search needs) returns)
+    (tie.spec (λ c. search needs) (λ c. search needs) (λ c κs. search needs) (λ c. search needs) (λ c κs. search needs)
+    (λ c. search needs) returns)
