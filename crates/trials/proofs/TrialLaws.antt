@@ -134,7 +134,7 @@ module _ (p : List ℕ) (u : ℕ) (t : List ℕ) (before : List ℕ) where
         → Selects (viewOf t shown) (nameAmong p own) s before after → SelectionTried p u t shown s before after (toZ w64 (length shown))
     nodes-done e i q own after o found =
         let g = nodes-gives p u t (length before) shown e in
-        let h = found ∙ ap (λ mine. selection s mine (viewOf t shown) ++ drop (length (viewOf t shown)) before) (own-passes o) in
+        let h = found ∙ ap (λ mine. map bit (selection s mine (viewOf t shown)) ++ drop (length (viewOf t shown)) before) (own-passes o) in
         record {
           answer = rw (e, either-read (pathOf s) i (pos (length shown)) notWellFormed q) (counted (length shown) (g .1));
           marks = rw (e, ← (view-length t shown), either-read (pathOf s) i (map bit (selection s (passesOwn (policyOf p) u) (viewOf t shown)) ++ drop (length (viewOf t shown)) before) before q) h;
