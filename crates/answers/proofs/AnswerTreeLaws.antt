@@ -8,7 +8,7 @@ use native.Mathlib.Nat.{zero-add, suc-add}
 use lib.Dec.{eqb}
 use lib.ListN.{length, replicate, length-replicate}
 use borrow.Author.Tests.{ne-eqb}
-use Rattle.rights.specs.Nodes.{Node, node, levelAt, Nested}
+use Rattle.rights.specs.Nodes.{Node, node, levelAt, TreeShaped}
 use Rattle.answers.specs.Answer.{opening, closing, nextLevel, childLines, viewText}
 use Rattle.rights.specs.Bytes.{bytes}
 use Rattle.rights.specs.Tree.{Tree, tree, Trees, none, more, writeTree, writeTrees, nodesOf, nodesIn}
@@ -122,7 +122,7 @@ stack (node l x ∷ ns) o s k h =
     next (node m y ∷ ns) g = g (omega arith)
 
 -- A view that is not empty is the nodes of a tree.
-pub tree-of-view : (vs : List Node) → 0 < length vs → Nested vs → (t : Tree) × (nodesOf 0 t ≡ vs)
+pub tree-of-view : (vs : List Node) → 0 < length vs → TreeShaped vs → (t : Tree) × (nodesOf 0 t ≡ vs)
 unfolding Stack stacked nodesOf levelAt
 tree-of-view [] h n = absurd (omega arith)
 tree-of-view (node l x ∷ ns) h n =

@@ -4,7 +4,8 @@ use mathlib.Core.Path.{_≡_, sym, ap, _∙_}
 use mathlib.Core.List.{List}
 use native.Mathlib.Omega.{arith}
 use lib.ListN.{length, getD, take, drop}
-use Rattle.rights.specs.Nodes.{labelAt, recordPlace, viewOf, Fits}
+use Rattle.rights.specs.Nodes.{labelAt}
+use Rattle.rights.specs.How.Numbers.{recordPlace, viewOf, Fits}
 use Rattle.rights.proofs.PassLaws.{label-clear}
 use Rattle.rights.proofs.Texts.{text-eq}
 

@@ -22,11 +22,13 @@ use Rattle.forms.specs.declared.layout.Word.{Word}
 use Rattle.forms.specs.declared.layout.Layout.{Layout}
 use Rattle.forms.specs.declared.form.Form.{Form}
 use Rattle.forms.specs.declared.form.Form.the-variants.{NoForm}
-use Rattle.forms.specs.Layout.{LaidOut, codesOf, shapeOf, wordAt}
+use Rattle.forms.specs.Layout.{shapeOf, wordAt}
+use Rattle.forms.specs.How.Codes.{LaidOut, codesOf, endBy, oneBy}
 use Rattle.forms.specs.Part.{runEnd}
-use Rattle.forms.specs.Kind.{Kind, Label, Path, Tree, Sign, Right, codeOf, partEnd, endBy}
+use Rattle.forms.specs.Kind.{Kind, Label, Path, Tree, Sign, Right, codeOf, partEnd}
 use Rattle.forms.specs.Tree.{recordsOf}
-use Rattle.forms.specs.Form.{onePart, oneBy, Places, are, none, _onTo_, closes, partsOf, placeIn, treePlace, nodesAt, formWith, endsIn, readForm, treeIn, PartsPut}
+use Rattle.forms.specs.Form.{onePart, Places, are, none, _onTo_, closesLine, partsOf, placeIn, treePlace, nodesAt, formWith, endsIn, readForm, treeIn}
+use Rattle.forms.specs.How.Reader.{PartsPut}
 
 -- A word with its kinds
 
@@ -154,7 +156,7 @@ module _ (ks : List Kind) (s : List ℕ) (at e i : ℕ) (ends : List ℕ) (w : R
         }
 
   -- the shape is over, and `)` ends the line or does not
-  pub parts-over : getD (codesOf ks) i 0 ≡ 0 → i < 5 → (r : Bool) → r ≡ closes s e → PartsPut (partsOf ks s at) r (set ends i e) (length s)
+  pub parts-over : getD (codesOf ks) i 0 ≡ 0 → i < 5 → (r : Bool) → r ≡ closesLine s e → PartsPut (partsOf ks s at) r (set ends i e) (length s)
   unfolding partsOf
   parts-over h f r q =
       let g = w .size in

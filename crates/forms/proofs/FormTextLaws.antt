@@ -20,12 +20,12 @@ use Rattle.forms.specs.declared.layout.Word.{Word}
 use Rattle.forms.specs.declared.layout.Word.the-variants as word
 use Rattle.forms.specs.declared.form.Form.{Form}
 use Rattle.forms.specs.declared.form.Form.the-variants.{NoForm}
-use Rattle.forms.specs.Word.{accept, deny, signs, rights, sameText, among, labelAt, signAt, rightAt}
+use Rattle.forms.specs.Word.{accept, deny, signs, rights, sameText, among, labelBytesAt, signAt, rightAt}
 use Rattle.forms.specs.Part.{pathByte, labelEnd, runEnd, knownEnd}
 use Rattle.forms.specs.Kind.{Kind, Label, Path, Tree, Sign, Right as RightKind, partEnd}
 use Rattle.forms.specs.Tree.{_andThen_}
 use Rattle.forms.specs.Layout.{letters, shapeOf, formWords, words, wordAt}
-use Rattle.forms.specs.Form.{onePart, Places, are, none, _onTo_, closes, partsOf, placeIn, treePlace, nodesAt, formWith, endsIn, readForm, treeIn}
+use Rattle.forms.specs.Form.{onePart, Places, are, none, _onTo_, closesLine, partsOf, placeIn, treePlace, nodesAt, formWith, endsIn, readForm, treeIn}
 use Rattle.forms.specs.FormText.{Value, Values, Said, writeRight, writeValue, writeValues, write, GoodValue, GoodValues, Good, nodesOr, nodesSaid}
 use Rattle.forms.proofs.WordLaws.{wordText, wordTexts, Every, among-is, among-or}
 use Rattle.forms.proofs.TreeTextLaws.{drop-over, label-reads, tree-complete, tree-sound, tree-unique, label-unique}
@@ -44,7 +44,7 @@ values-stop (k ∷ ks) (v, vs) = record { no-label = refl; no-path = refl }
 
 module _ (s : List ℕ) (at : ℕ) where
   -- label bytes that something else follows
-  label-at : (w r : List ℕ) → all labelByte w ≡ true → drop at s ≡ w ++ r → labelByte (getD r 0 0) ≡ false → (labelAt s at ≡ w) × (runAt labelByte s at ≡ length w)
+  label-at : (w r : List ℕ) → all labelByte w ≡ true → drop at s ≡ w ++ r → labelByte (getD r 0 0) ≡ false → (labelBytesAt s at ≡ w) × (runAt labelByte s at ≡ length w)
   label-at w r g e h =
       let q : runAt labelByte s at ≡ length w = rw e (run-over labelByte w r g h) in
       (rw (q, e) (take-append-seam w r), q)
@@ -223,16 +223,16 @@ module _ (s : List ℕ) (at : ℕ) where
     good : GoodValue k is
     text : Reads s at (writeValue k is) j
 
-  sign-of : (signAt s at ≡ 0 → ⊥) → (b : Bool) × (labelAt s at ≡ cond b accept deny)
+  sign-of : (signAt s at ≡ 0 → ⊥) → (b : Bool) × (labelBytesAt s at ≡ cond b accept deny)
   unfolding signAt
   sign-of =
-      among-is (λ n w. (n ≡ 0 → ⊥) → (b : Bool) × (w ≡ cond b accept deny)) 0 signs (labelAt s at)
+      among-is (λ n w. (n ≡ 0 → ⊥) → (b : Bool) × (w ≡ cond b accept deny)) 0 signs (labelBytesAt s at)
       ((λ _. (true, refl)), ((λ _. (false, refl)), tt)) (λ e. absurd (e refl))
 
-  right-of : (rightAt s at ≡ 0 → ⊥) → (r : Right) × (labelAt s at ≡ writeRight r)
+  right-of : (rightAt s at ≡ 0 → ⊥) → (r : Right) × (labelBytesAt s at ≡ writeRight r)
   unfolding rightAt writeRight
   right-of =
-      among-is (λ n w. (n ≡ 0 → ⊥) → (r : Right) × (w ≡ writeRight r)) 0 rights (labelAt s at)
+      among-is (λ n w. (n ≡ 0 → ⊥) → (r : Right) × (w ≡ writeRight r)) 0 rights (labelBytesAt s at)
       ((λ _. (position, refl)), ((λ _. (read, refl)), ((λ _. (insert, refl)), ((λ _. (update, refl)), ((λ _. (delete, refl)), tt))))) (λ e. absurd (e refl))
 
   value-sound : (k : Kind) (j : ℕ) → partEnd k s at ≡ At j → ValueRead k j
@@ -242,7 +242,7 @@ module _ (s : List ℕ) (at : ℕ) where
       (λ b e. same-place (ValueRead Label) e (
       let q = run-length labelByte (drop at s) in
       record {
-        is = labelAt s at;
+        is = labelBytesAt s at;
         good = (rw q (leb-true _ _ (and-left (leb 1 (runAt labelByte s at)) (leb (runAt labelByte s at) 24) b)), rw q (leb-true _ _ (and-right (leb 1 (runAt labelByte s at)) (leb (runAt labelByte s at) 24) b)), run-all labelByte (drop at s));
         text = reads-take s at (runAt labelByte s at);
       }))
@@ -275,7 +275,7 @@ record PartsRead (ks : List Kind) (s : List ℕ) (at : ℕ) : Type 0 where
 parts-sound : (ks : List Kind) (s : List ℕ) (at : ℕ) (es : List ℕ) → partsOf ks s at ≡ are es → PartsRead ks s at
 unfolding partsOf
 parts-sound [] s at es =
-    cond-elim (closes s at)
+    cond-elim (closesLine s at)
     (λ b _.
     let end : drop (at + 1) s ≡ [] = drop-of-length-le s (leb-true _ _ (and-right (eqb (byteAt s at) 41) (leb (length s) (at + 1)) b)) in
     record { is = tt; good = tt; text = reads-byte s at 41 (omega arith) (eqb-true _ _ (and-left (eqb (byteAt s at) 41) (leb (length s) (at + 1)) b)) ∙ ap (λ (v : List ℕ). 41 ∷ v) end })
@@ -304,13 +304,13 @@ each-lettered (w ∷ ws) g =
       each-lettered ws (and-right (wordText (letters w)) rest g),
     )
 
-word-found : (s : List ℕ) (at : ℕ) → (wordAt s at ≡ word.Other) ⊎ ((labelAt s at ≡ letters (wordAt s at)) × (1 ≤ length (letters (wordAt s at))))
+word-found : (s : List ℕ) (at : ℕ) → (wordAt s at ≡ word.Other) ⊎ ((labelBytesAt s at ≡ letters (wordAt s at)) × (1 ≤ length (letters (wordAt s at))))
 unfolding wordAt labelByte all
 word-found s at =
-    among-or (λ w t. (t ≡ letters w) × (1 ≤ length (letters w))) word.Other words (labelAt s at) (each-lettered formWords refl)
+    among-or (λ w t. (t ≡ letters w) × (1 ≤ length (letters w))) word.Other words (labelBytesAt s at) (each-lettered formWords refl)
 
 -- A line whose word and parts were read is a good form, written
-pub form-sound : (s es : List ℕ) → labelAt s 1 ≡ letters (wordAt s 1) → 1 ≤ length (letters (wordAt s 1)) → endsIn s ≡ are es → (f : Said) × Good f × (s ≡ write f)
+pub form-sound : (s es : List ℕ) → labelBytesAt s 1 ≡ letters (wordAt s 1) → 1 ≤ length (letters (wordAt s 1)) → endsIn s ≡ are es → (f : Said) × Good f × (s ≡ write f)
 unfolding endsIn write
 form-sound s es l n =
     cond-elim (eqb (byteAt s 0) 40)
@@ -329,7 +329,7 @@ pub read-or-none : (s : List ℕ) → (readForm s ≡ NoForm) ⊎ ((f : Said) ×
 unfolding readForm
 read-or-none s = go (endsIn s) refl (word-found s 1)
   where
-    go : (r : Places) → endsIn s ≡ r → (wordAt s 1 ≡ word.Other) ⊎ ((labelAt s 1 ≡ letters (wordAt s 1)) × (1 ≤ length (letters (wordAt s 1))))
+    go : (r : Places) → endsIn s ≡ r → (wordAt s 1 ≡ word.Other) ⊎ ((labelBytesAt s 1 ≡ letters (wordAt s 1)) × (1 ≤ length (letters (wordAt s 1))))
         → (readForm s ≡ NoForm) ⊎ ((f : Said) × Good f × (s ≡ write f))
     go none q w = inl (rw q)
     go (are es) q (inl o) = inl (rw (q, o))

@@ -9,11 +9,13 @@ use lib.ListN.{length}
 use borrow.Author.Tests.{le-leb, lt-leb, leb-true, leb-false, ne-eqb}
 use Rattle.rights.specs.Bytes.{byteAt}
 use Rattle.rights.specs.Labels.{labelByte}
-use Rattle.rights.specs.PathReader.{runAt, Onward, Ends}
+use Rattle.rights.specs.PathReader.{runAt}
+use Rattle.rights.specs.How.Reading.{Onward, Ends}
 use Rattle.rights.specs.declared.path.Read.the-variants.{At, Bad}
 use Rattle.rights.proofs.Lists.{byCase}
 use Rattle.rights.proofs.PathLaws.{bad-onward, at-onward}
-use Rattle.forms.specs.Part.{labelEnd, runEnd, knownEnd, movedTo}
+use Rattle.forms.specs.Part.{labelEnd, runEnd, knownEnd}
+use Rattle.forms.specs.How.Reader.{movedTo}
 use Rattle.forms.specs.Tree.{openEnd}
 
 module _ (s : List ℕ) (at n : ℕ) (e : n ≡ runAt labelByte s at) where

@@ -3,12 +3,11 @@ use Prim.Native.Nat.{ℕ, _+_, _≤_}
 use mathlib.Core.Path.{_≡_, refl, sym, ap}
 use native.Mathlib.Omega.{arith}
 use borrow.Author.Tests.{le-leb, lt-leb}
-use Rattle.rights.specs.PathReader.{Onward}
+use Rattle.rights.specs.How.Reading.{Onward}
 use Rattle.rights.specs.declared.path.Read.{Read}
 use Rattle.rights.specs.declared.path.Read.the-variants.{At, Bad}
 use Rattle.rights.proofs.PathLaws.{bad-onward, at-onward}
-use Rattle.forms.specs.Part.{movedTo}
-use Rattle.forms.specs.How.Reader.{placeAfter, Takes}
+use Rattle.forms.specs.How.Reader.{movedTo, placeAfter, Takes}
 
 -- a reader stands after what was read, or where it stood
 pub onward-takes : (want r : Read) (from end : ℕ) → from ≤ end → Onward want r (from + 1) end → Takes want from (placeAfter from r) end

@@ -10,7 +10,8 @@ use lib.ListN.{length, take, drop, length-take, length-drop}
 use borrow.Author.Tests.{ne-eqb, eqb-true, leb-true}
 use Rattle.rights.specs.Bytes.{byteAt}
 use Rattle.rights.specs.Labels.{labelByte}
-use Rattle.rights.specs.PathReader.{runAt, Onward}
+use Rattle.rights.specs.PathReader.{runAt}
+use Rattle.rights.specs.How.Reading.{Onward}
 use Rattle.rights.specs.Record.{nodeRecord, pasted}
 use Rattle.rights.specs.declared.path.Read.{Read}
 use Rattle.rights.specs.declared.path.Read.the-variants.{At, Bad}
@@ -21,7 +22,8 @@ use Rattle.rights.proofs.RecordLaws.{pasted-pasted, pasted-none}
 use Rattle.rights.proofs.RecordMade.{length-node}
 use Rattle.forms.specs.Part.{labelEnd}
 use Rattle.rights.specs.Nodes.{node}
-use Rattle.forms.specs.Tree.{openEnd, tailEnd, tailNodes, treeEnd, treeNodes, recordsOf, held, TailEnd, TailPut}
+use Rattle.forms.specs.Tree.{openEnd, tailEnd, tailNodes, treeEnd, treeNodes, recordsOf, held}
+use Rattle.forms.specs.How.Reader.{TailEnd, TailPut}
 
 pub rest-length : (s : List ℕ) (e : ℕ) → length (take (length s - e) (drop e s)) ≡ length s - e
 rest-length s e = rw (rest-of s e, length-drop e s)

@@ -15,12 +15,13 @@ use Rattle.rights.specs.Labels.{labelByte}
 use Rattle.rights.specs.PathReader.{runAt}
 use Rattle.rights.proofs.Lists.{byCase}
 use Rattle.rights.proofs.PathTexts.{and-left, and-right, run-all, run-length}
-use Rattle.forms.specs.Word.{number, numberAt, byNumber, sameText, among, labelAt}
+use Rattle.forms.specs.Word.{sameText, among, labelBytesAt}
+use Rattle.forms.specs.How.Codes.{textNumber, textNumberAt, byNumber}
 
--- The number of a text, from its end
+-- The textNumber of a text, from its end
 
-pub number-more : (s : List ℕ) (j e : ℕ) → j < e → e ≤ length s → number (take (e - j) (drop j s)) ≡ number (take (e - suc j) (drop (suc j) s)) * 256 + getD s j 0
-unfolding number
+pub number-more : (s : List ℕ) (j e : ℕ) → j < e → e ≤ length s → textNumber (take (e - j) (drop j s)) ≡ textNumber (take (e - suc j) (drop (suc j) s)) * 256 + getD s j 0
+unfolding textNumber
 number-more s j e h l = let z : e - j ≡ suc (e - suc j) = omega arith in rw (z, drop-cons s j 0 (omega arith))
 
 pub more-fits : (n k b : ℕ) → n < 256 ^ k → b < 256 → n * 256 + b < 256 ^ suc k
@@ -50,26 +51,26 @@ label-range x =
         let h = leb-true x hi (and-right (leb lo x) (leb x hi) e) in
         (omega arith, omega arith)
 
--- Two texts of label bytes have the same number exactly if they are equal
+-- Two texts of label bytes have the same textNumber exactly if they are equal
 
-same-number : (xs ys : List ℕ) → all labelByte xs ≡ true → all labelByte ys ≡ true → eqb (number xs) (number ys) ≡ sameText xs ys
-unfolding number sameText all
+same-number : (xs ys : List ℕ) → all labelByte xs ≡ true → all labelByte ys ≡ true → eqb (textNumber xs) (textNumber ys) ≡ sameText xs ys
+unfolding textNumber sameText all
 same-number [] [] a b = refl
 same-number [] (y ∷ ys) a b =
     let r = label-range y (and-left (labelByte y) (all labelByte ys) b) in
-    ne-eqb 0 (number ys * 256 + y) (λ z. omega arith)
+    ne-eqb 0 (textNumber ys * 256 + y) (λ z. omega arith)
 same-number (x ∷ xs) [] a b =
     let r = label-range x (and-left (labelByte x) (all labelByte xs) a) in
-    ne-eqb (number xs * 256 + x) 0 (λ z. omega arith)
+    ne-eqb (textNumber xs * 256 + x) 0 (λ z. omega arith)
 same-number (x ∷ xs) (y ∷ ys) a b =
     let r = label-range x (and-left (labelByte x) (all labelByte xs) a) in
     let t = label-range y (and-left (labelByte y) (all labelByte ys) b) in
     let ih = same-number xs ys (and-right (labelByte x) (all labelByte xs) a) (and-right (labelByte y) (all labelByte ys) b) in
     byCase (eqb x y)
-    (λ e. rw (e, ← ih) (byCase (eqb (number xs) (number ys))
-    (λ q. rw q (eq-eqb (number xs * 256 + x) (number ys * 256 + y) (omega (arith, eqb-true x y e, eqb-true (number xs) (number ys) q))))
-    (λ q. rw q (ne-eqb (number xs * 256 + x) (number ys * 256 + y) (λ z. eqb-false (number xs) (number ys) q (omega (arith, eqb-true x y e)))))))
-    (λ e. rw e (ne-eqb (number xs * 256 + x) (number ys * 256 + y) (λ z. eqb-false x y e (omega arith))))
+    (λ e. rw (e, ← ih) (byCase (eqb (textNumber xs) (textNumber ys))
+    (λ q. rw q (eq-eqb (textNumber xs * 256 + x) (textNumber ys * 256 + y) (omega (arith, eqb-true x y e, eqb-true (textNumber xs) (textNumber ys) q))))
+    (λ q. rw q (ne-eqb (textNumber xs * 256 + x) (textNumber ys * 256 + y) (λ z. eqb-false (textNumber xs) (textNumber ys) q (omega (arith, eqb-true x y e)))))))
+    (λ e. rw e (ne-eqb (textNumber xs * 256 + x) (textNumber ys * 256 + y) (λ z. eqb-false x y e (omega arith))))
 
 pub same-equal : (xs ys : List ℕ) → sameText xs ys ≡ true → xs ≡ ys
 unfolding sameText
@@ -94,17 +95,17 @@ abbrev pub wordTexts : {A : Type 0} → List (List ℕ × A) → Bool
 wordTexts [] = true
 wordTexts ((w, x) ∷ rest) = wordText w && wordTexts rest
 
-number-some : (v : List ℕ) → 1 ≤ length v → all labelByte v ≡ true → number v ≡ 0 → ⊥
-unfolding number all
+number-some : (v : List ℕ) → 1 ≤ length v → all labelByte v ≡ true → textNumber v ≡ 0 → ⊥
+unfolding textNumber all
 number-some [] l a z = omega arith
 number-some (y ∷ ys) l a z = let r = label-range y (and-left (labelByte y) (all labelByte ys) a) in omega arith
 
-same-at : (s : List ℕ) (at : ℕ) (w : List ℕ) → wordText w ≡ true → eqb (numberAt s at) (number w) ≡ sameText (labelAt s at) w
-unfolding numberAt
+same-at : (s : List ℕ) (at : ℕ) (w : List ℕ) → wordText w ≡ true → eqb (textNumberAt s at) (textNumber w) ≡ sameText (labelBytesAt s at) w
+unfolding textNumberAt
 same-at s at w g =
     byCase (leb (runAt labelByte s at) 8)
-    (λ e. rw e (same-number (labelAt s at) w (run-all labelByte (drop at s)) good))
-    (λ e. rw e (ne-eqb 0 (number w) (λ z. number-some w some good (sym z)) ∙ sym (long (leb-false _ _ e))))
+    (λ e. rw e (same-number (labelBytesAt s at) w (run-all labelByte (drop at s)) good))
+    (λ e. rw e (ne-eqb 0 (textNumber w) (λ z. number-some w some good (sym z)) ∙ sym (long (leb-false _ _ e))))
   where
     some : 1 ≤ length w
     some = leb-true 1 (length w) (and-left (leb 1 (length w)) (leb (length w) 8 && all labelByte w) g)
@@ -118,33 +119,33 @@ same-at s at w g =
     short : length w ≤ 8
     short = leb-true (length w) 8 (and-left (leb (length w) 8) (all labelByte w) rest)
 
-    long : 8 < runAt labelByte s at → sameText (labelAt s at) w ≡ false
-    long h = byCase (sameText (labelAt s at) w)
-        (λ e. absurd (omega (arith, short, run-length labelByte (drop at s), ap length (same-equal (labelAt s at) w e))))
+    long : 8 < runAt labelByte s at → sameText (labelBytesAt s at) w ≡ false
+    long h = byCase (sameText (labelBytesAt s at) w)
+        (λ e. absurd (omega (arith, short, run-length labelByte (drop at s), ap length (same-equal (labelBytesAt s at) w e))))
         (λ e. e)
 
--- So looking a word up by its number is looking it up by its letters
-pub numbered-among : {A : Type 0} (other : A) (t : List (List ℕ × A)) → wordTexts t ≡ true → (s : List ℕ) (at : ℕ) → byNumber other t (numberAt s at) ≡ among other t (labelAt s at)
+-- So looking a word up by its textNumber is looking it up by its letters
+pub numbered-among : {A : Type 0} (other : A) (t : List (List ℕ × A)) → wordTexts t ≡ true → (s : List ℕ) (at : ℕ) → byNumber other t (textNumberAt s at) ≡ among other t (labelBytesAt s at)
 unfolding byNumber among
 numbered-among other [] g s at = refl
 numbered-among other ((w, x) ∷ rest) g s at =
     rw (same-at s at w (and-left (wordText w) (wordTexts rest) g), numbered-among other rest (and-right (wordText w) (wordTexts rest) g) s at)
 
--- A number that is none of a table's: what a `match` on the numbers leaves
+-- A textNumber that is none of a table's: what a `match` on the numbers leaves
 abbrev pub Missing : {A : Type 0} → Type 0 → List (List ℕ × A) → ℕ → Type 0
 Missing X [] n = X
-Missing X ((w, x) ∷ rest) n = Missing (X × (n ≡ number w → ⊥)) rest n
+Missing X ((w, x) ∷ rest) n = Missing (X × (n ≡ textNumber w → ⊥)) rest n
 
 missing-first : {A : Type 0} (X : Type 0) (t : List (List ℕ × A)) (n : ℕ) → Missing X t n → X
 missing-first X [] n h = h
-missing-first X ((w, x) ∷ rest) n h = missing-first (X × (n ≡ number w → ⊥)) rest n h .0
+missing-first X ((w, x) ∷ rest) n h = missing-first (X × (n ≡ textNumber w → ⊥)) rest n h .0
 
 pub finds-none : {A : Type 0} (X : Type 0) (other : A) (t : List (List ℕ × A)) (n : ℕ) → Missing X t n → other ≡ byNumber other t n
 unfolding byNumber
 finds-none X other [] n h = refl
 finds-none X other ((w, x) ∷ rest) n h =
-    let y = X × (n ≡ number w → ⊥) in
-    rw (ne-eqb n (number w) (missing-first y rest n h .1)) (finds-none y other rest n h)
+    let y = X × (n ≡ textNumber w → ⊥) in
+    rw (ne-eqb n (textNumber w) (missing-first y rest n h .1)) (finds-none y other rest n h)
 
 -- What every entry of a table is to its text, what is looked up is to the text that it is looked up by
 abbrev pub Every : {A : Type 0} → (A → List ℕ → Type 0) → List (List ℕ × A) → Type 0

@@ -1,7 +1,6 @@
 -- How a line's form is read (document 01, "Lines"): its word, then the parts of the word's shape. What is read stands in FormText.
-use Prim.Native.Nat.{ℕ, suc, _+_, _-_, _^_, _<_}
-use mathlib.Core.Path.{_≡_}
-use mathlib.Core.Bool.{Bool, true, false, cond, _&&_}
+use Prim.Native.Nat.{ℕ, suc, _+_}
+use mathlib.Core.Bool.{Bool, cond, _&&_}
 use mathlib.Core.List.{List, [], _∷_, _++_}
 use lib.ListN.{length, getD}
 use lib.Dec.{leb, eqb}
@@ -17,15 +16,12 @@ use Rattle.forms.specs.declared.form.Form.the-variants.{NoForm}
 use Rattle.forms.specs.Word.{signAt, rightAt}
 use Rattle.forms.specs.Layout.{Holds, FormOf, layout, shapeOf, wordAt}
 use Rattle.forms.specs.Part.{runEnd}
-use Rattle.forms.specs.Kind.{Kind, Label, Path, Tree, Sign, Right, isTree, partEnd, endBy}
+use Rattle.forms.specs.Kind.{Kind, Label, Path, Tree, Sign, Right, isTree, partEnd}
 use Rattle.forms.specs.Tree.{_andThen_, treeNodes}
 
 -- "Parts are parted by one space": a space and a part
 abbrev pub onePart : Kind → List ℕ → ℕ → Read
 onePart k s at = cond (eqb (byteAt s at) 32) (partEnd k s (at + 1)) Bad
-
-abbrev pub oneBy : ℕ → List ℕ → ℕ → Read
-oneBy n s at = cond (eqb (byteAt s at) 32) (endBy n s (at + 1)) Bad
 
 -- the places after the word and after each part, if all of them are there
 pub data Places : Type 0 where
@@ -37,22 +33,19 @@ _onTo_ xs (are es) = are (xs ++ es)
 _onTo_ xs none = none
 
 infixr 20 _onTo_
+
 -- `)` ends the line
-abbrev pub closes : List ℕ → ℕ → Bool
-closes s at = eqb (byteAt s at) 41 && leb (length s) (at + 1)
+abbrev pub closesLine : List ℕ → ℕ → Bool
+closesLine s at = eqb (byteAt s at) 41 && leb (length s) (at + 1)
 
 -- the parts that stand from a place on, and `)`
 unfoldable pub partsOf : List Kind → List ℕ → ℕ → Places
-partsOf [] s at = cond (closes s at) (are (at ∷ [])) none
+partsOf [] s at = cond (closesLine s at) (are (at ∷ [])) none
 partsOf (k ∷ ks) s at = onePart k s at andThen (none, λ e. (at ∷ []) onTo partsOf ks s e)
 
 -- place i is that after part i, place 0 that after the word
 abbrev pub placeIn : List ℕ → ℕ → ℕ
 placeIn es i = getD es i 0
-
--- five places, each with room for a step
-abbrev pub Ends : List ℕ → Type 0
-Ends es = (length es ≡ 5) × ((i : ℕ) → placeIn es i + 1 < 2 ^ 64)
 
 -- the part that follows a space at a, up to b
 abbrev pub part : ℕ → ℕ → Part
@@ -107,9 +100,3 @@ readForm s = formBy (wordAt s 1) s (endsIn s)
 -- the nodes of the tree that a line holds; none if it holds no tree or is refused
 unfoldable pub treeIn : List ℕ → List Node
 treeIn s = nodesBy (wordAt s 1) s (endsIn s)
-
--- What the reader of parts promises: whether all are there, and then their places stand at the front of the array, zeros after them, all before the line's last byte
-pub record PartsPut (want : Places) (r : Bool) (ends : List ℕ) (end : ℕ) : Type 0 where
-  pub there : r ≡ true → (es : List ℕ) × (want ≡ are es) × ((i : ℕ) → placeIn es i ≡ placeIn ends i)
-  pub missing : r ≡ false → want ≡ none
-  pub inside : r ≡ true → (i : ℕ) → placeIn ends i < end

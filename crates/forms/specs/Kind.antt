@@ -1,11 +1,9 @@
 -- The kinds of a line's parts, and where a part of each kind ends (document 01, "Lines").
 use Prim.Native.Nat.{ℕ}
-use mathlib.Core.Bool.{Bool, cond}
+use mathlib.Core.Bool.{Bool}
 use mathlib.Core.List.{List}
 use lib.Dec.{eqb}
-use Rattle.rights.specs.Labels.{labelByte}
 use Rattle.rights.specs.declared.path.Read.{Read}
-use Rattle.rights.specs.declared.path.Read.the-variants.{Bad}
 use Rattle.forms.specs.Word.{signAt, rightAt}
 use Rattle.forms.specs.Part.{pathByte, labelEnd, runEnd, knownEnd}
 use Rattle.forms.specs.Tree.{treeEnd}
@@ -22,7 +20,7 @@ partEnd Tree s at = treeEnd s at
 partEnd Sign s at = knownEnd (signAt s at) s at
 partEnd Right s at = knownEnd (rightAt s at) s at
 
--- The code names a kind by its number; 0 is no kind, and 6 the form's word itself.
+-- The number of a kind. In the code 0 is no kind, and 6 the form's word itself.
 abbrev pub codeOf : Kind → ℕ
 codeOf Label = 1
 codeOf Path = 2
@@ -32,13 +30,3 @@ codeOf Right = 5
 
 abbrev pub isTree : Kind → Bool
 isTree k = eqb (codeOf k) (codeOf Tree)
-
-unfoldable pub endBy : ℕ → List ℕ → ℕ → Read
-endBy n s at =
-    cond (eqb n 1) (partEnd Label s at)
-    (cond (eqb n 2) (partEnd Path s at)
-    (cond (eqb n 3) (partEnd Tree s at)
-    (cond (eqb n 4) (partEnd Sign s at)
-    (cond (eqb n 5) (partEnd Right s at)
-    (cond (eqb n 6) (runEnd labelByte s at)
-    Bad)))))

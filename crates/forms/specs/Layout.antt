@@ -1,19 +1,16 @@
 -- The forms of a line (document 01, "Lines"), a row each: how the word is written, the kinds of the parts that follow it, and the form that they make.
 -- A new form is a row here and an entry of formWords.
-use Prim.Native.Nat.{ℕ, _+_, _-_}
+use Prim.Native.Nat.{ℕ, _-_}
 use mathlib.Core.Bool.{Bool}
-use mathlib.Core.Path.{_≡_}
-use mathlib.Core.List.{List, [], _∷_, _++_, map}
-use lib.ListN.{length, replicate}
+use mathlib.Core.List.{List, [], _∷_, map}
 use Rattle.rights.specs.Bytes.{bytes}
 use Rattle.forms.specs.declared.layout.Word.{Word}
 use Rattle.forms.specs.declared.layout.Word.the-variants as word
-use Rattle.forms.specs.declared.layout.Layout.{Layout}
 use Rattle.forms.specs.declared.form.Part.{Part}
 use Rattle.forms.specs.declared.form.Form.{Form}
 use Rattle.forms.specs.declared.form.Form.the-variants as form
-use Rattle.forms.specs.Word.{among, labelAt}
-use Rattle.forms.specs.Kind.{Kind, Label, Path, Tree, Sign, Right, codeOf}
+use Rattle.forms.specs.Word.{among, labelBytesAt}
+use Rattle.forms.specs.Kind.{Kind, Label, Path, Tree, Sign, Right}
 
 -- what a form holds of a part of each kind: where a label or a path stands, how many nodes a tree has, whether a sign accepts, the bit of a right
 abbrev pub Holds : Kind → Type 0
@@ -86,14 +83,4 @@ words = map (λ w. (letters w, w)) formWords
 
 -- the word that the label bytes at a place write
 unfoldable pub wordAt : List ℕ → ℕ → Word
-wordAt s at = among word.Other words (labelAt s at)
-
--- a form's kinds by their numbers, as the code has them: at most four, and 0 after the last
-abbrev pub codesOf : List Kind → List ℕ
-codesOf ks = map codeOf ks ++ replicate (1 + (4 - length ks)) 0
-
--- a word with the kinds of its parts
-pub record LaidOut (w : Word) (r : Layout) : Type 0 where
-  pub word : r .word ≡ w
-  pub kinds : r .kinds ≡ codesOf (shapeOf w)
-  pub size : length (r .kinds) ≡ 5
+wordAt s at = among word.Other words (labelBytesAt s at)

@@ -26,7 +26,3 @@ runEnd f s at = cond (leb 1 (runAt f s at)) (At (at + runAt f s at)) Bad
 -- a word that a table has as n; 0 says that it has none
 unfoldable pub knownEnd : ℕ → List ℕ → ℕ → Read
 knownEnd n s at = cond (eqb n 0) Bad (runEnd labelByte s at)
-
--- the place that reading came to, if it moved on
-abbrev pub movedTo : ℕ → ℕ → Read
-movedTo from to = cond (leb to from) Bad (At to)

@@ -1,13 +1,12 @@
 -- How a tree is read, `(label tree ...)`, and the records that hold it (document 01, "Tree and table"). What is read is a Tree (rights, specs/Tree).
-use Prim.Native.Nat.{ℕ, zero, suc, _+_, _-_, _*_, _≤_, min}
-use mathlib.Core.Path.{_≡_}
+use Prim.Native.Nat.{ℕ, zero, suc, _+_, _-_, min}
 use mathlib.Core.List.{List, [], _∷_, _++_}
 use mathlib.Core.Bool.{cond}
 use lib.ListN.{length, take, drop}
 use lib.Dec.{eqb}
 use Rattle.rights.specs.Bytes.{byteAt}
 use Rattle.rights.specs.Nodes.{Node, node}
-use Rattle.rights.specs.Record.{nodeRecord, pasted}
+use Rattle.rights.specs.Record.{nodeRecord}
 use Rattle.rights.specs.declared.path.Read.{Read}
 use Rattle.rights.specs.declared.path.Read.the-variants.{At, Bad}
 use Rattle.forms.specs.Part.{labelEnd}
@@ -55,13 +54,3 @@ held level = min level 255
 unfoldable pub recordsOf : List Node → List ℕ
 recordsOf [] = []
 recordsOf (node l s ∷ ns) = nodeRecord (held l) s ++ recordsOf ns
-
--- What the readers of a tail promise: what the definition gives at any number of parts that is enough
-
-pub record TailEnd (s : List ℕ) (at depth : ℕ) (r : Read) : Type 0 where
-  pub is : (f : ℕ) → length s ≤ f → r ≡ tailEnd f depth at s
-  pub on : (i : ℕ) → r ≡ At i → (at + 1 ≤ i) × (i ≤ at + length s)
-
-pub record TailPut (s : List ℕ) (depth n : ℕ) (before after : List ℕ) (r : ℕ) : Type 0 where
-  pub is : (f : ℕ) → length s ≤ f → r ≡ n + length (tailNodes f depth s)
-  pub out : (f : ℕ) → length s ≤ f → after ≡ pasted before (32 * n) (recordsOf (tailNodes f depth s))

@@ -1,8 +1,8 @@
 -- Words by their letters: accept and deny, and the rights (document 01, "Lines"). Those that begin a form stand in Layout.
-use Prim.Native.Nat.{ℕ, _+_, _*_}
+use Prim.Native.Nat.{ℕ}
 use mathlib.Core.Bool.{Bool, true, false, cond, _&&_}
 use mathlib.Core.List.{List, [], _∷_}
-use lib.Dec.{eqb, leb}
+use lib.Dec.{eqb}
 use lib.ListN.{take, drop}
 use Rattle.rights.specs.Bytes.{bytes}
 use Rattle.rights.specs.Labels.{labelByte}
@@ -41,24 +41,12 @@ among other [] s = other
 among other ((w, x) ∷ rest) s = cond (sameText s w) x (among other rest s)
 
 -- the label bytes that stand at a place
-abbrev pub labelAt : List ℕ → ℕ → List ℕ
-labelAt s at = take (runAt labelByte s at) (drop at s)
+abbrev pub labelBytesAt : List ℕ → ℕ → List ℕ
+labelBytesAt s at = take (runAt labelByte s at) (drop at s)
 
 -- the sign's number and the right's bit that they write, and 0 if they write none
 unfoldable pub signAt : List ℕ → ℕ → ℕ
-signAt s at = among 0 signs (labelAt s at)
+signAt s at = among 0 signs (labelBytesAt s at)
 
 unfoldable pub rightAt : List ℕ → ℕ → ℕ
-rightAt s at = among 0 rights (labelAt s at)
-
--- The code compares words by number: a text as a number, its first byte lowest. Law numbered-among says that this comes to the same.
-unfoldable pub number : List ℕ → ℕ
-number [] = 0
-number (x ∷ xs) = number xs * 256 + x
-
-unfoldable pub numberAt : List ℕ → ℕ → ℕ
-numberAt s at = cond (leb (runAt labelByte s at) 8) (number (labelAt s at)) 0
-
-unfoldable pub byNumber : {A : Type 0} → A → List (List ℕ × A) → ℕ → A
-byNumber other [] n = other
-byNumber other ((w, x) ∷ rest) n = cond (eqb n (number w)) x (byNumber other rest n)
+rightAt s at = among 0 rights (labelBytesAt s at)

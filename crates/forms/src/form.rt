@@ -13,11 +13,13 @@ use rights::path::Read;
 ghost use mathlib.Core.Path.{_≡_};
 ghost use Prim.Native.Nat.{ℕ, _+_, _*_, _≤_, _<_};
 ghost use lib.ListN.{length};
-ghost use Rattle.rights.specs.PathReader.{Onward};
+ghost use Rattle.rights.specs.How.Reading.{Onward};
 ghost use Rattle.rights.specs.Record.{pasted};
 ghost use Rattle.forms.specs.Tree.{recordsOf};
-ghost use Rattle.forms.specs.Layout.{LaidOut, shapeOf};
-ghost use Rattle.forms.specs.Form.{oneBy, closes, partsOf, placeIn, Ends, partAt, PartsPut, nodesAt, treePlace, formWith, readForm, treeIn};
+ghost use Rattle.forms.specs.Layout.{shapeOf};
+ghost use Rattle.forms.specs.How.Codes.{LaidOut, oneBy};
+ghost use Rattle.forms.specs.Form.{closesLine, partsOf, placeIn, partAt, nodesAt, treePlace, formWith, readForm, treeIn};
+ghost use Rattle.forms.specs.How.Reader.{Ends, PartsPut};
 
 // The bytes of the line from `at` up to `end`.
 pub struct Part {
@@ -63,7 +65,7 @@ fn one_part(s: &[u8], at: usize, k: u8) -> Read
 
 // Whether `)` stands at `at` and ends the line.
 fn closed(s: &[u8], at: usize) -> bool
-    ensures { λ r. ⌜ r ≡ closes (now (s .entry)) at ⌝ }
+    ensures { λ r. ⌜ r ≡ closesLine (now (s .entry)) at ⌝ }
 {
     if s.len() <= at {
         return false;

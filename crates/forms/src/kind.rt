@@ -9,8 +9,8 @@ use crate::word::sign_at;
 use rights::path::Read;
 ghost use Prim.Native.Nat.{_+_, _≤_};
 ghost use lib.ListN.{length};
-ghost use Rattle.rights.specs.PathReader.{Onward};
-ghost use Rattle.forms.specs.Kind.{endBy};
+ghost use Rattle.rights.specs.How.Reading.{Onward};
+ghost use Rattle.forms.specs.How.Codes.{endBy};
 
 // No kind: it ends a shape.
 pub const END: u8 = 0;

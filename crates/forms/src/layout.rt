@@ -8,8 +8,8 @@ use crate::kind::TREE;
 use crate::word::number_at;
 ghost use Prim.Native.Nat.{_≤_};
 ghost use lib.ListN.{length};
-ghost use Rattle.forms.specs.Word.{byNumber};
-ghost use Rattle.forms.specs.Layout.{LaidOut, words, wordAt};
+ghost use Rattle.forms.specs.How.Codes.{byNumber, LaidOut};
+ghost use Rattle.forms.specs.Layout.{words, wordAt};
 
 pub enum Word {
     Subject,

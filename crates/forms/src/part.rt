@@ -6,8 +6,9 @@ ghost use mathlib.Core.Path.{_≡_};
 ghost use Prim.Native.Nat.{_+_, _≤_};
 ghost use lib.ListN.{length};
 ghost use Rattle.rights.specs.Labels.{labelByte};
-ghost use Rattle.rights.specs.PathReader.{Ends, Onward};
-ghost use Rattle.forms.specs.Part.{pathByte, labelEnd, runEnd, knownEnd, movedTo};
+ghost use Rattle.rights.specs.How.Reading.{Ends, Onward};
+ghost use Rattle.forms.specs.Part.{pathByte, labelEnd, runEnd, knownEnd};
+ghost use Rattle.forms.specs.How.Reader.{movedTo};
 
 // Whether a byte may stand in the run that passes as a path: no space, no parenthesis.
 fn path_byte(b: u8) -> bool

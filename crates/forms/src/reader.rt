@@ -7,8 +7,8 @@ use rights::path::Read;
 ghost use mathlib.Core.Path.{_≡_};
 ghost use Prim.Native.Nat.{_+_, _≤_};
 ghost use lib.ListN.{length};
-ghost use Rattle.rights.specs.PathReader.{Onward};
-ghost use Rattle.forms.specs.Kind.{endBy};
+ghost use Rattle.rights.specs.How.Reading.{Onward};
+ghost use Rattle.forms.specs.How.Codes.{endBy};
 ghost use Rattle.forms.specs.How.Reader.{Takes, placeAfter};
 
 pub struct LineReader<'a> {

@@ -7,9 +7,10 @@ use rights::record::put_node;
 ghost use mathlib.Core.Path.{_≡_};
 ghost use Prim.Native.Nat.{_+_, _-_, _*_, _^_, _≤_, _<_};
 ghost use lib.ListN.{length};
-ghost use Rattle.rights.specs.PathReader.{Onward};
+ghost use Rattle.rights.specs.How.Reading.{Onward};
 ghost use Rattle.rights.specs.Record.{pasted};
-ghost use Rattle.forms.specs.Tree.{openEnd, treeEnd, treeNodes, recordsOf, held, TailEnd, TailPut};
+ghost use Rattle.forms.specs.Tree.{openEnd, treeEnd, treeNodes, recordsOf, held};
+ghost use Rattle.forms.specs.How.Reader.{TailEnd, TailPut};
 
 // `(` and a label.
 fn open_end(s: &[u8], at: usize) -> Read

@@ -4,12 +4,13 @@ use rights::path::label_end;
 ghost use mathlib.Core.Path.{_≡_};
 ghost use Prim.Native.Nat.{_+_, _-_, _≤_};
 ghost use lib.ListN.{length, take, drop};
-ghost use Rattle.forms.specs.Word.{number, numberAt, byNumber, signs, rights, signAt, rightAt};
+ghost use Rattle.forms.specs.Word.{signs, rights, signAt, rightAt};
+ghost use Rattle.forms.specs.How.Codes.{textNumber, textNumberAt, byNumber};
 
-// The bytes from a up to e as a number, the first lowest.
+// The bytes from a up to e as a textNumber, the first lowest.
 fn word_number(s: &[u8], a: usize, e: usize) -> u64
     requires { ⌜ (a ≤ e) × (e ≤ a + 8) × (e ≤ length (now s)) ⌝ }
-    ensures { λ r. ⌜ r ≡ number (take (e - a) (drop a (now (s .entry)))) ⌝ }
+    ensures { λ r. ⌜ r ≡ textNumber (take (e - a) (drop a (now (s .entry)))) ⌝ }
 {
     let mut n = 0;
     let mut i = e;
@@ -20,10 +21,10 @@ fn word_number(s: &[u8], a: usize, e: usize) -> u64
     n
 }
 
-// The label bytes at `at` as a number; 0, which no word has, if they are too many for a word.
+// The label bytes at `at` as a textNumber; 0, which no word has, if they are too many for a word.
 pub fn number_at(s: &[u8], at: usize) -> u64
     requires { ⌜ at ≤ length (now s) ⌝ }
-    ensures { λ r. ⌜ r ≡ numberAt (now (s .entry)) at ⌝ }
+    ensures { λ r. ⌜ r ≡ textNumberAt (now (s .entry)) at ⌝ }
 {
     let e = label_end(s, at);
     if WORD_MAX < e - at {

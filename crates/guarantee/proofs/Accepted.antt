@@ -16,7 +16,7 @@ use Rattle.lines.specs.Outcome.{says, refuses, Outcome}
 use Rattle.lines.specs.Refusal.{areaCheck}
 use Rattle.store.specs.Line.{stageOf, inStage, lineChecks, step}
 use Rattle.guarantee.proofs.CheckLaws.{passed-both, Refused, Went, checked-cases}
-use Rattle.guarantee.proofs.Sound.{Sound}
+use Rattle.guarantee.proofs.Sound.{EffectSound}
 use Rattle.guarantee.proofs.FormLaws.{workIn, read-law}
 
 module _ (choice : Choice) (s t line : List ℕ) where
@@ -35,7 +35,7 @@ module _ (choice : Choice) (s t line : List ℕ) where
   pub record Accepted (room : ℕ) : Type 0 where
     pub passes : storeOk s t ≡ true
     pub bytes : lineOk line ≡ true
-    pub sound : Sound (readForm line) line s t (lineWork .effect)
+    pub sound : EffectSound (readForm line) line s t (lineWork .effect)
     pub fits : length (lineWork .text) ≤ room
     pub is : step choice s t line room ≡ done
 
@@ -77,7 +77,7 @@ module _ (choice : Choice) (s t line : List ℕ) where
 
     -- What holds of the store before, and of the store after every effect that is sound, holds after every line.
     pub after-line : (Q : List ℕ → List ℕ → Type 0) → Q s t
-        → (storeOk s t ≡ true → Sound (readForm line) line s t (lineWork .effect) → Q (stateAfter (lineWork .effect) s) (tableAfter (lineWork .effect) t))
+        → (storeOk s t ≡ true → EffectSound (readForm line) line s t (lineWork .effect) → Q (stateAfter (lineWork .effect) s) (tableAfter (lineWork .effect) t))
         → Q (step choice s t line room .state) (step choice s t line room .table)
     after-line Q q k = go line-cases
       where

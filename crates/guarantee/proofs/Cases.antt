@@ -5,7 +5,7 @@ use mathlib.Core.Bool.{true}
 use mathlib.Core.List.{List, [], _∷_, map}
 use lib.ListN.{drop}
 use Rattle.guarantee.specs.Alike.{Input, outcome}
-use Rattle.guarantee.specs.Cases.{replies, newState, newTable, input, Case, Answered, Starred}
+use Rattle.guarantee.specs.Cases.{replies, newState, newTable, input, Case, CaseAnswered, Starred}
 use Rattle.guarantee.specs.Cases.{exampleAnswered, exampleRenamed, bracketHolds, bracketCounts, noRules, rootRemoved, lessonRemoved, levels, fewRecords}
 use Rattle.rights.specs.Bytes.{digitByte, run, all, every}
 use Rattle.rights.specs.Labels.{labelByte, folded, sameLabel}
@@ -116,7 +116,7 @@ few-records : (choice : Choice) → Gives choice fewRecords
 unfolding given
 few-records choice = refl
 
-answered : (choice : Choice) (c : Case) → storeOk newState (newTable (c .capacity)) ≡ true → Gives choice c → Answered choice c
+answered : (choice : Choice) (c : Case) → storeOk newState (newTable (c .capacity)) ≡ true → Gives choice c → CaseAnswered choice c
 unfolding given
 answered choice c p e = carried choice newState (newTable (c .capacity)) (map input (c .turns)) p ∙ e
 

@@ -12,8 +12,8 @@ use lib.Dec.{ltb}
 use borrow.Author.Tests.{ltb-true, ltb-false}
 use Rattle.rights.proofs.Lists.{byCase}
 use Rattle.views.specs.Change.{dropBelow, putBehind, remove, insertBehind, insertInFront, rename}
-use Rattle.views.specs.Nodes.{Nested}
-use Rattle.views.specs.How.Pass.{Above, Front, AtDone}
+use Rattle.views.specs.Nodes.{Nested, Above, Front}
+use Rattle.views.specs.How.Pass.{AtDone}
 
 module _ {E K : Type 0} (lev : E → ℕ) (key : E → K) where
   -- a node and its key chain

@@ -15,7 +15,8 @@ use Rattle.rights.specs.Table.{recordAt, recordsFrom, records, level, label, co
 use Rattle.rights.proofs.Lists.{byCase}
 use Rattle.views.specs.Done.{Asked, does, askedOf, doneMarks}
 use Rattle.rights.specs.Marks.{eachFrom}
-use Rattle.views.specs.Shown.{atParent, nearestFirst, isShownAt}
+use Rattle.views.specs.Shown.{atParent, nearestFirst}
+use Rattle.views.specs.How.Numbers.{isShownAt}
 use Rattle.views.specs.declared.done.Change.{Change}
 use Rattle.views.specs.declared.done.Change.the-variants.{Rename, Update, Append, Before, After, Remove}
 use Rattle.guarantee.proofs.Scan.{seen, spread, shown-level}

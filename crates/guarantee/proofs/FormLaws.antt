@@ -29,7 +29,7 @@ use Rattle.lines.specs.declared.queries.Ask.the-variants as ask
 use Rattle.store.specs.Line.{stageOf, inStage, bytesOf, workOf}
 use Rattle.store.proofs.FormParts.{Fits, form-fits}
 use Rattle.guarantee.proofs.SamePolicy.{same-named, same-word}
-use Rattle.guarantee.proofs.Sound.{Sound}
+use Rattle.guarantee.proofs.Sound.{EffectSound}
 use Rattle.guarantee.proofs.FormSound.{rename-frees, update-frees, subject-sound, isa-sound, rule-sound, root-sound, child-sound, user-sound, rename-sound, insert-sound, remove-sound}
 use Rattle.guarantee.proofs.LineAlike.{Tied, CheckAlike, ChecksAlike, EffectAlike, readings, logins, insertions, renamings, removals, WorkAlike, user-both, view-both, marks-both, text-both, deep-both, done-both}
 
@@ -108,7 +108,7 @@ workIn choice line f s t = workOf choice f s t line (recordsOf (treeIn line))
 
 pub record FormLaw (choice : Choice) (line : List ℕ) (f : Form) : Type 0 where
   pub sound : (s t : List ℕ) → storeOk s t ≡ true → inStage (stageOf f) (stage s) ≡ true → Passed (workIn choice line f s t .checks)
-      → Sound f line s t (workIn choice line f s t .effect)
+      → EffectSound f line s t (workIn choice line f s t .effect)
   pub alike : (u : ℕ) (s t s' t' : List ℕ) → Tied u s t s' t' → inStage (stageOf f) stageE ≡ true
       → WorkAlike (policyIn s) u t t' (workIn choice line f s t) (workIn choice line f s' t')
 

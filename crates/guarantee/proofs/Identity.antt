@@ -9,7 +9,7 @@ use mathlib.Core.Option.{Option, none, some}
 use native.Mathlib.Omega.{arith}
 use Rattle.rights.specs.Table.{records, level}
 use Rattle.views.specs.Change.{chunks, raise, relabel, placed, removed, renamed}
-use Rattle.views.specs.Nodes.{All, tags}
+use Rattle.views.specs.Nodes.{tags, All}
 use Rattle.views.specs.declared.done.Change.the-variants as change
 use Rattle.views.specs.declared.insert.Place.{Place}
 use Rattle.views.specs.declared.insert.Place.the-variants as place
@@ -32,7 +32,7 @@ use Rattle.guarantee.specs.Identity.{Tagged, taggedLevel, new, newTree, 
 use Rattle.lines.proofs.StateLaws.{store-held}
 use Rattle.rights.specs.Record.{nodeRecord}
 use Rattle.guarantee.proofs.CheckLaws.{Refused}
-use Rattle.guarantee.proofs.Sound.{Sound}
+use Rattle.guarantee.proofs.Sound.{EffectSound}
 use Rattle.guarantee.proofs.Accepted.{Accepted, line-cases}
 use Rattle.guarantee.proofs.TableAfter.{recordsAfter, table-after}
 
@@ -141,7 +141,7 @@ none-back choice s t (i ∷ is) ns =
     Sublistᴰ·trans (none-back choice (outcome choice s t i .state) (outcome choice s t i .table) is (follow choice s t i ns)) (tags-follow choice s t i ns)
 
 -- "A change keeps every node that it does not remove"
-tags-same : (f : Form) (line s t : List ℕ) → stageC ≤ stage s → ((p : Part) → f ≡ Remove p → ⊥) → (e : Effect) → Sound f line s t e → (ns : List Tagged)
+tags-same : (f : Form) (line s t : List ℕ) → stageC ≤ stage s → ((p : Part) → f ≡ Remove p → ⊥) → (e : Effect) → EffectSound f line s t e → (ns : List Tagged)
     → tags tagOf (afterEffect e ns) ≡ tags tagOf ns
 tags-same f line s t h k (policy p g) x ns = refl
 tags-same f line s t h k (root l) x ns = absurd (omega (arith, x .early))

@@ -12,8 +12,8 @@ use Rattle.rights.specs.Rights.{rightsBy, chains}
 use Rattle.rights.specs.Table.{records, level, label, tableOk}
 use Rattle.views.proofs.Relabelled.{level-relabel, label-relabel}
 use Rattle.views.specs.Change.{insertBehind, chunks, raise, relabel}
-use Rattle.views.specs.Nodes.{Nested, put, tags}
-use Rattle.views.specs.How.Pass.{Above, Front, AtDone}
+use Rattle.views.specs.Nodes.{Nested, put, tags, Above, Front}
+use Rattle.views.specs.How.Pass.{AtDone}
 use Rattle.views.specs.declared.insert.Place.{Place}
 use Rattle.views.specs.declared.insert.Place.the-variants as place
 use Rattle.views.proofs.KeptLaws.{tags-remove, tags-insertBehind, tags-insertInFront, tags-rename}

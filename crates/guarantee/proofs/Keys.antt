@@ -14,6 +14,7 @@ use Rattle.rights.specs.Policy.{Rule, Policy, some as anyOf, uses, policyWord}
 use Rattle.rights.specs.Isa.{is, passesOwn}
 use Rattle.rights.specs.Rights.{stepFor, reaches, ruledSet, decide, rightsBy}
 use Rattle.rights.proofs.LabelLaws.{same-left, folded-like}
+use Rattle.rights.proofs.BoolLaws.{or-left}
 use Rattle.rights.proofs.Lists.{byCase}
 use Rattle.rights.proofs.OwnNames.{own-named}
 use Rattle.rights.proofs.PolicyWords.{own-same}
@@ -52,9 +53,6 @@ rightsByKeys P u ks = decideKeys P u ks (P .rules) 0
 
 clash : {C : Type 0} (b : Bool) → b ≡ true → b ≡ false → C
 clash b e q = absurd (let z : true ≡ false = sym e ∙ q in let y : _≡_ {A = ℕ} 0 1 = cc in omega arith)
-
-pub or-left : (a b : Bool) → a ≡ true → a || b ≡ true
-or-left a b e = rw e
 
 some-at : (f : List ℕ → Bool) (xs : List (List ℕ)) (i : ℕ) → i < length xs → f (getD xs i []) ≡ true → anyOf f xs ≡ true
 unfolding anyOf

@@ -26,7 +26,7 @@ use Rattle.lines.proofs.EditTests.{names-length}
 use Rattle.lines.proofs.StateLaws.{store-held}
 use Rattle.guarantee.specs.Alike.{SamePolicy, UserIs}
 use Rattle.guarantee.proofs.SamePolicy.{same-word}
-use Rattle.guarantee.proofs.Sound.{Sound}
+use Rattle.guarantee.proofs.Sound.{EffectSound}
 use Rattle.guarantee.proofs.TableAfter.{recordsAfter, table-after}
 use Rattle.guarantee.proofs.LowTable.{PublicRecord, lowOf, nodesOf, doneLow}
 use Rattle.guarantee.proofs.LineLow.{selectLow, deepLow, doneBy, countLow, Marked, removeLow, renameLow, placeLow, view-in, marks-in, done-in, text-in, deep-in, removed-low, renamed-low, placed-low}
@@ -166,12 +166,12 @@ module _ (u : ℕ) (s t s' t' : List ℕ) (h : Tied u s t s' t') where
   }
 
   -- Effects alike leave the same low projection.
-  pub low-effect : (f : Form) (line : List ℕ) (e e' : Effect) → EffectAlike P u t t' e e' → Sound f line s t e → Sound f line s' t' e'
+  pub low-effect : (f : Form) (line : List ℕ) (e e' : Effect) → EffectAlike P u t t' e e' → EffectSound f line s t e → EffectSound f line s' t' e'
       → lowOf P u (records (tableAfter e t)) ≡ lowOf P u (records (tableAfter e' t'))
   low-effect f line e e' a x x' =
       ap (lowOf P u) (table-after f line s t ok e x .held) ∙ by a x x' ∙ sym (ap (lowOf P u) (table-after f line s' t' ok' e' x' .held))
     where
-      by : {e e' : Effect} → EffectAlike P u t t' e e' → Sound f line s t e → Sound f line s' t' e'
+      by : {e e' : Effect} → EffectAlike P u t t' e e' → EffectSound f line s t e → EffectSound f line s' t' e'
           → lowOf P u (recordsAfter e (records t)) ≡ lowOf P u (recordsAfter e' (records t'))
       by readings x x' = h .low
       by (logins v) x x' = h .low

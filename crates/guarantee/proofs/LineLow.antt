@@ -15,13 +15,13 @@ use Rattle.rights.specs.XPath.{xpathSelection}
 use Rattle.rights.specs.Table.{records, level, count, tableOk}
 use Rattle.rights.proofs.Lists.{byCase}
 use Rattle.views.proofs.Relabelled.{level-relabel, label-relabel}
-use Rattle.views.specs.Change.{remove, insertBehind, insertInFront, rename, chunks, raise, relabel}
-use Rattle.views.specs.Change.{placed, removed, renamed, tooDeep}
+use Rattle.views.specs.Change.{remove, insertBehind, insertInFront, rename, chunks, raise, relabel, placed, removed, renamed, tooDeep}
 use Rattle.views.specs.Done.{doneMarks, inTable}
 use Rattle.rights.specs.Marks.{markCount}
-use Rattle.views.specs.Nodes.{Nested}
-use Rattle.views.specs.How.Pass.{Front, AtDone}
-use Rattle.views.specs.Shown.{isShownAt, stored, shown, view}
+use Rattle.views.specs.Nodes.{Nested, Front}
+use Rattle.views.specs.How.Pass.{AtDone}
+use Rattle.views.specs.Shown.{stored, shown, view}
+use Rattle.views.specs.How.Numbers.{isShownAt}
 use Rattle.views.specs.declared.done.Change.{Change}
 use Rattle.views.specs.declared.insert.Place.{Place}
 use Rattle.views.specs.declared.insert.Place.the-variants as place
@@ -36,8 +36,7 @@ use Rattle.guarantee.proofs.SamePolicy.{same-own, same-word, same-right
 use Rattle.guarantee.proofs.Keys.{Key, rightsByKeys}
 use Rattle.guarantee.proofs.Chains.{chain, cells}
 use Rattle.guarantee.proofs.Scan.{seen, spread}
-use Rattle.guarantee.proofs.Low.{Public, publicLevel, publicGrant, publicOf, publics, lowBelow, marks}
-use Rattle.guarantee.proofs.Low.{recarried, Renames, low-remove, low-append, low-insertAfter, low-insertInFront, low-rename}
+use Rattle.guarantee.proofs.Low.{Public, publicLevel, publicGrant, publicOf, publics, lowBelow, marks, recarried, Renames, low-remove, low-append, low-insertAfter, low-insertInFront, low-rename}
 use Rattle.guarantee.proofs.DoneSeen.{Item, doneFrom, seenItems, doneSeen}
 use Rattle.guarantee.proofs.Sound.{NoWord}
 use Rattle.guarantee.proofs.TableAfter.{table-nested}

@@ -18,7 +18,8 @@ use Rattle.rights.specs.Table.{records, level, label}
 use Rattle.rights.proofs.Lists.{byCase}
 use Rattle.views.specs.Done.{doneMarks, inTable}
 use Rattle.views.specs.Nodes.{Nested}
-use Rattle.views.specs.Shown.{Stored, storedFrom, storedLevel, grants, granted, isShown, isShownAt, depthAfter, shownAfter, shownFrom, shown, view}
+use Rattle.views.specs.Shown.{Stored, storedFrom, storedLevel, grants, granted, isShown, shownAfter, shown, view}
+use Rattle.views.specs.How.Numbers.{isShownAt, depthAfter, shownFrom}
 use Rattle.views.specs.declared.done.Change.{Change}
 use Rattle.rights.proofs.LabelLaws.{same-folded, folded-same}
 use Rattle.rights.proofs.PolicyWords.{word-same}
@@ -27,8 +28,7 @@ use Rattle.guarantee.specs.Alike.{NoWordDiffers, Behind}
 use Rattle.guarantee.proofs.Keys.{Key, keyOf, rightsByKeys, rights-by-keys}
 use Rattle.guarantee.proofs.Chains.{Cell, cellLevel, chain, cells}
 use Rattle.guarantee.proofs.Scan.{nested-steps}
-use Rattle.guarantee.proofs.Low.{Public, publicLevel, publicGrant, cellGrant, publicOf, publics, lowBelow, low}
-use Rattle.guarantee.proofs.Low.{marks, shownCells, low-shown, shown-cells, look, KeysBehind, low-alike, alike-low}
+use Rattle.guarantee.proofs.Low.{Public, publicLevel, publicGrant, cellGrant, publicOf, publics, lowBelow, low, marks, shownCells, low-shown, shown-cells, look, KeysBehind, low-alike, alike-low}
 use Rattle.guarantee.proofs.DoneSeen.{Item, doneFrom, items, done-items, allItems, doneSeen, done-seen}
 
 -- Lists

@@ -11,7 +11,7 @@ use Rattle.rights.specs.Policy.{Policy}
 use Rattle.rights.specs.PolicyBytes.{policyOf}
 use Rattle.rights.specs.Rights.{rightsBy, chains, rightsOn}
 use Rattle.rights.specs.Table.{records, tableOk}
-use Rattle.views.specs.Nodes.{All, tags}
+use Rattle.views.specs.Nodes.{tags, All}
 use Rattle.answers.specs.AnswerChoice.{Choice}
 use Rattle.forms.specs.Form.{readForm}
 use Rattle.lines.specs.State.{stageC, stage, policyIn}
@@ -21,7 +21,7 @@ use Rattle.guarantee.specs.Alike.{Input, outcome}
 use Rattle.guarantee.specs.Identity.{Tagged, afterEffect, afterReply, effectOf, follow, followAll, kept, beside, keptRights, stateAfterAll, RightsKept, tagAll, tagAt, SameRights}
 use Rattle.lines.specs.Effect.{Effect, policy, root, insertion, renaming, removal, login, reading}
 use Rattle.guarantee.proofs.CheckLaws.{Refused}
-use Rattle.guarantee.proofs.Sound.{Sound}
+use Rattle.guarantee.proofs.Sound.{EffectSound}
 use Rattle.guarantee.proofs.Accepted.{Accepted, line-cases}
 use Rattle.guarantee.proofs.SessionKept.{policy-kept, rooted-kept}
 use Rattle.guarantee.proofs.Identity.{all-part, follows-line, follows}
@@ -32,7 +32,7 @@ same {b = b} e = rw e (Sublistᴰ·refl b)
 
 -- the rights on the kept nodes after an effect, the root line taken before
 rights-effect : (f : Form) (line s t : List ℕ) → tableOk t ≡ true → stageC ≤ stage s → (ns : List Tagged) → map (λ n. n .0) ns ≡ records t
-    → (u : ℕ) → u < length (policyIn s .names) → (e : Effect) → Sound f line s t e
+    → (u : ℕ) → u < length (policyIn s .names) → (e : Effect) → EffectSound f line s t e
     → Sublistᴰ (keptRights (policyIn s) u (afterEffect e ns)) (keptRights (policyIn s) u ns)
 rights-effect f line s t ok rooted ns q u d (policy p g) x = Sublistᴰ·refl _
 rights-effect f line s t ok rooted ns q u d (root l) x = absurd (omega (arith, x .early))

@@ -14,9 +14,10 @@ use Rattle.rights.proofs.Facts.{both}
 use Rattle.rights.proofs.Lists.{byCase}
 use Rattle.views.specs.Change.{dropBelow, putBehind, remove, insertBehind, insertInFront, rename}
 use Rattle.views.specs.Done.{inTable}
-use Rattle.views.specs.Nodes.{Nested}
-use Rattle.views.specs.How.Pass.{Above, Front, AtDone}
-use Rattle.views.specs.Shown.{isShownAt, shownFrom, shownBy}
+use Rattle.views.specs.Nodes.{Nested, Above, Front}
+use Rattle.views.specs.How.Pass.{AtDone}
+use Rattle.views.specs.Shown.{shownBy}
+use Rattle.views.specs.How.Numbers.{isShownAt, shownFrom}
 use Rattle.views.proofs.ShownDepth.{Steps, shown-by-depth}
 
 -- what holds of every node holds of each that is done

@@ -20,12 +20,12 @@ use Rattle.store.specs.Line.{workOf, step}
 use Rattle.lines.proofs.StateLaws.{store-held}
 use Rattle.guarantee.specs.Alike.{UserIs, LogsIn}
 use Rattle.guarantee.proofs.CheckLaws.{Refused}
-use Rattle.guarantee.proofs.Sound.{LoginSound, Sound}
+use Rattle.guarantee.proofs.Sound.{LoginSound, EffectSound}
 use Rattle.guarantee.proofs.StoreKept.{policy-staged, policy-logged, later-staged, session-kept, held-passes, held-after}
 use Rattle.guarantee.proofs.Accepted.{lineWork, Accepted, line-cases, accepted, after-line}
 
 -- the policy and the stage after an effect, the root line taken before
-policy-after : (f : Form) (line s t : List ℕ) → stageC ≤ stage s → (e : Effect) → Sound f line s t e
+policy-after : (f : Form) (line s t : List ℕ) → stageC ≤ stage s → (e : Effect) → EffectSound f line s t e
     → (policyBytes (stateAfter e s) ≡ policyBytes s) × (stageC ≤ stage (stateAfter e s))
 policy-after f line s t rooted (policy p g) x = absurd (omega (arith, x .early))
 policy-after f line s t rooted (root l) x = absurd (omega (arith, x .early))
@@ -36,7 +36,7 @@ policy-after f line s t rooted (login u) x = (policy-logged s 4 (u + 1), omega a
 policy-after f line s t rooted reading x = (refl, rooted)
 
 -- the user after an effect: the one before, or the one that is logged in
-user-after : (f : Form) (line s t : List ℕ) → 8 ≤ length s → (e : Effect) → Sound f line s t e
+user-after : (f : Form) (line s t : List ℕ) → 8 ≤ length s → (e : Effect) → EffectSound f line s t e
     → (userByte (stateAfter e s) ≡ userByte s) ⊎ ((v : ℕ) × (e ≡ login v) × LoginSound f line s v)
 user-after f line s t size (policy p g) x = inl (later-staged (withPolicy p s) g 0 ∙ session-kept s p size 1 (omega arith))
 user-after f line s t size (root l) x = inl (later-staged s 2 0)

@@ -71,11 +71,11 @@ pub record LoginSound (f : Form) (line s : List ℕ) (u : ℕ) : Type 0 where
   pub named : subjectNamed (policyIn s) (bytesOf line name) ≡ found.Subject u
   pub rooted : stageC ≤ stage s
 
-abbrev pub Sound : Form → List ℕ → List ℕ → List ℕ → Effect → Type 0
-Sound f line s t (policy p g) = PolicySound s p g
-Sound f line s t (root l) = RootSound s t l
-Sound f line s t (insertion at ms m tree g) = InsertSound s t at ms m tree g
-Sound f line s t (renaming l ms) = RenameSound s t l ms
-Sound f line s t (removal ms) = RemoveSound f s t ms
-Sound f line s t (login u) = LoginSound f line s u
-Sound f line s t reading = Unit {0}
+abbrev pub EffectSound : Form → List ℕ → List ℕ → List ℕ → Effect → Type 0
+EffectSound f line s t (policy p g) = PolicySound s p g
+EffectSound f line s t (root l) = RootSound s t l
+EffectSound f line s t (insertion at ms m tree g) = InsertSound s t at ms m tree g
+EffectSound f line s t (renaming l ms) = RenameSound s t l ms
+EffectSound f line s t (removal ms) = RemoveSound f s t ms
+EffectSound f line s t (login u) = LoginSound f line s u
+EffectSound f line s t reading = Unit {0}

@@ -23,7 +23,7 @@ use Rattle.forms.specs.declared.form.Form.{Form}
 use Rattle.store.specs.Line.{bytesOf}
 use Rattle.lines.specs.Effect.{Effect, policy, root, insertion, renaming, removal, login, reading, stateAfter, tableAfter}
 use Rattle.guarantee.proofs.FormSound.{agree}
-use Rattle.guarantee.proofs.Sound.{PolicySound, Sound}
+use Rattle.guarantee.proofs.Sound.{PolicySound, EffectSound}
 use Rattle.guarantee.proofs.TableAfter.{TableHolds, recordsAfter, table-after}
 
 -- The bytes of a state that was written
@@ -139,13 +139,13 @@ module _ (s t : List ℕ) (h : Held s t) where
 
 -- Each effect
 
-pub held-after : (f : Form) (line s t : List ℕ) → storeOk s t ≡ true → (e : Effect) → Sound f line s t e → Held (stateAfter e s) (tableAfter e t)
+pub held-after : (f : Form) (line s t : List ℕ) → storeOk s t ≡ true → (e : Effect) → EffectSound f line s t e → Held (stateAfter e s) (tableAfter e t)
 held-after f line s t ok e x = by e x (table-after f line s t (store-held s t ok .table) e x)
   where
     h : Held s t
     h = store-held s t ok
 
-    by : (e : Effect) → Sound f line s t e → TableHolds t (tableAfter e t) (recordsAfter e (records t)) → Held (stateAfter e s) (tableAfter e t)
+    by : (e : Effect) → EffectSound f line s t e → TableHolds t (tableAfter e t) (recordsAfter e (records t)) → Held (stateAfter e s) (tableAfter e t)
     by (policy p g) x y = policy-held s t h p g x
     by (root l) x y =
         staged-held s t h (tableAfter (root l) t) 2 (y .ok) (omega (arith, sym (length-records (tableAfter (root l) t)) ∙ ap length (y .held))) (omega arith) (omega arith)

@@ -12,13 +12,13 @@ use Rattle.rights.specs.Table.{count, records, recordOk, recordsOk, level, tabl
 use Rattle.rights.proofs.Facts.{both, table-records}
 use Rattle.rights.proofs.RecordMade.{length-node, node-ok}
 use Rattle.views.specs.Change.{remove, placed, removed, relabel, renamed, changed, free}
-use Rattle.views.specs.Nodes.{All, Nested}
+use Rattle.views.specs.Nodes.{Nested, All}
 use Rattle.views.proofs.TableFacts.{facts}
 use Rattle.views.proofs.TableKept.{Full, StoredAs, removed-stored, renamed-stored, placed-stored, changed-ok, length-changed, records-changed, count-changed, loosen, length-records, length-placed}
 use Rattle.views.proofs.Waiting.{length-rename}
 use Rattle.forms.specs.declared.form.Form.{Form}
 use Rattle.lines.specs.Effect.{Effect, policy, root, insertion, renaming, removal, login, reading, tableAfter}
-use Rattle.guarantee.proofs.Sound.{RootSound, Sound}
+use Rattle.guarantee.proofs.Sound.{RootSound, EffectSound}
 
 -- the levels of a table's records
 records-nested : (low high : ℕ) (rs : List (List ℕ)) → recordsOk low high rs ≡ true → Nested level high rs
@@ -75,7 +75,7 @@ unfolding remove
 remove-some ms [] e h = absurd (omega arith)
 remove-some ms (r ∷ rs) e h = rw e (omega arith)
 
-pub table-after : (f : Form) (line s t : List ℕ) → tableOk t ≡ true → (e : Effect) → Sound f line s t e → TableHolds t (tableAfter e t) (recordsAfter e (records t))
+pub table-after : (f : Form) (line s t : List ℕ) → tableOk t ≡ true → (e : Effect) → EffectSound f line s t e → TableHolds t (tableAfter e t) (recordsAfter e (records t))
 table-after f line s t ok (policy p g) x = same-table t ok
 table-after f line s t ok (root l) x = changed-table t (nodeRecord 0 l ∷ []) (root-stored s t l ok x) (λ i. omega arith)
 table-after f line s t ok (insertion at ms m tree g) x =

@@ -12,7 +12,7 @@ use Rattle.rights.specs.Record.{noSpare, recordOf, nodeRecord}
 use Rattle.rights.specs.Table.{level, label, recordOk}
 use Rattle.rights.proofs.RecordMade.{length-node, node-ok, level-made, label-made}
 use Rattle.views.specs.Change.{chunks}
-use Rattle.views.specs.Nodes.{All, Nested, TreeOk}
+use Rattle.views.specs.Nodes.{Nested, TreeOk, All}
 use Rattle.lines.specs.Work.{treeRestricted}
 use Rattle.rights.specs.Nodes.{Node, node}
 use Rattle.forms.specs.Tree.{held, recordsOf}

@@ -50,8 +50,8 @@ pub record Case : Type 0 where
   pub turns : List Turn
 
 -- the lines of a row give exactly the replies that stand beside them
-abbrev pub Answered : Choice → Case → Type 0
-Answered choice c = replies choice newState (newTable (c .capacity)) (map input (c .turns)) ≡ map (λ x. x .reply) (c .turns)
+abbrev pub CaseAnswered : Choice → Case → Type 0
+CaseAnswered choice c = replies choice newState (newTable (c .capacity)) (map input (c .turns)) ≡ map (λ x. x .reply) (c .turns)
 
 -- the example's first ten lines
 abbrev pub example : List Turn
@@ -221,4 +221,4 @@ abbrev pub cases : List Case
 cases = exampleAnswered ∷ exampleRenamed ∷ bracketHolds ∷ bracketCounts ∷ noRules ∷ rootRemoved ∷ lessonRemoved ∷ levels ∷ fewRecords ∷ []
 
 abbrev pub Starred : Type 0
-Starred = (choice : Choice) → All (Answered choice) cases
+Starred = (choice : Choice) → All (CaseAnswered choice) cases

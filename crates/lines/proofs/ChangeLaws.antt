@@ -16,8 +16,8 @@ use Rattle.rights.proofs.Facts.{table-few}
 use Rattle.rights.proofs.Lists.{byCase, rest-of}
 use Rattle.views.specs.Change.{changed, renamed, removed}
 use Rattle.views.specs.Done.{doneMarks}
-use Rattle.views.specs.How.Numbers.{shownByNumbers, byNumbers, DoneBy}
-use Rattle.views.specs.Shown.{shown, shownNumbers}
+use Rattle.views.specs.How.Numbers.{shownByNumbers, byNumbers, DoneBy, shownNumbers}
+use Rattle.views.specs.Shown.{shown}
 use Rattle.views.specs.declared.done.Change.{Change}
 use Rattle.views.specs.declared.insert.Place.{Place}
 use Rattle.views.proofs.DoneLaws.{numbers-shown, numbers-in-table, done-length}

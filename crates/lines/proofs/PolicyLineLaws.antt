@@ -8,7 +8,8 @@ use borrow.Rule.Slice.PartMut.{putMid, postOf}
 use lib.ListN.{length, take, drop, set, length-append, length-drop, drop-of-length-le}
 use lib.Seq.{length-take-le}
 use Rattle.rights.specs.Path.{Path}
-use Rattle.rights.specs.PathReader.{Got, got, bad, placeOf, pathOf}
+use Rattle.rights.specs.PathReader.{Got, got, bad, pathOf}
+use Rattle.rights.specs.How.Reading.{placeOf}
 use Rattle.rights.specs.PolicyBytes.{policyOf, subjectCount}
 use Rattle.rights.specs.PolicyCheck.{policyOk}
 use Rattle.rights.proofs.Lists.{rest-of}

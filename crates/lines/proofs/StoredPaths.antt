@@ -16,7 +16,8 @@ use Rattle.rights.specs.declared.path.Axis.{Axis}
 use Rattle.rights.specs.declared.path.Read.the-variants.{At, Bad}
 use Rattle.rights.specs.declared.path.StepRead.{StepRead}
 use Rattle.rights.specs.declared.path.StepRead.the-variants.{Step, NoStep}
-use Rattle.rights.specs.PathReader.{Got, got, bad, readTest, readStep, isPosition, readPosition, closes, unslashed, readBrackets, readSteps, brackets, steps, pathOf, placeOf, StepAt}
+use Rattle.rights.specs.PathReader.{Got, got, bad, readTest, readStep, isPosition, readPosition, closes, unslashed, readBrackets, readSteps, brackets, steps, pathOf}
+use Rattle.rights.specs.How.Reading.{placeOf, StepAt}
 use Rattle.rights.specs.PathText.{writeTest, writeStep, writeSteps, writeBrackets, write, stepsOf, GoodTest, GoodSteps}
 use Rattle.rights.specs.Policy.{some, uses}
 use Rattle.lines.specs.PolicyEdit.{anyBracket, bracketed, bracketedIn, hasBracket, Plain, stepList, stepsIn, writeStored, pathRestricted, axisByte, stepRecord, stepRecords}

@@ -20,7 +20,7 @@ use Rattle.rights.proofs.RecordMade.{pasted-record}
 use Rattle.rights.specs.Marks.{marksOf, markCount}
 use Rattle.views.specs.Change.{chunks, le4, join, changed, putBehind, insertBehind, raise, lower, placed, deepest, tooDeep, free, hasRoom}
 use Rattle.views.specs.declared.insert.Place.the-variants.{Append}
-use Rattle.views.proofs.Chunks.{drop-take}
+use Rattle.rights.proofs.Texts.{drop-take}
 use Rattle.views.proofs.TableFacts.{facts, zero-replicate}
 use Rattle.views.proofs.TableKept.{length-records, loosen}
 use Rattle.lines.specs.State.{stage, storeOk}

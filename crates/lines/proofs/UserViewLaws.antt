@@ -9,14 +9,17 @@ use lib.Bits.{bitAnd}
 use lib.ListN.{length, take, drop, length-map, length-append}
 use lib.Seq.{take-at}
 use Rattle.rights.specs.Path.{Path}
-use Rattle.rights.specs.PathReader.{Got, got, bad, placeOf}
+use Rattle.rights.specs.PathReader.{Got, got, bad}
+use Rattle.rights.specs.How.Reading.{placeOf}
 use Rattle.rights.specs.declared.path.Read.the-variants.{At, Bad}
 use Rattle.rights.specs.Marks.{bit, marksOf}
-use Rattle.rights.specs.Nodes.{Nodes, Fits, viewOf}
+use Rattle.rights.specs.Nodes.{Nodes}
+use Rattle.rights.specs.How.Numbers.{Fits, viewOf}
 use Rattle.rights.specs.Isa.{passesOwn}
 use Rattle.rights.specs.PolicyBytes.{policyOf, subjectCount}
 use Rattle.rights.specs.How.Roles.{Declared, OwnFirst, Subjects, nameAmong}
-use Rattle.rights.specs.Rights.{rightsBy, chains, askedOn}
+use Rattle.rights.specs.Rights.{rightsBy, chains}
+use Rattle.rights.specs.How.Groups.{askedOn}
 use Rattle.rights.specs.How.Selection.{selection, Selects}
 use Rattle.rights.specs.Table.{count, records}
 use Rattle.rights.proofs.FiveRights.{asked-all}
@@ -27,7 +30,8 @@ use Rattle.rights.proofs.PassLaws.{view-length}
 use Rattle.rights.proofs.RightsLaws.{rule-bit}
 use Rattle.rights.proofs.Sounds.{policy-sound}
 use Rattle.rights.proofs.XPathLaws.{selection-xpath}
-use Rattle.views.specs.Shown.{storedFrom, stored, shownNumbers}
+use Rattle.views.specs.Shown.{storedFrom, stored}
+use Rattle.views.specs.How.Numbers.{shownNumbers}
 use Rattle.views.proofs.AskedView.{shown-asked}
 use Rattle.views.proofs.TableKept.{length-records}
 use Rattle.views.proofs.ViewLaws.{view-fits, view-by-numbers, view-nested}

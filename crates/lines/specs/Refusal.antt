@@ -65,12 +65,12 @@ order =
     badStore ∷ badLine ∷ noForm ∷ wrongStage ∷ badPath ∷ badName ∷ ruleBracket ∷ policyFull ∷ noUserYet ∷ bannedLabel ∷ levelTooDeep ∷ tableFull ∷ areaShort ∷ []
 
 -- the place of a number in that order
-unfoldable pub placeIn : List ℕ → ℕ → ℕ
-placeIn [] n = 0
-placeIn (m ∷ ms) n = cond (eqb n m) 0 (suc (placeIn ms n))
+unfoldable pub indexIn : List ℕ → ℕ → ℕ
+indexIn [] n = 0
+indexIn (m ∷ ms) n = cond (eqb n m) 0 (suc (indexIn ms n))
 
 abbrev pub rank : ℕ → ℕ
-rank n = placeIn order n
+rank n = indexIn order n
 
 -- A test of a line: where it fails, the line is refused with the number.
 pub record Check : Type 0 where

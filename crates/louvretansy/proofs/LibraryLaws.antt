@@ -15,7 +15,7 @@ use Rattle.lines.specs.declared.line.Answer.the-variants.{Accepted, Refused}
 use Rattle.lines.specs.State.{storeOk}
 use Rattle.lines.specs.Outcome.{Reply, says, refuses, Outcome, Made, answerOf}
 use Rattle.lines.proofs.StateLaws.{store-held}
-use Rattle.louvretansy.specs.Library.{stateBytes, numberOf, Returned}
+use Rattle.louvretansy.specs.Library.{stateBytes, returnValue, Returned}
 
 -- a length that fits an area is one that 64 bits with a sign hold
 pub length-fits : {n : ℕ} → n < 2 ^ 63 → SFits w64 (pos n)
@@ -44,14 +44,14 @@ module _ {o : Outcome} {before s' t' after : List ℕ} {r : Answer} (m : Made o 
   pub accepted : {n : ℕ} → r ≡ Accepted n → n < 2 ^ 63 → Returned o before (toZ w64 n) s' t' after
   accepted {n} e h = record { number = toZ-pos w64 h ∙ go (o .reply) (sym e ∙ m .answer); state = m .state; table = m .table; area = m .area }
     where
-      go : (p : Reply) → Accepted n ≡ answerOf p → pos n ≡ numberOf p
+      go : (p : Reply) → Accepted n ≡ answerOf p → pos n ≡ returnValue p
       go (says b) q = let z : n ≡ length b = cc in ap pos z
       go (refuses k) q = let z : _≡_ {A = ℕ} 0 1 = cc in absurd (omega arith)
 
   pub turned-down : {n : ℕ} → r ≡ Refused n → {z : ℤ} → SFits w64 z → z ≡ negℤ (pos n) → Returned o before (toZ w64 (ofZ w64 z)) s' t' after
   turned-down {n} e f q = record { number = toZ-ofZ f ∙ q ∙ go (o .reply) (sym e ∙ m .answer); state = m .state; table = m .table; area = m .area }
     where
-      go : (p : Reply) → Refused n ≡ answerOf p → negℤ (pos n) ≡ numberOf p
+      go : (p : Reply) → Refused n ≡ answerOf p → negℤ (pos n) ≡ returnValue p
       go (says b) w = let z : _≡_ {A = ℕ} 0 1 = cc in absurd (omega arith)
       go (refuses k) w = let z : n ≡ k = cc in ap (λ x. negℤ (pos x)) z
 

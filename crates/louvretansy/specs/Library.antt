@@ -11,13 +11,13 @@ abbrev pub stateBytes : ℕ
 stateBytes = 68880
 
 -- "An accepted line returns the answer's length"; of a refused one "the number is returned", with a minus sign
-abbrev pub numberOf : Reply → ℤ
-numberOf (says b) = pos (length b)
-numberOf (refuses n) = negℤ (pos n)
+abbrev pub returnValue : Reply → ℤ
+returnValue (says b) = pos (length b)
+returnValue (refuses n) = negℤ (pos n)
 
 -- what is returned and left is what the outcome says
 pub record Returned (o : Outcome) (before : List ℕ) (r : ℤ) (state' table' area' : List ℕ) : Type 0 where
-  pub number : r ≡ numberOf (o .reply)
+  pub number : r ≡ returnValue (o .reply)
   pub state : state' ≡ o .state
   pub table : table' ≡ o .table
   pub area : area' ≡ areaAfter (o .reply) before

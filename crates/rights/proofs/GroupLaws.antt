@@ -18,7 +18,7 @@ use Rattle.rights.specs.Policy.{Right, position, read, insert, update, d
 use Rattle.rights.specs.Rights.{Step, stepFor, reaches, ruledSet}
 use Rattle.rights.specs.How.Automaton.{value, meet, deeps, passedBy, moved, states, stepsFor, rulePath, chainTo, chainOf}
 use Rattle.rights.specs.How.Roles.{nameAmong}
-use Rattle.rights.specs.How.Groups.{bitAt, Ruling, rulingAt, never, cat, stepsOf, firstOf, laid, firsts, endAt, Agrees, ruled, settled, Packed, Grouped, General}
+use Rattle.rights.specs.How.Groups.{bitAt, Ruling, rulingAt, never, cat, rulingSteps, rulingStarts, laid, firsts, endAt, Agrees, ruled, settled, Packed, Grouped, General}
 use Rattle.rights.specs.PolicyCheck.{bitOk}
 use Rattle.rights.specs.PolicyBytes.{accepts, stepCount, stepsAt, stepOf}
 use Rattle.rights.specs.Table.{recAt, recordAt, level, label}
@@ -112,15 +112,15 @@ module _ (q : ℕ → Ruling) (i : ℕ) where
   cat-length zero = unfold cat in refl
   cat-length (suc n) =
       byCase (q (i + n) .on)
-      (λ o. ap length (cat-on firstOf n o)
-      ∙ length-append (firsts q i n) (firstOf (q (i + n)))
+      (λ o. ap length (cat-on rulingStarts n o)
+      ∙ length-append (firsts q i n) (rulingStarts (q (i + n)))
       ∙ ap₂ _+_ (cat-length n) (ap suc (length-replicate (length (q (i + n) .path)) false) ∙ (let z : suc (length (q (i + n) .path)) ≡ length (q (i + n) .path) + 1 = omega arith in z) ∙ sym (length-append (q (i + n) .path) (never ∷ [])))
-      ∙ sym (length-append (laid q i n) (stepsOf (q (i + n))))
-      ∙ sym (ap length (cat-on stepsOf n o)))
-      (λ o. ap length (cat-off firstOf n o) ∙ cat-length n ∙ sym (ap length (cat-off stepsOf n o)))
+      ∙ sym (length-append (laid q i n) (rulingSteps (q (i + n))))
+      ∙ sym (ap length (cat-on rulingSteps n o)))
+      (λ o. ap length (cat-off rulingStarts n o) ∙ cat-length n ∙ sym (ap length (cat-off rulingSteps n o)))
 
   pub laid-more : (n : ℕ) → q (i + n) .on ≡ true → length (laid q i (suc n)) ≡ suc (endAt q i n)
-  laid-more n e = omega (arith, ap length (cat-on stepsOf n e), length-append (laid q i n) (stepsOf (q (i + n))), length-append (q (i + n) .path) (never ∷ []))
+  laid-more n e = omega (arith, ap length (cat-on rulingSteps n e), length-append (laid q i n) (rulingSteps (q (i + n))), length-append (q (i + n) .path) (never ∷ []))
 
   -- no label goes on from the last state of the rules before
   last-apart : (n o : ℕ) → suc o ≡ length (laid q i n) → (x : List ℕ) → getD (passedBy (laid q i n) x) o false ≡ false
@@ -128,12 +128,12 @@ module _ (q : ℕ → Ruling) (i : ℕ) where
   last-apart (suc n) o e x =
       byCase (q (i + n) .on)
       (λ w. let ps = q (i + n) .path in
-      let k : laid q i (suc n) ≡ (laid q i n ++ ps) ++ (never ∷ []) = cat-on stepsOf n w ∙ sym (append-assoc (laid q i n) ps (never ∷ [])) in
+      let k : laid q i (suc n) ≡ (laid q i n ++ ps) ++ (never ∷ []) = cat-on rulingSteps n w ∙ sym (append-assoc (laid q i n) ps (never ∷ [])) in
       ap (λ (l : List Step). getD (passedBy l x) o false) k
       ∙ passed-more (laid q i n ++ ps) never x o
       ∙ sym (or-none _ (eqb o (length (laid q i n ++ ps))))
       ∙ List·getD-eq-default (passedBy (laid q i n ++ ps) x) false (omega (arith, length-passedBy (laid q i n ++ ps) x, ap length k, length-append (laid q i n ++ ps) (never ∷ []))))
-      (λ w. ap (λ (l : List Step). getD (passedBy l x) o false) (cat-off stepsOf n w) ∙ last-apart n o (e ∙ ap length (cat-off stepsOf n w)) x)
+      (λ w. ap (λ (l : List Step). getD (passedBy l x) o false) (cat-off rulingSteps n w) ∙ last-apart n o (e ∙ ap length (cat-off rulingSteps n w)) x)
 
   module _ (n k : ℕ) (h : k < n) (e : q (i + k) .on ≡ true) where
     abbrev ps : List Step
@@ -143,33 +143,33 @@ module _ (q : ℕ → Ruling) (i : ℕ) where
     before = laid q i k
 
     rest : List Step
-    rest = cat-split stepsOf n k h e .0
+    rest = cat-split rulingSteps n k h e .0
 
-    whole : laid q i n ≡ before ++ (stepsOf (q (i + k)) ++ rest)
+    whole : laid q i n ≡ before ++ (rulingSteps (q (i + k)) ++ rest)
     unfolding rest
-    whole = cat-split stepsOf n k h e .1
+    whole = cat-split rulingSteps n k h e .1
 
     stands : Within (laid q i n) ps (length before)
     stands = record {
       deep-same = λ j l. ap (λ (s : List Step). getD (deeps s) (length before + j) false) whole
-          ∙ ap (λ (s : List Bool). getD s (length before + j) false) (deeps-append before (stepsOf (q (i + k)) ++ rest))
-          ∙ ap (λ (m : ℕ). getD (deeps before ++ deeps (stepsOf (q (i + k)) ++ rest)) (m + j) false) (sym (deeps-length before))
-          ∙ getD-append-add (deeps before) (deeps (stepsOf (q (i + k)) ++ rest)) j false
-          ∙ ap (λ (s : List Bool). getD s j false) (deeps-append (stepsOf (q (i + k))) rest)
-          ∙ List·getD-append (deeps (stepsOf (q (i + k)))) (deeps rest) false j (omega (arith, deeps-length (stepsOf (q (i + k))), length-append ps (never ∷ [])))
+          ∙ ap (λ (s : List Bool). getD s (length before + j) false) (deeps-append before (rulingSteps (q (i + k)) ++ rest))
+          ∙ ap (λ (m : ℕ). getD (deeps before ++ deeps (rulingSteps (q (i + k)) ++ rest)) (m + j) false) (sym (deeps-length before))
+          ∙ getD-append-add (deeps before) (deeps (rulingSteps (q (i + k)) ++ rest)) j false
+          ∙ ap (λ (s : List Bool). getD s j false) (deeps-append (rulingSteps (q (i + k))) rest)
+          ∙ List·getD-append (deeps (rulingSteps (q (i + k)))) (deeps rest) false j (omega (arith, deeps-length (rulingSteps (q (i + k))), length-append ps (never ∷ [])))
           ∙ deeps-more ps never j
           ∙ sym (or-none _ (eqb j (length ps)));
       passed-same = λ x j l. ap (λ (s : List Step). getD (passedBy s x) (length before + j) false) whole
-          ∙ ap (λ (s : List Bool). getD s (length before + j) false) (passed-append before (stepsOf (q (i + k)) ++ rest) x)
-          ∙ ap (λ (m : ℕ). getD (passedBy before x ++ passedBy (stepsOf (q (i + k)) ++ rest) x) (m + j) false) (sym (length-passedBy before x))
-          ∙ getD-append-add (passedBy before x) (passedBy (stepsOf (q (i + k)) ++ rest) x) j false
-          ∙ ap (λ (s : List Bool). getD s j false) (passed-append (stepsOf (q (i + k))) rest x)
-          ∙ List·getD-append (passedBy (stepsOf (q (i + k))) x) (passedBy rest x) false j (omega (arith, length-passedBy (stepsOf (q (i + k))) x, length-append ps (never ∷ [])))
+          ∙ ap (λ (s : List Bool). getD s (length before + j) false) (passed-append before (rulingSteps (q (i + k)) ++ rest) x)
+          ∙ ap (λ (m : ℕ). getD (passedBy before x ++ passedBy (rulingSteps (q (i + k)) ++ rest) x) (m + j) false) (sym (length-passedBy before x))
+          ∙ getD-append-add (passedBy before x) (passedBy (rulingSteps (q (i + k)) ++ rest) x) j false
+          ∙ ap (λ (s : List Bool). getD s j false) (passed-append (rulingSteps (q (i + k))) rest x)
+          ∙ List·getD-append (passedBy (rulingSteps (q (i + k))) x) (passedBy rest x) false j (omega (arith, length-passedBy (rulingSteps (q (i + k))) x, length-append ps (never ∷ [])))
           ∙ passed-more ps never x j
           ∙ sym (or-none _ (eqb j (length ps)));
       apart = λ o z x. ap (λ (s : List Step). getD (passedBy s x) o false) whole
-          ∙ ap (λ (s : List Bool). getD s o false) (passed-append before (stepsOf (q (i + k)) ++ rest) x)
-          ∙ List·getD-append (passedBy before x) (passedBy (stepsOf (q (i + k)) ++ rest) x) false o (omega (arith, length-passedBy before x))
+          ∙ ap (λ (s : List Bool). getD s o false) (passed-append before (rulingSteps (q (i + k)) ++ rest) x)
+          ∙ List·getD-append (passedBy before x) (passedBy (rulingSteps (q (i + k)) ++ rest) x) false o (omega (arith, length-passedBy before x))
           ∙ last-apart k o z x;
     }
 
@@ -179,10 +179,10 @@ module _ (q : ℕ → Ruling) (i : ℕ) where
 
     starts : Like ps (length before) (firsts q i n) (true ∷ [])
     starts j l =
-        let w = cat-split firstOf n k h e in
+        let w = cat-split rulingStarts n k h e in
         ap (λ (s : List Bool). getD s (length before + j) false) (w .1)
-        ∙ ap (λ (m : ℕ). getD (firsts q i k ++ (firstOf (q (i + k)) ++ w .0)) (m + j) false) (sym (cat-length k))
-        ∙ getD-append-add (firsts q i k) (firstOf (q (i + k)) ++ w .0) j false
+        ∙ ap (λ (m : ℕ). getD (firsts q i k ++ (rulingStarts (q (i + k)) ++ w .0)) (m + j) false) (sym (cat-length k))
+        ∙ getD-append-add (firsts q i k) (rulingStarts (q (i + k)) ++ w .0) j false
         ∙ first-alone (length ps) (w .0) j l
 
     finds-it : (c : List (List ℕ)) → getD (states (laid q i n) (firsts q i n) c) (endAt q i k) false ≡ reaches ps c
@@ -313,11 +313,11 @@ module _ (number : List ℕ → ℕ) (q : ℕ → Ruling) (b : ℕ) (i : ℕ) wh
     pub group-skip : q (i + n) .on ≡ false → Grouped number q b i (suc n) deep every start yes noes used rows
     unfolding ruled
     group-skip o = record {
-      packed = rw (cat-off q i stepsOf n o) (g .packed);
-      used-is = rw (cat-off q i stepsOf n o) (g .used-is);
-      start-is = rw (cat-off q i firstOf n o) (g .start-is);
-      yes-low = rw (cat-off q i stepsOf n o) (g .yes-low);
-      no-low = rw (cat-off q i stepsOf n o) (g .no-low);
+      packed = rw (cat-off q i rulingSteps n o) (g .packed);
+      used-is = rw (cat-off q i rulingSteps n o) (g .used-is);
+      start-is = rw (cat-off q i rulingStarts n o) (g .start-is);
+      yes-low = rw (cat-off q i rulingSteps n o) (g .yes-low);
+      no-low = rw (cat-off q i rulingSteps n o) (g .no-low);
       says = λ m x c h a. rw o (g .says m x c h (λ k l. a k (omega arith)));
     }
 
@@ -339,7 +339,7 @@ module _ (number : List ℕ → ℕ) (q : ℕ → Ruling) (b : ℕ) (i : ℕ) wh
           (λ j. bitAt-or start (2 ^ length (laid q i n)) j
           ∙ ap₂ _||_ (ap (λ (z : ℕ). bitAt z j) (g .start-is) ∙ bit-test (firsts q i n) j) (bitAt-one (length (laid q i n)) j ∙ ap (eqb j) (sym (cat-length q i n)))
           ∙ sym (first-more (firsts q i n) (length (q (i + n) .path)) j)
-          ∙ ap (λ (s : List Bool). getD s j false) (sym (cat-on q i firstOf n o)))
+          ∙ ap (λ (s : List Bool). getD s j false) (sym (cat-on q i rulingStarts n o)))
 
       mark-low : (a : Bool) (y : ℕ) → y < 2 ^ length (laid q i n) → cond a (bitOr y (2 ^ endAt q i n)) y < 2 ^ length (laid q i (suc n))
       mark-low a y h =
@@ -383,7 +383,7 @@ module _ (number : List ℕ → ℕ) (q : ℕ → Ruling) (b : ℕ) (i : ℕ) wh
           let u = g .used-is in
           let f : used + size ≡ endAt q i n = ap₂ _+_ u es in
           record {
-            packed = rw (cat-on q i stepsOf n o, ← append-assoc) (packed-end number (laid q i n ++ q (i + n) .path) deep' every' rows' k);
+            packed = rw (cat-on q i rulingSteps n o, ← append-assoc) (packed-end number (laid q i n ++ q (i + n) .path) deep' every' rows' k);
             used-is = omega (arith, f, laid-more q i n o);
             start-is = ap (λ (z : ℕ). bitOr start (2 ^ z)) u ∙ start-more;
             yes-low = rw f (mark-low (q (i + n) .accept) yes (g .yes-low));
@@ -398,7 +398,7 @@ module _ (q : ℕ → Ruling) (i : ℕ) where
   size-step n =
       byCase (q (i + n) .on)
       (λ o. rw o (omega (arith, laid-more q i n o)))
-      (λ o. rw o (ap length (cat-off q i stepsOf n o) ∙ sym (add-zero (length (laid q i n)))))
+      (λ o. rw o (ap length (cat-off q i rulingSteps n o) ∙ sym (add-zero (length (laid q i n)))))
 
   size-mono : (n k : ℕ) → length (laid q i n) ≤ length (laid q i (n + k))
   size-mono n zero = rw (add-zero n) (omega arith)
@@ -424,7 +424,7 @@ module _ (q : ℕ → Ruling) (i : ℕ) where
   ruled-none b c (suc n) x e =
       byCase (q (i + n) .on)
       (λ o. absurd (omega (arith, laid-more q i n o)))
-      (λ o. rw o (ruled-none b c n x (sym (ap length (cat-off q i stepsOf n o)) ∙ e)))
+      (λ o. rw o (ruled-none b c n x (sym (ap length (cat-off q i rulingSteps n o)) ∙ e)))
 
   pub some-rule : (k used : ℕ) → used ≡ length (laid q i (k - i)) → 0 < used → i < k
   some-rule k used e h = byCase (ltb i k) (λ z. ltb-true i k z) (λ z. absurd (omega (arith, size-none k (ltb-false i k z))))

@@ -20,7 +20,7 @@ use Rattle.rights.specs.PolicyBytes.{nameAt, stepOf, axisOf, ruleCount, 
 use Rattle.rights.specs.How.Roles.{nameAmong}
 use Rattle.rights.specs.How.Automaton.{deeps, passedBy, stepsFor}
 use Rattle.rights.specs.How.Groups.{bitAt, never, Packed, Noted, Known}
-use Rattle.rights.specs.How.Vocabulary.{wordAt, numberIn, Sorted}
+use Rattle.rights.specs.How.Vocabulary.{listedWord, listedNumber, Sorted}
 use Rattle.rights.proofs.OwnNames.{some-at}
 use Rattle.rights.proofs.LabelLaws.{same-self}
 use Rattle.rights.proofs.PolicyWords.{step-found, rule-found, uses-label}
@@ -154,12 +154,12 @@ module _ (number : List ℕ → ℕ) (rows : List ℕ) (j : ℕ) where
       go false true false false = refl
       go false false b n = refl
 
-module _ (p ws : List ℕ) (n : ℕ) (w rows : List ℕ) (h j : ℕ) (room : h < length rows) (e : h ≡ numberIn p ws n w) (word : 0 < numberIn p ws n w) where
-  pub noted-label : Noted (numberIn p ws n) rows (set rows h (bitOr (getD rows h 0) (2 ^ j))) j (λ x. sameLabel x w)
+module _ (p ws : List ℕ) (n : ℕ) (w rows : List ℕ) (h j : ℕ) (room : h < length rows) (e : h ≡ listedNumber p ws n w) (word : 0 < listedNumber p ws n w) where
+  pub noted-label : Noted (listedNumber p ws n) rows (set rows h (bitOr (getD rows h 0) (2 ^ j))) j (λ x. sameLabel x w)
   noted-label = record {
     long = length-set rows h _;
-    row = λ x i. more (numberIn p ws n x) i
-        ∙ ap (λ (b : Bool). bitAt (getD rows (numberIn p ws n x) 0) i || (b && eqb i j)) (ap (eqb (numberIn p ws n x)) e ∙ number-decides (wordAt p ws) n x w word);
+    row = λ x i. more (listedNumber p ws n x) i
+        ∙ ap (λ (b : Bool). bitAt (getD rows (listedNumber p ws n x) 0) i || (b && eqb i j)) (ap (eqb (listedNumber p ws n x)) e ∙ number-decides (listedWord p ws) n x w word);
   }
     where
       more : (g i : ℕ) → bitAt (getD (set rows h (bitOr (getD rows h 0) (2 ^ j))) g 0) i ≡ bitAt (getD rows g 0) i || (eqb g h && eqb i j)
@@ -182,7 +182,7 @@ steps-more mine p b (suc n) i =
 
 -- the words for a subject's rights have the name of each subject for which `$` stands, and the label of each step that names one
 module _ (p own ws : List ℕ) (n : ℕ) (k : Sorted p own ws n) where
-  pub sorted-name : (i : ℕ) → i < length own → 0 < numberIn p ws n (nameAt p (getD own i 0))
+  pub sorted-name : (i : ℕ) → i < length own → 0 < listedNumber p ws n (nameAt p (getD own i 0))
   sorted-name i h =
       let x = nameAt p (getD own i 0) in
       let e : nameAmong p own x ≡ true = some-at (λ u. sameLabel x (nameAt p u)) own i h (same-self x) in

@@ -13,8 +13,8 @@ use lib.ListN.{length, getD, set, length-set}
 use lib.Seq.{getD-set-same, getD-set-other}
 use Rattle.rights.specs.Labels.{foldedLabel, sameLabel}
 use Rattle.rights.specs.Table.{recAt, label}
-use Rattle.rights.specs.PolicyBytes.{Text}
-use Rattle.rights.specs.How.Vocabulary.{order, labelOrder, wordAt, wordNumber, numberIn, isWord, Words, Inserted, Added}
+use Rattle.rights.specs.How.Places.{Text}
+use Rattle.rights.specs.How.Vocabulary.{byteOrder, labelOrder, listedWord, wordNumber, listedNumber, isListed, Words, Inserted, Added}
 use Rattle.rights.proofs.LabelLaws.{same-sym, same-left, same-right, same-order, order-flip, order-through, order-same, order-other}
 use Rattle.rights.proofs.BoolLaws.{both-ways, or-left, or-right, or-split}
 use Rattle.rights.proofs.Lists.{byCase}
@@ -140,7 +140,7 @@ module _ (f : ℕ → List ℕ) (n : ℕ) (up : Ascending f n) (x : List ℕ) wh
       (λ l. order-other (f j) x (λ d. omega (arith, d, b j (ltb-true j i l))))
       (λ l. order-other (f j) x (λ d. omega (arith, d, a j (ltb-false j i l) h))))
 
-pub order-most : (x y : List ℕ) → order x y ≤ 2
+pub order-most : (x y : List ℕ) → byteOrder x y ≤ 2
 order-most x y = omega (arith, order-flip y x)
 
 -- The places from k on moved up by one
@@ -188,18 +188,18 @@ module _ (p ws ws' : List ℕ) (n i at : ℕ) (k : Words p ws n) (room : n < 211
       (λ (z : i < j). let e : (j - 1) + 1 ≡ j = omega arith in subst C e (high (j - 1) (omega arith) (omega arith)))
       (eq-or-lt-of-le (ltb-false j i l)))
 
-  word-low : (j : ℕ) → j < i → wordAt p ws' j ≡ wordAt p ws j
+  word-low : (j : ℕ) → j < i → listedWord p ws' j ≡ listedWord p ws j
   word-low j h = ap (λ (z : ℕ). label (recAt p z)) (put .low j h)
 
-  word-here : wordAt p ws' i ≡ x
+  word-here : listedWord p ws' i ≡ x
   word-here = ap (λ (z : ℕ). label (recAt p z)) (put .here)
 
-  word-high : (j : ℕ) → i ≤ j → j < n → wordAt p ws' (j + 1) ≡ wordAt p ws j
+  word-high : (j : ℕ) → i ≤ j → j < n → listedWord p ws' (j + 1) ≡ listedWord p ws j
   word-high j h l = ap (λ (z : ℕ). label (recAt p z)) (put .high j h l)
 
-  module _ (below : (j : ℕ) → j < i → labelOrder (wordAt p ws j) x ≡ 0) (above : (j : ℕ) → i ≤ j → j < n → labelOrder (wordAt p ws j) x ≡ 2) where
+  module _ (below : (j : ℕ) → j < i → labelOrder (listedWord p ws j) x ≡ 0) (above : (j : ℕ) → i ≤ j → j < n → labelOrder (listedWord p ws j) x ≡ 2) where
     abbrev up : ℕ → ℕ → Type 0
-    up a b = labelOrder (wordAt p ws' a) (wordAt p ws' b) ≡ 0
+    up a b = labelOrder (listedWord p ws' a) (listedWord p ws' b) ≡ 0
 
     sorted-more : (a b : ℕ) → a < b → b < n + 1 → up a b
     sorted-more a b h l =
@@ -208,7 +208,7 @@ module _ (p ws ws' : List ℕ) (n i at : ℕ) (k : Words p ws n) (room : n < 211
         (λ a q. rw (word-low a q, word-here) (below a q))
         (λ j m r a q. place (λ (a : ℕ). a < j + 1 → up a (j + 1))
         (λ a s t. rw (word-low a s, word-high j m r) (k .sorted a j (omega arith) r))
-        (λ t. rw (word-here, word-high j m r) (flip-down (wordAt p ws j) x (above j m r)))
+        (λ t. rw (word-here, word-high j m r) (flip-down (listedWord p ws j) x (above j m r)))
         (λ a s v t. rw (word-high a s v, word-high j m r) (k .sorted a j (omega arith) r))
         a (omega arith) q)
         b l a h
@@ -225,35 +225,35 @@ module _ (p ws ws' : List ℕ) (n i at : ℕ) (k : Words p ws n) (room : n < 211
     }
 
     -- a label is a word now if it was one or is the new one
-    pub holds-more : (w : List ℕ) → isWord p ws' (n + 1) w ≡ isWord p ws n w || sameLabel w x
+    pub holds-more : (w : List ℕ) → isListed p ws' (n + 1) w ≡ isListed p ws n w || sameLabel w x
     holds-more w =
         both-ways _ _
-        (λ h. let j = numberIn p ws' (n + 1) w - 1 in
-        let pos = ltb-true 0 (numberIn p ws' (n + 1) w) h in
-        let o = number-word (wordAt p ws') (n + 1) j w (omega (arith, pos)) in
-        place (λ (j : ℕ). sameLabel (wordAt p ws' j) w ≡ true → isWord p ws n w || sameLabel w x ≡ true)
-        (λ j l e. or-left _ _ (lt-ltb 0 _ (number-there (wordAt p ws) n j w (omega arith) (rw (word-low j l) at e))))
-        (λ e. or-right (isWord p ws n w) _ (same-sym w x ∙ (rw word-here at e)))
-        (λ j l m e. or-left _ _ (lt-ltb 0 _ (number-there (wordAt p ws) n j w m (rw (word-high j l m) at e))))
+        (λ h. let j = listedNumber p ws' (n + 1) w - 1 in
+        let pos = ltb-true 0 (listedNumber p ws' (n + 1) w) h in
+        let o = number-word (listedWord p ws') (n + 1) j w (omega (arith, pos)) in
+        place (λ (j : ℕ). sameLabel (listedWord p ws' j) w ≡ true → isListed p ws n w || sameLabel w x ≡ true)
+        (λ j l e. or-left _ _ (lt-ltb 0 _ (number-there (listedWord p ws) n j w (omega arith) (rw (word-low j l) at e))))
+        (λ e. or-right (isListed p ws n w) _ (same-sym w x ∙ (rw word-here at e)))
+        (λ j l m e. or-left _ _ (lt-ltb 0 _ (number-there (listedWord p ws) n j w m (rw (word-high j l m) at e))))
         j (o .0) (o .1))
-        (λ h. or-split (isWord p ws n w) (sameLabel w x) h
-        (λ e. let j = numberIn p ws n w - 1 in
-        let pos = ltb-true 0 (numberIn p ws n w) e in
-        let o = number-word (wordAt p ws) n j w (omega (arith, pos)) in
+        (λ h. or-split (isListed p ws n w) (sameLabel w x) h
+        (λ e. let j = listedNumber p ws n w - 1 in
+        let pos = ltb-true 0 (listedNumber p ws n w) e in
+        let o = number-word (listedWord p ws) n j w (omega (arith, pos)) in
         byCase (ltb j i)
-        (λ l. lt-ltb 0 _ (number-there (wordAt p ws') (n + 1) j w (omega (arith, o .0)) (rw (word-low j (ltb-true j i l)) (o .1))))
-        (λ l. lt-ltb 0 _ (number-there (wordAt p ws') (n + 1) (j + 1) w (omega (arith, o .0)) (rw (word-high j (ltb-false j i l) (o .0)) (o .1)))))
-        (λ e. lt-ltb 0 _ (number-there (wordAt p ws') (n + 1) i w (omega arith) (rw word-here (same-sym x w ∙ e)))))
+        (λ l. lt-ltb 0 _ (number-there (listedWord p ws') (n + 1) j w (omega (arith, o .0)) (rw (word-low j (ltb-true j i l)) (o .1))))
+        (λ l. lt-ltb 0 _ (number-there (listedWord p ws') (n + 1) (j + 1) w (omega (arith, o .0)) (rw (word-high j (ltb-false j i l) (o .0)) (o .1)))))
+        (λ e. lt-ltb 0 _ (number-there (listedWord p ws') (n + 1) i w (omega arith) (rw word-here (same-sym x w ∙ e)))))
 
     pub added-new : Added p ws n ws' (n + 1) (λ (w : List ℕ). sameLabel w x)
     added-new = record { words = words-more; holds = holds-more }
 
 -- a word that is there already
-pub added-old : (p ws : List ℕ) (n i : ℕ) (x : List ℕ) → Words p ws n → i < n → sameLabel (wordAt p ws i) x ≡ true → Added p ws n ws n (λ (w : List ℕ). sameLabel w x)
+pub added-old : (p ws : List ℕ) (n i : ℕ) (x : List ℕ) → Words p ws n → i < n → sameLabel (listedWord p ws i) x ≡ true → Added p ws n ws n (λ (w : List ℕ). sameLabel w x)
 added-old p ws n i x k h e = record {
   words = k;
   holds = λ w. byCase (sameLabel w x)
-      (λ d. let b : isWord p ws n w ≡ true = lt-ltb 0 _ (number-there (wordAt p ws) n i w h (same-right w x d (wordAt p ws i) ∙ e)) in b ∙ sym (or-left (isWord p ws n w) (sameLabel w x) b))
+      (λ d. let b : isListed p ws n w ≡ true = lt-ltb 0 _ (number-there (listedWord p ws) n i w h (same-right w x d (listedWord p ws i) ∙ e)) in b ∙ sym (or-left (isListed p ws n w) (sameLabel w x) b))
       (λ d. rw d (sym (or-false _)));
 }
 
@@ -264,11 +264,11 @@ pub added-then : (p ws : List ℕ) (n : ℕ) (ws' : List ℕ) (n' : ℕ) (ws'' :
     → Added p ws n ws' n' f → Added p ws' n' ws'' n'' g → Added p ws n ws'' n'' h
 added-then p ws n ws' n' ws'' n'' f g h e a b = record {
   words = b .words;
-  holds = λ x. b .holds x ∙ ap (λ (v : Bool). v || g x) (a .holds x) ∙ or-assoc (isWord p ws n x) (f x) (g x) ∙ ap (λ (v : Bool). isWord p ws n x || v) (sym (e x));
+  holds = λ x. b .holds x ∙ ap (λ (v : Bool). v || g x) (a .holds x) ∙ or-assoc (isListed p ws n x) (f x) (g x) ∙ ap (λ (v : Bool). isListed p ws n x || v) (sym (e x));
 }
 
 pub added-alike : (p ws : List ℕ) (n : ℕ) (ws' : List ℕ) (n' : ℕ) (f g : List ℕ → Bool) → ((x : List ℕ) → f x ≡ g x) → Added p ws n ws' n' f → Added p ws n ws' n' g
-added-alike p ws n ws' n' f g e a = record { words = a .words; holds = λ x. a .holds x ∙ ap (λ (v : Bool). isWord p ws n x || v) (e x) }
+added-alike p ws n ws' n' f g e a = record { words = a .words; holds = λ x. a .holds x ∙ ap (λ (v : Bool). isListed p ws n x || v) (e x) }
 
 pub words-none : (p ws : List ℕ) → length ws ≡ 2112 → Words p ws 0
 words-none p ws e = record { long = e; few = omega arith; texts = λ i h. absurd (omega arith); sorted = λ i j h l. absurd (omega arith) }
@@ -282,6 +282,6 @@ halved o low high low' high' h el eh =
     (λ z. let a : low' ≡ low = rw z at el in let b : high' ≡ low + (high - low) / 2 = rw z at eh in (omega arith, omega arith, omega arith))
 
 -- of no words none is one
-pub none-word : (p ws x : List ℕ) → isWord p ws 0 x ≡ false
+pub none-word : (p ws x : List ℕ) → isListed p ws 0 x ≡ false
 unfolding wordNumber
 none-word p ws x = refl

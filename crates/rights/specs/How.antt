@@ -5,3 +5,7 @@ pub mod Automaton
 pub mod Vocabulary
 pub mod Groups
 pub mod Selection
+pub mod Places
+pub mod Numbers
+pub mod Reading
+pub mod Gathered

@@ -27,11 +27,12 @@ ghost use Rattle.rights.specs.Path.{isDescendant};
 ghost use Rattle.rights.specs.Labels.{sameLabel};
 ghost use Rattle.rights.specs.How.Roles.{nameAmong};
 ghost use Rattle.rights.specs.Table.{recAt, label};
-ghost use Rattle.rights.specs.PolicyBytes.{ruleCount, stepCount, stepOf, accepts, axisOf, Text};
+ghost use Rattle.rights.specs.PolicyBytes.{ruleCount, stepCount, stepOf, accepts, axisOf};
+ghost use Rattle.rights.specs.How.Places.{Text};
 ghost use Rattle.rights.specs.PolicyCheck.{bitOk};
 ghost use Rattle.rights.specs.Rights.{Step, stepFor, ruledSet};
 ghost use Rattle.rights.specs.How.Automaton.{value, moved, stepsFor, rulePath, chainOf, Each, Steps, Sound};
-ghost use Rattle.rights.specs.How.Vocabulary.{numberIn, Words};
+ghost use Rattle.rights.specs.How.Vocabulary.{listedNumber, Words};
 ghost use Rattle.rights.specs.How.Groups.{counts, rulingAt, laid, ruled, byRight, byFive, settled, Packed, Grouped, Ready, Numbered, Noted, Known, General};
 
 // The bit at a place.
@@ -66,9 +67,9 @@ fn is_deep(policy: &[u8], step: usize) -> bool
 
 // Sets bit j in the row of the label of the record at byte `at`.
 fn note_label(policy: &[u8], words: &[u32], n: usize, at: usize, j: usize, rows: &mut [u64])
-    requires { ⌜ Words (now policy) (now words) n × Text (now policy) at × (0 < numberIn (now policy) (now words) n (label (recAt (now policy) at)))
+    requires { ⌜ Words (now policy) (now words) n × Text (now policy) at × (0 < listedNumber (now policy) (now words) n (label (recAt (now policy) at)))
         × (j ≤ 63) × (length (now rows) ≡ 2113) ⌝ }
-    ensures { λ _. ⌜ Noted (numberIn (now (policy .entry)) (now (words .entry)) n) (now (rows .entry)) (now (rows .exit)) j
+    ensures { λ _. ⌜ Noted (listedNumber (now (policy .entry)) (now (words .entry)) n) (now (rows .entry)) (now (rows .exit)) j
         (λ (x : List ℕ). sameLabel x (label (recAt (now (policy .entry)) at))) ⌝ }
 {
     let h = number_of(policy, words, n, policy, at);
@@ -78,7 +79,7 @@ fn note_label(policy: &[u8], words: &[u32], n: usize, at: usize, j: usize, rows:
 // Sets bit j in the rows of the names of these subjects.
 fn note_names(policy: &[u8], own: &[u8], words: &[u32], n: usize, j: usize, rows: &mut [u64])
     requires { ⌜ Ready (now policy) (now own) (now words) n × (j ≤ 63) × (length (now rows) ≡ 2113) ⌝ }
-    ensures { λ _. ⌜ Noted (numberIn (now (policy .entry)) (now (words .entry)) n) (now (rows .entry)) (now (rows .exit)) j
+    ensures { λ _. ⌜ Noted (listedNumber (now (policy .entry)) (now (words .entry)) n) (now (rows .entry)) (now (rows .exit)) j
         (nameAmong (now (policy .entry)) (now (own .entry))) ⌝ }
 {
     let mut i = 0;
@@ -108,8 +109,8 @@ fn with_step(
 ) -> Marks
     requires { ⌜ Ready (now policy) (now own) (now words) n × Text (now policy) step × Known (now policy) (now words) n step × (j ≤ 63)
         × (length (now rows) ≡ 2113) ⌝ }
-    ensures { λ r. ⌜ ((ss : List Step) → length ss ≡ j → Packed (numberIn (now (policy .entry)) (now (words .entry)) n) ss (m .deep) (m .every)
-        (now (rows .entry)) → Packed (numberIn (now (policy .entry)) (now (words .entry)) n)
+    ensures { λ r. ⌜ ((ss : List Step) → length ss ≡ j → Packed (listedNumber (now (policy .entry)) (now (words .entry)) n) ss (m .deep) (m .every)
+        (now (rows .entry)) → Packed (listedNumber (now (policy .entry)) (now (words .entry)) n)
         (ss ++ (stepFor (nameAmong (now (policy .entry)) (now (own .entry))) (stepOf (recAt (now (policy .entry)) step)) ∷ [])) (r .deep) (r .every)
         (now (rows .exit))) × (length (now (rows .exit)) ≡ 2113) ⌝ }
 {
@@ -149,8 +150,8 @@ fn with_path(
 ) -> Marks
     requires { ⌜ Ready (now policy) (now own) (now words) n × Steps (now policy) b count
         × ((j : ℕ) → j < count → Known (now policy) (now words) n (b + j * 32)) × (used + count ≤ 62) × (length (now rows) ≡ 2113) ⌝ }
-    ensures { λ r. ⌜ ((ss : List Step) → length ss ≡ used → Packed (numberIn (now (policy .entry)) (now (words .entry)) n) ss (before .deep)
-        (before .every) (now (rows .entry)) → Packed (numberIn (now (policy .entry)) (now (words .entry)) n)
+    ensures { λ r. ⌜ ((ss : List Step) → length ss ≡ used → Packed (listedNumber (now (policy .entry)) (now (words .entry)) n) ss (before .deep)
+        (before .every) (now (rows .entry)) → Packed (listedNumber (now (policy .entry)) (now (words .entry)) n)
         (ss ++ stepsFor (nameAmong (now (policy .entry)) (now (own .entry))) (now (policy .entry)) b count 0) (r .deep) (r .every) (now (rows .exit)))
         × (length (now (rows .exit)) ≡ 2113) ⌝ }
 {
@@ -237,8 +238,8 @@ fn with_rule(
 ) -> Group
     requires { ⌜ Ready (now policy) (now own) (now words) n × (k < ruleCount (now policy)) × (g .used + stepCount (now policy) k ≤ 62)
         × (length (now rows) ≡ 2113) ⌝ }
-    ensures { λ r. ⌜ ((ss : List Step) → length ss ≡ g .used → Packed (numberIn (now (policy .entry)) (now (words .entry)) n) ss (g .deep) (g .every)
-        (now (rows .entry)) → Packed (numberIn (now (policy .entry)) (now (words .entry)) n)
+    ensures { λ r. ⌜ ((ss : List Step) → length ss ≡ g .used → Packed (listedNumber (now (policy .entry)) (now (words .entry)) n) ss (g .deep) (g .every)
+        (now (rows .entry)) → Packed (listedNumber (now (policy .entry)) (now (words .entry)) n)
         (ss ++ rulePath (now (policy .entry)) (now (own .entry)) k) (r .deep) (r .every) (now (rows .exit)))
         × (r .start ≡ bitOr (g .start) (2 ^ g .used)) × (r .yes ≡ cond (accepts (now (policy .entry)) k)
         (bitOr (g .yes) (2 ^ (g .used + stepCount (now (policy .entry)) k))) (g .yes))
@@ -291,9 +292,9 @@ fn with_ruling(
 ) -> Group
     requires { ⌜ Ready (now policy) (now own) (now words) n × (k < ruleCount (now policy)) × (bitOk right ≡ true)
         × (g .used + cond (counts (now policy) (now roles) right k) (suc (stepCount (now policy) k)) 0 ≤ 63) × (length (now rows) ≡ 2113) ⌝ }
-    ensures { λ r. ⌜ ((i size : ℕ) → i + size ≡ k → Grouped (numberIn (now (policy .entry)) (now (words .entry)) n)
+    ensures { λ r. ⌜ ((i size : ℕ) → i + size ≡ k → Grouped (listedNumber (now (policy .entry)) (now (words .entry)) n)
         (rulingAt (now (policy .entry)) (now (own .entry)) (now (roles .entry)) right) right i size (g .deep) (g .every) (g .start) (g .yes) (g .noes)
-        (g .used) (now (rows .entry)) → Grouped (numberIn (now (policy .entry)) (now (words .entry)) n)
+        (g .used) (now (rows .entry)) → Grouped (listedNumber (now (policy .entry)) (now (words .entry)) n)
         (rulingAt (now (policy .entry)) (now (own .entry)) (now (roles .entry)) right) right i (suc size) (r .deep) (r .every) (r .start) (r .yes)
         (r .noes) (r .used) (now (rows .exit))) × (length (now (rows .exit)) ≡ 2113) ⌝ }
 {
@@ -329,7 +330,7 @@ fn make_group(
 ) -> Group
     requires { ⌜ Ready (now policy) (now own) (now words) n × (from ≤ to) × (to ≤ ruleCount (now policy)) × (bitOk right ≡ true)
         × (length (laid (rulingAt (now policy) (now own) (now roles) right) from (to - from)) ≤ 63) × (length (now rows) ≡ 2113) ⌝ }
-    ensures { λ r. ⌜ Grouped (numberIn (now (policy .entry)) (now (words .entry)) n)
+    ensures { λ r. ⌜ Grouped (listedNumber (now (policy .entry)) (now (words .entry)) n)
         (rulingAt (now (policy .entry)) (now (own .entry)) (now (roles .entry)) right) right from (to - from) (r .deep) (r .every) (r .start) (r .yes)
         (r .noes) (r .used) (now (rows .exit)) ⌝ }
 {

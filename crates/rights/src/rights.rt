@@ -18,7 +18,8 @@ ghost use lib.Dec.{eqb};
 ghost use Rattle.rights.specs.Table.{records, count, tableOk};
 ghost use Rattle.rights.specs.PolicyCheck.{policyOk};
 ghost use Rattle.rights.specs.PolicyBytes.{policyOf, subjectCount};
-ghost use Rattle.rights.specs.Rights.{rightsOn, askedOn};
+ghost use Rattle.rights.specs.Rights.{rightsOn};
+ghost use Rattle.rights.specs.How.Groups.{askedOn};
 ghost use Rattle.rights.specs.How.Roles.{Roles, Own};
 ghost use Rattle.rights.specs.How.Automaton.{Each};
 

@@ -20,10 +20,11 @@ ghost use lib.ListN.{length, getD};
 ghost use Rattle.rights.specs.Table.{recAt, recordAt, recordsFrom, recordsOk, label};
 ghost use Rattle.rights.specs.Labels.{sameLabel};
 ghost use Rattle.rights.specs.Policy.{some, uses};
-ghost use Rattle.rights.specs.PolicyBytes.{ruleCount, stepOf, stepsFrom, storedPath, Text};
+ghost use Rattle.rights.specs.PolicyBytes.{ruleCount, stepOf, stepsFrom, storedPath};
+ghost use Rattle.rights.specs.How.Places.{Text};
 ghost use Rattle.rights.specs.How.Roles.{Subjects, nameAmong};
 ghost use Rattle.rights.specs.How.Automaton.{Each, Steps, Sound};
-ghost use Rattle.rights.specs.How.Vocabulary.{labelOrder, wordAt, numberIn, named, Words, Stands, Inserted, Added, Sorted};
+ghost use Rattle.rights.specs.How.Vocabulary.{labelOrder, listedWord, listedNumber, named, Words, Stands, Inserted, Added, Sorted};
 
 // Where a label stands among the words: at one that it is, or missing before one.
 pub enum Spot {
@@ -41,7 +42,7 @@ fn wide_place(x: u32) -> usize
 // How word i and the label of the record at byte `at` of s stand to each other.
 fn compare_word(policy: &[u8], words: &[u32], i: usize, s: &[u8], at: usize) -> u8
     requires { ⌜ (i < length (now words)) × Text (now policy) (getD (now words) i 0) × Text (now s) at ⌝ }
-    ensures { λ r. ⌜ r ≡ labelOrder (wordAt (now (policy .entry)) (now (words .entry)) i) (label (recAt (now (s .entry)) at)) ⌝ }
+    ensures { λ r. ⌜ r ≡ labelOrder (listedWord (now (policy .entry)) (now (words .entry)) i) (label (recAt (now (s .entry)) at)) ⌝ }
 {
     let word = wide_place(words[i]);
     let m = wide(policy[word + 1]);
@@ -73,7 +74,7 @@ fn lowered(o: u8, high: usize, middle: usize) -> usize
 // Where the label of the record at byte `at` of s stands among n words.
 fn search(policy: &[u8], words: &[u32], n: usize, s: &[u8], at: usize) -> Spot
     requires { ⌜ Words (now policy) (now words) n × Text (now s) at ⌝ }
-    ensures { λ r. ⌜ Stands (wordAt (now (policy .entry)) (now (words .entry))) n (label (recAt (now (s .entry)) at)) r ⌝ }
+    ensures { λ r. ⌜ Stands (listedWord (now (policy .entry)) (now (words .entry))) n (label (recAt (now (s .entry)) at)) r ⌝ }
 {
     let mut low = 0;
     let mut high = n;
@@ -92,7 +93,7 @@ fn search(policy: &[u8], words: &[u32], n: usize, s: &[u8], at: usize) -> Spot
 // The number of the label of the record at byte `at` of s: its word's place, from 1 on, or 0 for one that is no word.
 pub fn number_of(policy: &[u8], words: &[u32], n: usize, s: &[u8], at: usize) -> usize
     requires { ⌜ Words (now policy) (now words) n × Text (now s) at ⌝ }
-    ensures { λ r. ⌜ (r ≡ numberIn (now (policy .entry)) (now (words .entry)) n (label (recAt (now (s .entry)) at))) × (r ≤ n) ⌝ }
+    ensures { λ r. ⌜ (r ≡ listedNumber (now (policy .entry)) (now (words .entry)) n (label (recAt (now (s .entry)) at))) × (r ≤ n) ⌝ }
 {
     let Spot::Found(i) = search(policy, words, n, s, at) else {
         return 0;
@@ -228,7 +229,7 @@ pub fn number_nodes(
     requires { ⌜ Words (now policy) (now words) count × (4 + n * 32 ≤ length (now t)) × (recordsOk 0 0 (recordsFrom (now t) n 0) ≡ true)
         × (n ≤ length (now numbers)) ⌝ }
     ensures { λ _. ⌜ Each n (now (numbers .entry)) (now (numbers .exit))
-        (λ (i x : ℕ). numberIn (now (policy .entry)) (now (words .entry)) count (label (recordAt (now (t .entry)) i))) ⌝ }
+        (λ (i x : ℕ). listedNumber (now (policy .entry)) (now (words .entry)) count (label (recordAt (now (t .entry)) i))) ⌝ }
 {
     let mut i = 0;
     while i < n {

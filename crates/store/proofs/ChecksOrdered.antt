@@ -7,13 +7,13 @@ use native.Mathlib.Omega.{arith}
 use Rattle.forms.specs.declared.form.Form.{Form}
 use Rattle.forms.specs.declared.form.Form.the-variants as form
 use Rattle.answers.specs.AnswerChoice.{Choice}
-use Rattle.lines.specs.Refusal.{Ordered, rising, placeIn}
+use Rattle.lines.specs.Refusal.{Ordered, rising, indexIn}
 use Rattle.lines.specs.Effect.{checksIn, guarded}
 use Rattle.store.specs.Line.{isNoForm, lineChecks, workOf}
 
 pub checks-ordered : (choice : Choice) (f : Form) (s t line tree : List ℕ) (room : ℕ) → isNoForm f ≡ false
     → Ordered (checksIn room (guarded (lineChecks s t line f) (workOf choice f s t line tree)))
-unfolding rising placeIn
+unfolding rising indexIn
 checks-ordered choice (form.Subject n) s t line tree room e = refl
 checks-ordered choice (form.Isa n r) s t line tree room e = refl
 checks-ordered choice (form.Rule a b p n) s t line tree room e = refl

@@ -13,9 +13,10 @@ use mir.Facts.{toZ-pos}
 use mir.Syntax.{w64}
 use mir.Val.{toZ}
 use Rattle.rights.specs.Bytes.{all}
-use Rattle.rights.specs.Nodes.{Fits, viewOf}
+use Rattle.rights.specs.How.Numbers.{Fits, viewOf}
 use Rattle.rights.specs.Path.{Path}
-use Rattle.rights.specs.PathReader.{Got, got, bad, placeOf, pathOf}
+use Rattle.rights.specs.PathReader.{Got, got, bad, pathOf}
+use Rattle.rights.specs.How.Reading.{placeOf}
 use Rattle.rights.specs.Isa.{passesOwn}
 use Rattle.rights.specs.Policy.{policyWord}
 use Rattle.rights.specs.PolicyBytes.{policyOf, subjectCount}

@@ -8,7 +8,7 @@ use lib.IntN.{ℤ, pos, negsuc}
 use lib.ListN.{length, drop}
 use Rattle.rights.specs.Limits.{recordsMax}
 use Rattle.rights.specs.Bytes.{all}
-use Rattle.rights.specs.Nodes.{viewOf}
+use Rattle.rights.specs.How.Numbers.{viewOf}
 use Rattle.rights.specs.Path.{Path}
 use Rattle.rights.specs.PathReader.{Got, got, bad, pathOf}
 use Rattle.rights.specs.Isa.{passesOwn}

@@ -10,12 +10,13 @@ use Rattle.rights.specs.Policy.{position, read}
 use Rattle.rights.specs.Rights.{holds}
 use Rattle.rights.proofs.FiveRights.{holds-among}
 use Rattle.rights.proofs.Lists.{byCase}
-use Rattle.views.specs.Shown.{storedFrom, storedLevel, granted, atParent, shownAfter, numberOf, shownNumbers}
+use Rattle.views.specs.Shown.{storedFrom, storedLevel, granted, atParent, shownAfter}
+use Rattle.views.specs.How.Numbers.{shownNumber, shownNumbers}
 
 module _ {A : Type 0} (f g : A → ℕ) (er : (a : A) → holds read (f a) ≡ holds read (g a)) (ep : (a : A) → holds position (f a) ≡ holds position (g a)) where
   shown-after : (before : List (ℕ × Bool)) (i : ℕ) (rs : List (List ℕ)) (cs : List A)
-      → map numberOf (keep (shownAfter storedLevel granted before (storedFrom i rs (map f cs))) (storedFrom i rs (map f cs)))
-      ≡ map numberOf (keep (shownAfter storedLevel granted before (storedFrom i rs (map g cs))) (storedFrom i rs (map g cs)))
+      → map shownNumber (keep (shownAfter storedLevel granted before (storedFrom i rs (map f cs))) (storedFrom i rs (map f cs)))
+      ≡ map shownNumber (keep (shownAfter storedLevel granted before (storedFrom i rs (map g cs))) (storedFrom i rs (map g cs)))
   unfolding shownAfter storedFrom keep
   shown-after before i [] cs = refl
   shown-after before i (r ∷ rs) [] = refl

@@ -12,11 +12,7 @@ use lib.Seq.{take-nil, take-take, drop-drop, take-add, getD-take, getD-drop, len
 use Rattle.rights.specs.Table.{count, level, records, recordsFrom}
 use Rattle.views.specs.Change.{chunks, le4, join, changed}
 use Rattle.rights.specs.Marks.{marksOf}
-
-pub drop-take : (n m : ℕ) (l : List ℕ) → drop n (take (n + m) l) ≡ take m (drop n l)
-drop-take zero m l = rw zero-add
-drop-take (suc n) m [] = rw (take-nil, take-nil)
-drop-take (suc n) m (x ∷ l) = rw suc-add (drop-take n m l)
+use Rattle.rights.proofs.Texts.{drop-take}
 
 pub times : (w : ℕ) → suc w * 32 ≡ 32 + w * 32
 times w = omega arith

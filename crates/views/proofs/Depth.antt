@@ -13,7 +13,8 @@ use Rattle.rights.proofs.Lists.{byCase}
 use Rattle.views.specs.declared.insert.Place.{Place}
 use Rattle.views.specs.Change.{chunks, lower, placed, deepest, tooDeep, hasRoom}
 use Rattle.rights.specs.Marks.{marksOf, markCount}
-use Rattle.views.specs.How.Pass.{AtDone, Shallow, Under, Fixed}
+use Rattle.views.specs.How.Pass.{AtDone, Shallow, Fixed}
+use Rattle.views.specs.Nodes.{Under}
 use Rattle.views.proofs.Chunks.{chunks-cons, level-first, marks-drop, all-chunks}
 use Rattle.views.proofs.TableFacts.{facts}
 use Rattle.views.proofs.Whole.{placed-length, product-bound}

@@ -8,14 +8,15 @@ use borrow.Author.Tests.{eq-eqb, ne-eqb}
 use lib.ListN.{length, take, drop, getD}
 use Rattle.rights.specs.Marks.{markCount, eachFrom, keep}
 use Rattle.rights.specs.Table.{recordsFrom, records, count, tableOk}
-use Rattle.views.specs.Shown.{Stored, storedFrom, stored, storedLevel, granted, shownAfter, shown, numberOf, shownNumbers}
+use Rattle.views.specs.Shown.{Stored, storedFrom, stored, storedLevel, granted, shownAfter, shown}
+use Rattle.views.specs.Nodes.{All}
+use Rattle.views.specs.How.Numbers.{shownNumber, shownNumbers, isNext, shownByNumbers, byNumbers}
 use Rattle.views.specs.Done.{does, askedOf, doneMarks, inTable}
-use Rattle.views.specs.How.Numbers.{isNext, shownByNumbers, byNumbers}
 use Rattle.views.specs.declared.done.Change.{Change}
 use Rattle.rights.proofs.MarkLaws.{each-at, each-length}
 use Rattle.views.proofs.TableFacts.{facts}
 use Rattle.views.proofs.TableKept.{length-records}
-use Rattle.views.proofs.ViewLaws.{Every, every-keep, every-map, number-mod}
+use Rattle.views.proofs.ViewLaws.{all-keep, all-map, number-mod}
 
 -- Record i is done exactly if the change does a node with its level, rights and label, shown and selected as it is, under its parent.
 pub done-at : (c : Change) (word : List ℕ → Bool) (t ss : List ℕ) (bs ms : List Bool) (i : ℕ) → i < count t
@@ -57,7 +58,7 @@ count-in-table (false ∷ bs) ms h = count-in-table bs ms h
 
 -- By numbers
 
-not-next : (xs : List ℕ) (i : ℕ) → Every (λ x. i < x % 16384) xs → isNext xs i ≡ false
+not-next : (xs : List ℕ) (i : ℕ) → All (λ x. i < x % 16384) xs → isNext xs i ≡ false
 not-next [] i p = refl
 not-next (x ∷ xs) i p = ne-eqb (x % 16384) i (λ e. omega (arith, p .0))
 
@@ -65,7 +66,7 @@ not-next (x ∷ xs) i p = ne-eqb (x % 16384) i (λ e. omega (arith, p .0))
 abbrev From : ℕ → Stored → Type 0
 From j x = (j ≤ x .number) × (x .number < 16384)
 
-from : (i j : ℕ) (rs : List (List ℕ)) (ss : List ℕ) → j ≤ i → i + length rs ≤ 16384 → Every (From j) (storedFrom i rs ss)
+from : (i j : ℕ) (rs : List (List ℕ)) (ss : List ℕ) → j ≤ i → i + length rs ≤ 16384 → All (From j) (storedFrom i rs ss)
 unfolding storedFrom
 from i j [] ss h k = tt
 from i j (r ∷ rs) [] h k = tt
@@ -73,15 +74,15 @@ from i j (r ∷ rs) (s ∷ ss) h k = ((h, omega arith), from (suc i) j rs ss (om
 
 -- none of the nodes behind node i is node i
 later-numbers : (bs : List Bool) (i : ℕ) (rs : List (List ℕ)) (ss : List ℕ) → suc i + length rs ≤ 16384
-    → isNext (map numberOf (keep bs (storedFrom (suc i) rs ss))) i ≡ false
+    → isNext (map shownNumber (keep bs (storedFrom (suc i) rs ss))) i ≡ false
 later-numbers bs i rs ss h =
-    not-next (map numberOf (keep bs (storedFrom (suc i) rs ss))) i
-    (every-map (From (suc i)) (λ x. i < x % 16384) numberOf (λ x p. rw (number-mod x (p .1)) (p .0))
+    not-next (map shownNumber (keep bs (storedFrom (suc i) rs ss))) i
+    (all-map (From (suc i)) (λ x. i < x % 16384) shownNumber (λ x p. rw (number-mod x (p .1)) (p .0))
     (keep bs (storedFrom (suc i) rs ss))
-    (every-keep (From (suc i)) bs (storedFrom (suc i) rs ss) (from (suc i) (suc i) rs ss (omega arith) (omega arith))))
+    (all-keep (From (suc i)) bs (storedFrom (suc i) rs ss) (from (suc i) (suc i) rs ss (omega arith) (omega arith))))
 
 by-numbers : (bs ms : List Bool) (i : ℕ) (rs : List (List ℕ)) (ss : List ℕ) → length rs ≤ length ss → i + length rs ≤ 16384 → length bs ≡ length rs
-    → byNumbers (map numberOf (keep bs (storedFrom i rs ss))) ms (length rs) i ≡ inTable bs ms
+    → byNumbers (map shownNumber (keep bs (storedFrom i rs ss))) ms (length rs) i ≡ inTable bs ms
 unfolding byNumbers inTable keep storedFrom
 by-numbers [] ms i [] ss a b e = refl
 by-numbers [] ms i (r ∷ rs) ss a b e = absurd (omega (arith, e))
@@ -94,7 +95,7 @@ by-numbers (false ∷ bs) ms i (r ∷ rs) (s ∷ ss) a b e =
     rw (later-numbers bs i rs ss (omega arith)) (ap (λ l. false ∷ l) (by-numbers bs ms (suc i) rs ss (omega arith) (omega arith) (omega (arith, e))))
 
 shown-by-numbers : (bs : List Bool) (i : ℕ) (rs : List (List ℕ)) (ss : List ℕ) → length rs ≤ length ss → i + length rs ≤ 16384 → length bs ≡ length rs
-    → shownByNumbers (map numberOf (keep bs (storedFrom i rs ss))) (length rs) i ≡ bs
+    → shownByNumbers (map shownNumber (keep bs (storedFrom i rs ss))) (length rs) i ≡ bs
 unfolding shownByNumbers keep storedFrom
 shown-by-numbers [] i [] ss a b e = refl
 shown-by-numbers [] i (r ∷ rs) ss a b e = absurd (omega (arith, e))

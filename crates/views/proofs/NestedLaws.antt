@@ -9,8 +9,8 @@ use lib.Dec.{ltb}
 use borrow.Author.Tests.{ltb-true, ltb-false, lt-ltb}
 use Rattle.rights.proofs.Lists.{byCase}
 use Rattle.views.specs.Change.{dropBelow, putBehind, remove, insertBehind, insertInFront, rename}
-use Rattle.views.specs.How.Pass.{Above, Front, AtDone}
-use Rattle.views.specs.Nodes.{All, Nested}
+use Rattle.views.specs.How.Pass.{AtDone}
+use Rattle.views.specs.Nodes.{Above, Front, All, Nested}
 
 module _ {E : Type 0} (lev : E → ℕ) where
   -- the changes keep the levels good

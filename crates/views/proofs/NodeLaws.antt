@@ -13,8 +13,7 @@ use borrow.Author.Tests.{ltb-true, ltb-false, lt-ltb}
 use Rattle.rights.specs.Marks.{eachFrom, keep}
 use Rattle.rights.proofs.Lists.{byCase}
 use Rattle.views.specs.Change.{dropBelow, putBehind, remove, insertBehind, insertInFront, rename}
-use Rattle.views.specs.How.Pass.{Above, Front}
-use Rattle.views.specs.Nodes.{isBelow, isAncestor, goes, Goes, only, Behind}
+use Rattle.views.specs.Nodes.{Above, Front, isBelow, isAncestor, goes, Goes, only, StandsBehind}
 use Rattle.views.proofs.Removal.{pass-below, pass-done}
 use Rattle.views.proofs.Waiting.{skip-one, above-less}
 
@@ -166,7 +165,7 @@ module _ {E : Type 0} (lev : E → ℕ) where
 
   -- another insertion, at a node before, leaves the tree where it stands
   put-keeps : (l : ℕ) (w : List E) (x : E) (v : List E) → Front lev (suc l) w → Above lev (lev x) v → (p d q : List E) → Above lev (suc (lev x)) d → Front lev (lev x) q
-      → Behind lev x v (putBehind lev l w (p ++ (x ∷ (d ++ (v ++ q)))))
+      → StandsBehind lev x v (putBehind lev l w (p ++ (x ∷ (d ++ (v ++ q)))))
   unfolding putBehind
   put-keeps l w x v f a [] d q b g = byCase (ltb l (lev x))
       (λ e. let h : l < lev x = ltb-true l (lev x) e in
@@ -184,8 +183,8 @@ module _ {E : Type 0} (lev : E → ℕ) where
       record { before = c ∷ k .before; below = k .below; after = k .after; is = rw e (ap (λ (r : List E). c ∷ r) (k .is)); deeper = k .deeper; next = k .next })
       (λ e. record { before = w ++ (c ∷ p); below = d; after = q; is = rw e (sym (append-assoc w (c ∷ p) (x ∷ (d ++ (v ++ q))))); deeper = b; next = g })
 
-  -- Behind a node and all below it.
-  splits : (x : E) (l : ℕ) (y u : List E) → l ≡ lev x → Behind lev x y (x ∷ putBehind lev l y u)
+  -- StandsBehind a node and all below it.
+  splits : (x : E) (l : ℕ) (y u : List E) → l ≡ lev x → StandsBehind lev x y (x ∷ putBehind lev l y u)
   unfolding putBehind
   splits x l y [] h = record { before = []; below = []; after = []; is = ap (λ (r : List E). x ∷ r) (sym (append-nil y)); deeper = tt; next = tt }
   splits x l y (z ∷ u) h = byCase (ltb l (lev z))
@@ -203,7 +202,7 @@ module _ {E : Type 0} (lev : E → ℕ) where
   -- not below the node. So an appended tree, whose root is one level deeper, is the last child; a tree put after the node is its next sibling.
   module _ (y : E → List E) (above : (x : E) → Above lev (lev x) (y x)) (front : (x : E) → Front lev (suc (lev x)) (y x)) where
     pub lands-behind : (a : List E) (x : E) (b : List E) (ma mb : List Bool) → length ma ≡ length a
-        → Behind lev x (y x) (insertBehind lev y (ma ++ (true ∷ mb)) (a ++ (x ∷ b)))
+        → StandsBehind lev x (y x) (insertBehind lev y (ma ++ (true ∷ mb)) (a ++ (x ∷ b)))
     unfolding insertBehind
     lands-behind [] x b [] mb e = splits x (lev x) (y x) (insertBehind lev y mb b) refl
     lands-behind [] x b (m ∷ ma) mb e = absurd (omega (arith, e))

@@ -14,7 +14,8 @@ use Rattle.views.proofs.Copies.{drop-more}
 use Rattle.rights.specs.Table.{level}
 use Rattle.views.specs.Change.{chunks, raised, raise}
 use Rattle.rights.specs.Marks.{marksOf}
-use Rattle.views.specs.How.Pass.{Above, Under, front, AtDone, treeAt, stack, rest}
+use Rattle.views.specs.How.Pass.{front, AtDone, treeAt, stack, rest}
+use Rattle.views.specs.Nodes.{Above, Under}
 
 pub length-raised : (k : ℕ) (r : List ℕ) → 0 < length r → length (raised k r) ≡ length r
 length-raised k [] h = absurd (omega arith)

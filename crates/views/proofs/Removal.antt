@@ -11,7 +11,8 @@ use Rattle.rights.specs.Table.{level}
 use Rattle.rights.proofs.Lists.{byCase}
 use Rattle.views.specs.Change.{dropBelow, remove, chunks}
 use Rattle.rights.specs.Marks.{marksOf}
-use Rattle.views.specs.How.Pass.{going, Under}
+use Rattle.views.specs.How.Pass.{going}
+use Rattle.views.specs.Nodes.{Under}
 use Rattle.views.proofs.Chunks.{chunks-cons, level-first, marks-drop, one-more}
 
 module _ {E : Type 0} (lev : E → ℕ) where

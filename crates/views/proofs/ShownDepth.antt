@@ -9,7 +9,8 @@ use lib.Dec.{leb, ltb}
 use lib.ListN.{length, getD}
 use Rattle.rights.proofs.Lists.{byCase}
 use Rattle.rights.proofs.Facts.{both}
-use Rattle.views.specs.Shown.{atParent, nearestFirst, depthAfter, isShown, shownAfter, shownBy, isShownAt, shownFrom}
+use Rattle.views.specs.Shown.{atParent, nearestFirst, isShown, shownAfter, shownBy}
+use Rattle.views.specs.How.Numbers.{depthAfter, isShownAt, shownFrom}
 
 -- before tells of every level up to h what the depth d tells
 abbrev Tells : ℕ → ℕ → List (ℕ × Bool) → Type 0

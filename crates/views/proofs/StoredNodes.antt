@@ -12,10 +12,11 @@ use lib.Seq.{drop-cons}
 use Rattle.rights.specs.Marks.{keep}
 use Rattle.rights.specs.Table.{recordAt, recordsFrom, records, level, recordOk, recordsOk, tableOk, count}
 use Rattle.rights.proofs.Records.{records-step, records-end}
-use Rattle.rights.specs.PolicyBytes.{Text}
+use Rattle.rights.specs.How.Places.{Text}
 use Rattle.rights.proofs.Texts.{byte-at}
-use Rattle.rights.proofs.Facts.{Sound, all-sound, both, record-levels}
-use Rattle.views.specs.Shown.{Stored, storedFrom, stored, storedLevel, grants, granted, depthAfter, isShownAt, shown, shownFrom, numberOf, shownNumbers, numbersFrom}
+use Rattle.rights.proofs.Facts.{RecordSound, all-sound, both, record-levels}
+use Rattle.views.specs.Shown.{Stored, storedFrom, stored, storedLevel, grants, granted, shown}
+use Rattle.views.specs.How.Numbers.{depthAfter, isShownAt, shownFrom, shownNumber, shownNumbers, numbersFrom}
 use Rattle.views.proofs.Fill.{put-take, put-drop, put-length, put-next, filled, filled-length}
 use Rattle.views.proofs.Chunks.{level-first}
 use Rattle.views.proofs.TableFacts.{facts}
@@ -30,7 +31,7 @@ record-text t ok i h =
     let g = facts t ok in
     let f = all-sound 0 0 t (count t) 0 i (g .nested) h in
     let k : 0 + i ≡ i = omega arith in
-    let s : Sound (recordAt t i) = rw k at f in
+    let s : RecordSound (recordAt t i) = rw k at f in
     let b = byte-at t (4 + i * 32) 1 (omega arith) in
     let a = level-at t i in
     (record { room = omega (arith, g .size); some = omega (arith, s .some-label); short = omega (arith, s .short-label) }, omega (arith, s .low-level))
@@ -72,12 +73,12 @@ map-cond f true x xs = refl
 map-cond f false x xs = refl
 
 module _ (t ss : List ℕ) (n i d : ℕ) where
-  pub numbers-step : (b : Bool) (m e : ℕ) → i < n → i < length ss → b ≡ isShownAt storedLevel granted d (storedAt t ss i) → m ≡ numberOf (storedAt t ss i)
+  pub numbers-step : (b : Bool) (m e : ℕ) → i < n → i < length ss → b ≡ isShownAt storedLevel granted d (storedAt t ss i) → m ≡ shownNumber (storedAt t ss i)
       → e ≡ depthAfter d (level (recordAt t i)) b
       → numbersFrom d (rest t ss n i) ≡ cond b (m ∷ numbersFrom e (rest t ss n (i + 1))) (numbersFrom e (rest t ss n (i + 1)))
   unfolding shownFrom keep
   numbers-step b m e h k p q r = rw (rest-step t ss n i h k, r, q, p)
-      (map-cond numberOf (isShownAt storedLevel granted d (storedAt t ss i)) (storedAt t ss i)
+      (map-cond shownNumber (isShownAt storedLevel granted d (storedAt t ss i)) (storedAt t ss i)
       (keep (shownFrom storedLevel granted (depthAfter d (level (recordAt t i)) (isShownAt storedLevel granted d (storedAt t ss i))) (rest t ss n (i + 1))) (rest t ss n (i + 1))))
 
   pub numbers-end : n ≤ i → numbersFrom d (rest t ss n i) ≡ []
@@ -96,7 +97,7 @@ module _ (t ss s₀ : List ℕ) (n : ℕ) where
 
   pub showing-more : (s s' : List ℕ) (d k i k' e m : ℕ) (b : Bool) → i < n → n ≤ length ss → n ≤ length s₀ → Showing s d k i
       → b ≡ (grants (getD ss i 0) && leb (getD t (4 + i * 32) 0) d)
-      → m ≡ numberOf (storedAt t ss i)
+      → m ≡ shownNumber (storedAt t ss i)
       → k' ≡ cond b (k + 1) k
       → s' ≡ cond b (set s k m) s
       → e ≡ depthAfter d (getD t (4 + i * 32) 0) b

@@ -11,7 +11,7 @@ use Rattle.rights.specs.Bytes.{all, isZero}
 use Rattle.rights.specs.Table.{recordOk, recordsOk, level, tableOk, count, capacity, records}
 use Rattle.rights.proofs.Facts.{both, sound}
 use Rattle.views.specs.Change.{chunks, le4}
-use Rattle.views.specs.How.Pass.{Under}
+use Rattle.views.specs.Nodes.{Under}
 use Rattle.views.proofs.Chunks.{all-chunks}
 
 pub under-ok : (low high : ℕ) (rs : List (List ℕ)) → recordsOk low high rs ≡ true → Under level 12 rs

@@ -19,8 +19,8 @@ use Rattle.views.specs.declared.insert.Place.{Place}
 use Rattle.views.specs.declared.insert.Place.the-variants.{Append, After, Before}
 use Rattle.views.specs.Change.{dropBelow, putBehind, remove, insertBehind, insertInFront, rename, chunks, raise, lower, placed, removed, relabel, renamed, join, changed, deepest, tooDeep, hasRoom}
 use Rattle.rights.specs.Marks.{markCount}
-use Rattle.views.specs.How.Pass.{Above, Front, AtDone, Shallow}
-use Rattle.views.specs.Nodes.{All, Nested, TreeOk, LabelOk}
+use Rattle.views.specs.How.Pass.{AtDone, Shallow}
+use Rattle.views.specs.Nodes.{Above, Front, All, Nested, TreeOk, LabelOk}
 use Rattle.views.proofs.Chunks.{all-chunks, length-chunks, level-first}
 use Rattle.views.proofs.TableFacts.{facts}
 use Rattle.views.proofs.Waiting.{length-rename}

@@ -7,15 +7,15 @@ use native.Mathlib.Omega.{arith}
 use lib.ListN.{length, getD, take, drop, set, length-append}
 use lib.Dec.{eqb, ltb}
 use borrow.Author.Tests.{eq-eqb, ne-eqb, leb-true, leb-false, ltb-true, ltb-false}
-use Rattle.views.proofs.Chunks.{length-chunks}
+use Rattle.views.proofs.Chunks.{length-chunks, marks-drop, level-first, one-more}
 use Rattle.views.proofs.Waiting.{due-first, due-take, length-due, insertBehind-longer, insertInFront-longer, not-due, falls-length}
 use Rattle.views.proofs.RecordBytes.{length-raise, length-treeAt, above-raise, rest-same, rest-cons, rest-none, rest-front, rest-low, rest-done, stack-pop, stack-push, length-stack}
-use Rattle.views.proofs.Chunks.{marks-drop, level-first, one-more}
 use Rattle.rights.specs.Table.{level}
 use Rattle.rights.proofs.Lists.{byCase}
 use Rattle.views.specs.Change.{insertInFront, chunks, raise}
 use Rattle.rights.specs.Marks.{marksOf}
-use Rattle.views.specs.How.Pass.{Below, Falls, Every, isDue, front, due, AtDone, treeAt, Shallow, behind, inFront, stack, rest, passing, passingFront, Fixed, Between}
+use Rattle.views.specs.How.Pass.{Below, Falls, isDue, front, due, AtDone, treeAt, Shallow, behind, inFront, stack, rest, passing, passingFront, Fixed, Between}
+use Rattle.views.specs.Nodes.{All}
 
 length-rest : (n gap i : ℕ) (t : List ℕ) → length (rest n gap i t) ≡ n - i
 length-rest n gap i t = length-chunks (n - i) _
@@ -142,7 +142,7 @@ module _ (n gap up m : ℕ) (tree ms : List ℕ) where
         take-between b e =
             let lo = rest-low n gap i t inside (b .low) in
             let dn = rest-done n gap i t inside (Shallow up m tree) ms (omega arith) (b .done) in
-            let z = byCase {C = Below 12 (stack d′ st′) × Falls (stack d′ st′) × Every (Shallow up m tree) (stack d′ st′)} (not (eqb (getD ms i 0) 0))
+            let z = byCase {C = Below 12 (stack d′ st′) × Falls (stack d′ st′) × All (Shallow up m tree) (stack d′ st′)} (not (eqb (getD ms i 0) 0))
             (λ q. let f = rw q at es in rw f ((lo .0, b .below), (under, b .falls), (dn .0 q, b .fits)))
             (λ q. let f = rw q at es in rw f (b .below, b .falls, b .fits)) in
             rw ei (record { place = omega arith; below = z .0; falls = z .1; fits = z .2; low = rw rest-p (lo .1); done = rw rest-p (dn .1); room = e ∙ b .room })

@@ -12,86 +12,85 @@ use Rattle.rights.specs.Marks.{keep}
 use Rattle.rights.specs.Labels.{restricted}
 use Rattle.rights.specs.Table.{recordAt, recordsFrom, records, level, label, recordOk, recordsOk, tableOk, count}
 use Rattle.rights.specs.Policy.{read}
-use Rattle.rights.specs.PolicyBytes.{Text}
+use Rattle.rights.specs.How.Places.{Text}
 use Rattle.rights.specs.Rights.{holds}
-use Rattle.rights.specs.Nodes.{Node, node, Nodes, levelOf, levelAt, Nested, recordPlace, seen, viewOf, Fits}
+use Rattle.rights.specs.Nodes.{Node, node, Nodes, levelOf, levelAt, TreeShaped}
+use Rattle.rights.specs.How.Numbers.{recordPlace, seen, viewOf, Fits}
 use Rattle.rights.proofs.Facts.{both, record-levels}
 use Rattle.rights.proofs.Lists.{byCase}
-use Rattle.views.specs.Shown.{Stored, storedFrom, stored, storedLevel, granted, isShownAt, shownFrom, shown, carried, numberOf, view, shownNumbers}
+use Rattle.views.specs.Shown.{Stored, storedFrom, stored, storedLevel, granted, shown, carried, view}
+use Rattle.views.specs.Nodes.{All}
+use Rattle.views.specs.How.Numbers.{isShownAt, shownFrom, shownNumber, shownNumbers}
 use Rattle.views.proofs.StoredNodes.{record-text, table-by-depth}
 use Rattle.views.proofs.TableFacts.{facts}
 
 -- Numbers of records
 
-pub number-mod : (x : Stored) → x .number < 16384 → numberOf x % 16384 ≡ x .number
+pub number-mod : (x : Stored) → x .number < 16384 → shownNumber x % 16384 ≡ x .number
 number-mod x h =
     byCase (holds read (x .rights))
     (λ e. rw e (mod-eq-of-lt h))
     (λ e. rw e (add-mod-right (x .number) 16384 ∙ mod-eq-of-lt h))
 
-number-hidden : (x : Stored) → x .number < 16384 → cond (leb 16384 (numberOf x)) restricted (label (x .bytes)) ≡ carried x
+number-hidden : (x : Stored) → x .number < 16384 → cond (leb 16384 (shownNumber x)) restricted (label (x .bytes)) ≡ carried x
 number-hidden x h =
     byCase (holds read (x .rights))
     (λ e. rw (e, lt-leb 16384 (x .number) h))
     (λ e. rw (e, le-leb 16384 (x .number + 16384) (omega arith)))
 
 -- a shown node by its number is what the view has of it
-seen-number : (t : List ℕ) (x : Stored) → x .number < 16384 → x .bytes ≡ recordAt t (x .number) → seen t (numberOf x) ≡ node (storedLevel x) (carried x)
+seen-number : (t : List ℕ) (x : Stored) → x .number < 16384 → x .bytes ≡ recordAt t (x .number) → seen t (shownNumber x) ≡ node (storedLevel x) (carried x)
 unfolding seen recordPlace
 seen-number t x h e = rw (number-mod x h, ← e, number-hidden x h)
 
 -- a test that passes at every element
-abbrev pub Every : {A : Type 0} → (A → Type 0) → List A → Type 0
-Every P [] = Unit {0}
-Every P (x ∷ xs) = P x × Every P xs
-
-pub every-keep : {A : Type 0} (P : A → Type 0) (bs : List Bool) (xs : List A) → Every P xs → Every P (keep bs xs)
+pub all-keep : {A : Type 0} (P : A → Type 0) (bs : List Bool) (xs : List A) → All P xs → All P (keep bs xs)
 unfolding keep
-every-keep P [] xs p = tt
-every-keep P (b ∷ bs) [] p = tt
-every-keep P (true ∷ bs) (x ∷ xs) p = (p .0, every-keep P bs xs (p .1))
-every-keep P (false ∷ bs) (x ∷ xs) p = every-keep P bs xs (p .1)
+all-keep P [] xs p = tt
+all-keep P (b ∷ bs) [] p = tt
+all-keep P (true ∷ bs) (x ∷ xs) p = (p .0, all-keep P bs xs (p .1))
+all-keep P (false ∷ bs) (x ∷ xs) p = all-keep P bs xs (p .1)
 
-pub every-map : {A B : Type 0} (P : A → Type 0) (Q : B → Type 0) (f : A → B) → ((x : A) → P x → Q (f x)) → (xs : List A) → Every P xs → Every Q (map f xs)
-every-map P Q f g [] p = tt
-every-map P Q f g (x ∷ xs) p = (g x (p .0), every-map P Q f g xs (p .1))
+pub all-map : {A B : Type 0} (P : A → Type 0) (Q : B → Type 0) (f : A → B) → ((x : A) → P x → Q (f x)) → (xs : List A) → All P xs → All Q (map f xs)
+all-map P Q f g [] p = tt
+all-map P Q f g (x ∷ xs) p = (g x (p .0), all-map P Q f g xs (p .1))
 
-map-same : {A B C : Type 0} (P : A → Type 0) (f : B → C) (g : A → B) (h : A → C) → ((x : A) → P x → f (g x) ≡ h x) → (xs : List A) → Every P xs → map f (map g xs) ≡ map h xs
+map-same : {A B C : Type 0} (P : A → Type 0) (f : B → C) (g : A → B) (h : A → C) → ((x : A) → P x → f (g x) ≡ h x) → (xs : List A) → All P xs → map f (map g xs) ≡ map h xs
 map-same P f g h e [] p = refl
 map-same P f g h e (x ∷ xs) p = ap₂ _∷_ (e x (p .0)) (map-same P f g h e xs (p .1))
 
-pub every-at : (P : ℕ → Type 0) (xs : List ℕ) (i : ℕ) → Every P xs → i < length xs → P (getD xs i 0)
-every-at P [] i p h = absurd (omega arith)
-every-at P (x ∷ xs) zero p h = p .0
-every-at P (x ∷ xs) (suc i) p h = every-at P xs i (p .1) (omega arith)
+pub all-at : (P : ℕ → Type 0) (xs : List ℕ) (i : ℕ) → All P xs → i < length xs → P (getD xs i 0)
+all-at P [] i p h = absurd (omega arith)
+all-at P (x ∷ xs) zero p h = p .0
+all-at P (x ∷ xs) (suc i) p h = all-at P xs i (p .1) (omega arith)
 
 -- a node of the table t, whose records are n
 abbrev Own : List ℕ → ℕ → Stored → Type 0
 Own t n x = (x .number < n) × (x .bytes ≡ recordAt t (x .number))
 
-own : (t : List ℕ) (n i m : ℕ) (ss : List ℕ) → i + n ≤ m → Every (Own t m) (storedFrom i (recordsFrom t n i) ss)
+own : (t : List ℕ) (n i m : ℕ) (ss : List ℕ) → i + n ≤ m → All (Own t m) (storedFrom i (recordsFrom t n i) ss)
 unfolding storedFrom recordsFrom
 own t zero i m ss h = tt
 own t (suc n) i m [] h = tt
 own t (suc n) i m (s ∷ ss) h = ((omega arith, refl), own t n (suc i) m ss (omega arith))
 
 module _ (t ss : List ℕ) (ok : tableOk t ≡ true) where
-  shown-own : Every (Own t (count t)) (keep (shown (stored t ss)) (stored t ss))
-  shown-own = every-keep (Own t (count t)) (shown (stored t ss)) (stored t ss) (own t (count t) 0 (count t) ss (omega arith))
+  shown-own : All (Own t (count t)) (keep (shown (stored t ss)) (stored t ss))
+  shown-own = all-keep (Own t (count t)) (shown (stored t ss)) (stored t ss) (own t (count t) 0 (count t) ss (omega arith))
 
   -- the numbers give the view
   pub view-by-numbers : viewOf t (shownNumbers (stored t ss)) ≡ view (stored t ss)
   unfolding viewOf
   view-by-numbers =
-      map-same (Own t (count t)) (seen t) numberOf (λ x. node (storedLevel x) (carried x))
+      map-same (Own t (count t)) (seen t) shownNumber (λ x. node (storedLevel x) (carried x))
       (λ x p. let g = facts t ok in seen-number t x (omega (arith, g .few, p .0)) (p .1))
       (keep (shown (stored t ss)) (stored t ss)) shown-own
 
   -- every number is that of a record
   pub numbers-below : (j : ℕ) → j < length (shownNumbers (stored t ss)) → getD (shownNumbers (stored t ss)) j 0 % 16384 < count t
   numbers-below j h =
-      every-at (λ m. m % 16384 < count t) (shownNumbers (stored t ss)) j
-      (every-map (Own t (count t)) (λ m. m % 16384 < count t) numberOf
+      all-at (λ m. m % 16384 < count t) (shownNumbers (stored t ss)) j
+      (all-map (Own t (count t)) (λ m. m % 16384 < count t) shownNumber
       (λ x p. let g = facts t ok in rw (number-mod x (omega (arith, g .few, p .0))) (p .0))
       (keep (shown (stored t ss)) (stored t ss)) shown-own)
       h
@@ -115,7 +114,7 @@ linked-steps x [] k i h = absurd (omega arith)
 linked-steps x (y ∷ ys) k zero h = k .1
 linked-steps x (y ∷ ys) k (suc i) h = linked-steps y ys (k .2) i (omega arith)
 
-linked-nested : (x : Node) (xs : Nodes) → levelOf x ≡ 0 → Linked (levelOf x) xs → Nested (x ∷ xs)
+linked-nested : (x : Node) (xs : Nodes) → levelOf x ≡ 0 → Linked (levelOf x) xs → TreeShaped (x ∷ xs)
 unfolding levelAt
 linked-nested x xs e k = record { root = e; one = one; steps = linked-steps x xs k }
   where
@@ -123,7 +122,7 @@ linked-nested x xs e k = record { root = e; one = one; steps = linked-steps x xs
     one zero a b = absurd (omega arith)
     one (suc i) a b = linked-one (levelOf x) xs k i (omega arith)
 
-nothing-nested : Nested []
+nothing-nested : TreeShaped []
 unfolding levelAt
 nothing-nested = record { root = refl; one = λ i a b. absurd (omega arith); steps = λ i a. absurd (omega arith) }
 
@@ -163,7 +162,7 @@ hidden-root high i (r ∷ rs) (s ∷ ss) e =
     (λ q. let k : level r ≤ 0 = leb-true _ _ (both (granted x) (leb (level r) 0) q .1) in absurd (omega arith))
     (λ q. rw (q, z) (hidden-root (level r + 1) (suc i) rs ss (w .2)))
 
-nested-from : (i : ℕ) (rs : List (List ℕ)) (ss : List ℕ) → recordsOk 0 0 rs ≡ true → Nested (viewFrom 0 (storedFrom i rs ss))
+nested-from : (i : ℕ) (rs : List (List ℕ)) (ss : List ℕ) → recordsOk 0 0 rs ≡ true → TreeShaped (viewFrom 0 (storedFrom i rs ss))
 unfolding storedFrom shownFrom keep
 nested-from i [] ss e = nothing-nested
 nested-from i (r ∷ rs) [] e = nothing-nested
@@ -176,7 +175,7 @@ nested-from i (r ∷ rs) (s ∷ ss) e =
     (λ q. rw (q, z, hidden-root (level r + 1) (suc i) rs ss (w .2)) nothing-nested)
 
 -- the view of a table is a tree, or nothing
-pub view-nested : (t ss : List ℕ) → tableOk t ≡ true → Nested (view (stored t ss))
+pub view-nested : (t ss : List ℕ) → tableOk t ≡ true → TreeShaped (view (stored t ss))
 view-nested t ss ok = rw (table-by-depth t ss ok) (nested-from 0 (records t) ss (facts t ok .nested))
 
 -- What the passes of a selection ask of the numbers
@@ -200,7 +199,7 @@ module _ (t ss : List ℕ) (ok : tableOk t ≡ true) where
   shown-few =
       omega (
         arith,
-        length-map (keep (shown (stored t ss)) (stored t ss)) numberOf,
+        length-map (keep (shown (stored t ss)) (stored t ss)) shownNumber,
         keep-length (shown (stored t ss)) (stored t ss),
         stored-length t (count t) 0 ss,
       )

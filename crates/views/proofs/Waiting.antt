@@ -11,7 +11,8 @@ use Rattle.rights.proofs.Lists.{byCase}
 use borrow.Author.Tests.{leb-false, lt-ltb, le-ltb}
 use Rattle.views.specs.Change.{putBehind, insertBehind, insertInFront, rename}
 use Rattle.rights.specs.Marks.{markCount}
-use Rattle.views.specs.How.Pass.{Below, Falls, isDue, Above, Front, front, due}
+use Rattle.views.specs.How.Pass.{Below, Falls, isDue, front, due}
+use Rattle.views.specs.Nodes.{Above, Front}
 
 -- n levels that fall from below k are at most k
 pub falls-length : (k : ℕ) (ks : List ℕ) → Below k ks → Falls ks → length ks ≤ k

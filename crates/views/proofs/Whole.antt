@@ -18,7 +18,8 @@ use Rattle.views.proofs.RecordBytes.{length-raise, rest-none}
 use Rattle.rights.specs.Table.{level}
 use Rattle.views.specs.Change.{insertBehind, insertInFront, chunks, raise, lower, placed, le4, changed}
 use Rattle.rights.specs.Marks.{markCount, marksOf}
-use Rattle.views.specs.How.Pass.{shifted, Under, due, AtDone, treeAt, Shallow, behind, inFront, stack, rest, passing, passingFront, Fixed, Between}
+use Rattle.views.specs.How.Pass.{shifted, due, AtDone, treeAt, Shallow, behind, inFront, stack, rest, passing, passingFront, Fixed, Between}
+use Rattle.views.specs.Nodes.{Under}
 
 -- a pass begins
 module _ (n gap up m : ℕ) (tree ms t st : List ℕ) where

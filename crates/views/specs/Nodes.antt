@@ -1,7 +1,7 @@
 -- Lists of nodes in document order, each with its level: what the laws of the changes speak of.
-use Prim.Native.Nat.{ℕ, zero, suc, _≤_}
+use Prim.Native.Nat.{ℕ, zero, suc, _≤_, _<_}
 use mathlib.Core.Path.{_≡_}
-use mathlib.Core.Bool.{Bool, true, false, cond, _&&_, _||_}
+use mathlib.Core.Bool.{Bool, true, false, _&&_, _||_}
 use mathlib.Core.List.{List, [], _∷_, _++_}
 use mathlib.Core.Logic.{_⊎_}
 use mathlib.Core.Option.{Option, none, some}
@@ -12,7 +12,6 @@ use Rattle.rights.specs.Marks.{eachFrom, keep}
 use Rattle.rights.specs.Bytes.{all}
 use Rattle.rights.specs.Labels.{labelByte, sameLabel, restricted}
 use Rattle.rights.specs.Table.{level, recordOk}
-use Rattle.views.specs.How.Pass.{Above, Front}
 
 -- P holds of each
 abbrev pub All : {E : Type 0} → (E → Type 0) → List E → Type 0
@@ -24,6 +23,20 @@ module _ {E : Type 0} (lev : E → ℕ) where
   abbrev pub Nested : ℕ → List E → Type 0
   Nested n [] = Unit {0}
   Nested n (x ∷ t) = (lev x ≤ n) × Nested (suc (lev x)) t
+
+  -- every node at level k or deeper; less deep than k
+  abbrev pub Above : ℕ → List E → Type 0
+  Above k [] = Unit {0}
+  Above k (x ∷ t) = (k ≤ lev x) × Above k t
+
+  abbrev pub Under : ℕ → List E → Type 0
+  Under k [] = Unit {0}
+  Under k (x ∷ t) = (lev x < k) × Under k t
+
+  -- the first node, where there is one, is no deeper than k
+  abbrev pub Front : ℕ → List E → Type 0
+  Front k [] = Unit {0}
+  Front k (x ∷ t) = lev x ≤ k
 
   -- Node i of t is a descendant of a node at level l in front of t: it and all nodes before it are deeper than l.
   unfoldable pub isBelow : ℕ → List E → ℕ → Bool
@@ -52,7 +65,7 @@ pub record Goes {E : Type 0} (lev : E → ℕ) (ms : List Bool) (t : List E) (i 
   pub over : (isAncestor lev t node i ≡ true) ⊎ (node ≡ i)
 
 -- In the list w the tree y stands behind the node x and all below x; nothing that follows is below x.
-pub record Behind {E : Type 0} (lev : E → ℕ) (x : E) (y w : List E) : Type 0 where
+pub record StandsBehind {E : Type 0} (lev : E → ℕ) (x : E) (y w : List E) : Type 0 where
   pub before : List E
   pub below : List E
   pub after : List E

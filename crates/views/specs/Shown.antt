@@ -1,9 +1,8 @@
 -- The view (document 01, "View", which narrows axioms 15 to 17 of 000): which nodes of the stored tree a user is shown, and what each carries.
-use Prim.Native.Nat.{ℕ, zero, suc, _+_, min}
+use Prim.Native.Nat.{ℕ, zero, suc}
 use mathlib.Core.Bool.{Bool, true, cond, _&&_, _||_}
 use mathlib.Core.List.{List, [], _∷_, map}
-use lib.Dec.{leb, ltb}
-use Rattle.rights.specs.Limits.{recordsMax}
+use lib.Dec.{ltb}
 use Rattle.rights.specs.Labels.{restricted}
 use Rattle.rights.specs.Marks.{keep}
 use Rattle.rights.specs.Table.{records, level, label}
@@ -47,10 +46,6 @@ unfoldable pub nearestFirst : {A : Type 0} → (ℕ → A) → ℕ → List A
 nearestFirst f zero = []
 nearestFirst f (suc i) = f i ∷ nearestFirst f i
 
--- the depth of the shown chain after a node at level l, shown or not
-abbrev pub depthAfter : ℕ → ℕ → Bool → ℕ
-depthAfter d l b = cond b (l + 1) (min d l)
-
 module _ {E : Type 0} (lev : E → ℕ) (gr : E → Bool) where
   -- "A node is shown if the user has read or position on it and its parent is shown (the root's counts as shown)."
   abbrev pub isShown : List (ℕ × Bool) → E → Bool
@@ -64,15 +59,6 @@ module _ {E : Type 0} (lev : E → ℕ) (gr : E → Bool) where
   abbrev pub shownBy : List E → List Bool
   shownBy xs = shownAfter [] xs
 
-  -- The same with one number, the depth of the shown chain: a node is shown if its level is at most that and it is granted. Equal to shownBy
-  -- on every nested list (proofs/ShownDepth.antt).
-  abbrev pub isShownAt : ℕ → E → Bool
-  isShownAt d x = gr x && leb (lev x) d
-
-  unfoldable pub shownFrom : ℕ → List E → List Bool
-  shownFrom d [] = []
-  shownFrom d (x ∷ xs) = isShownAt d x ∷ shownFrom (depthAfter d (lev x) (isShownAt d x)) xs
-
 -- whether each node of the stored tree is shown
 abbrev pub shown : List Stored → List Bool
 shown xs = shownBy storedLevel granted xs
@@ -81,18 +67,6 @@ shown xs = shownBy storedLevel granted xs
 abbrev pub carried : Stored → List ℕ
 carried x = cond (holds read (x .rights)) (label (x .bytes)) restricted
 
--- the number that stands for a shown node: its record's, and 16384 more where the label stays hidden
-abbrev pub numberOf : Stored → ℕ
-numberOf x = cond (holds read (x .rights)) (x .number) (x .number + recordsMax)
-
 -- The view: of each shown node, in document order, its level and the label it carries. Nothing else is shown.
 abbrev pub view : List Stored → Nodes
 view xs = map (λ x. node (storedLevel x) (carried x)) (keep (shown xs) xs)
-
--- the same by numbers: `viewOf table (shownNumbers (stored table rights))` is the view (proofs/ViewLaws.antt)
-abbrev pub shownNumbers : List Stored → List ℕ
-shownNumbers xs = map numberOf (keep (shown xs) xs)
-
--- the same by the depth of the shown chain
-abbrev pub numbersFrom : ℕ → List Stored → List ℕ
-numbersFrom d xs = map numberOf (keep (shownFrom storedLevel granted d xs) xs)

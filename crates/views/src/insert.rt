@@ -22,7 +22,8 @@ ghost use Rattle.rights.specs.Limits.{recordsMax};
 ghost use Rattle.rights.specs.Table.{count, records, level, tableOk};
 ghost use Rattle.views.specs.Change.{chunks, raised, raise, placed, changed, deepest, tooDeep, hasRoom, lower};
 ghost use Rattle.rights.specs.Marks.{marksOf};
-ghost use Rattle.views.specs.How.Pass.{isDue, front, Under, AtDone, Shallow, stack, rest, behind, inFront, passing, passingFront, Fixed, Between};
+ghost use Rattle.views.specs.How.Pass.{isDue, front, AtDone, Shallow, stack, rest, behind, inFront, passing, passingFront, Fixed, Between};
+ghost use Rattle.views.specs.Nodes.{Under};
 
 // Where the tree goes: as the last child of a node, directly behind the node and all below it, directly in front of it.
 pub enum Place {

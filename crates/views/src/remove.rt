@@ -12,7 +12,8 @@ ghost use lib.ListN.{length, drop};
 ghost use Rattle.rights.specs.Table.{count, records, level, tableOk};
 ghost use Rattle.rights.specs.Marks.{marksOf};
 ghost use Rattle.views.specs.Change.{chunks, removed, changed};
-ghost use Rattle.views.specs.How.Pass.{going, Under};
+ghost use Rattle.views.specs.How.Pass.{going};
+ghost use Rattle.views.specs.Nodes.{Under};
 
 // Deeper than every record: nothing is being left out.
 const NO_CUT: u8 = 12;

@@ -17,7 +17,8 @@ ghost use Rattle.rights.specs.Limits.{recordsMax};
 ghost use Rattle.rights.specs.Policy.{read};
 ghost use Rattle.rights.specs.Rights.{holds};
 ghost use Rattle.rights.specs.Table.{recordsFrom, count, tableOk};
-ghost use Rattle.views.specs.Shown.{grants, depthAfter, storedFrom, stored, numbersFrom, shownNumbers};
+ghost use Rattle.views.specs.Shown.{grants, storedFrom, stored};
+ghost use Rattle.views.specs.How.Numbers.{depthAfter, numbersFrom, shownNumbers};
 
 // Whether these rights grant a node. Nothing else decides it.
 fn is_granted(set: u8) -> bool

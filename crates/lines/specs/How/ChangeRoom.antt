@@ -6,9 +6,10 @@ use mathlib.Core.List.{List, _++_, map}
 use lib.ListN.{length, drop}
 use Rattle.rights.specs.Marks.{bit, markCount}
 use Rattle.rights.specs.Policy.{position, read}
-use Rattle.rights.specs.Rights.{holds, askedOn}
+use Rattle.rights.specs.Rights.{holds}
+use Rattle.rights.specs.How.Groups.{askedOn}
 use Rattle.rights.specs.Table.{count, records}
-use Rattle.views.specs.Shown.{shownNumbers}
+use Rattle.views.specs.How.Numbers.{shownNumbers}
 use Rattle.views.specs.declared.done.Change.{Change}
 use Rattle.lines.specs.State.{policyIn, userOf}
 use Rattle.lines.specs.UserView.{rightsIn, storedIn, marksIn, doneIn}

@@ -8,7 +8,8 @@ use lib.ListN.{length, getD, take, drop}
 use Rattle.rights.specs.Limits.{policySize}
 use Rattle.rights.specs.Marks.{bit}
 use Rattle.rights.specs.Isa.{is}
-use Rattle.rights.specs.PolicyBytes.{stepOf, policyOf, isaCount, isaN, isaR, subjectCount, subjectAt, ruleCount, stepCount, stepsAt, whose, accepts, rightBit, Text}
+use Rattle.rights.specs.PolicyBytes.{stepOf, policyOf, isaCount, isaN, isaR, subjectCount, subjectAt, ruleCount, stepCount, stepsAt, whose, accepts, rightBit}
+use Rattle.rights.specs.How.Places.{Text}
 use Rattle.rights.specs.How.Roles.{nameAmong}
 use Rattle.rights.specs.Rights.{Step, stepFor, reaches, tried}
 use Rattle.rights.specs.Table.{recAt, recordAt, level, label}

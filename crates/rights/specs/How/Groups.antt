@@ -1,20 +1,20 @@
 -- How the rules of one right are worked out together: their automata side by side in one number, and the steps that a label passes by its number. proofs/GroupLaws.antt
 -- shows that each rule's last state is there where its path finds the node, proofs/FiveRights.antt that the five rights make the set that `byRules` says.
-use Prim.Native.Nat.{ℕ, zero, suc, _+_, _*_, _/_, _%_, _^_, _≤_, _<_}
+use Prim.Native.Nat.{ℕ, zero, suc, _+_, _*_, _/_, _%_, _^_, _≤_, _<_, _-_}
 use mathlib.Core.Bool.{Bool, true, false, cond, not, _&&_, _||_}
 use mathlib.Core.Path.{_≡_}
-use mathlib.Core.List.{List, [], _∷_, _++_}
+use mathlib.Core.List.{List, [], _∷_, _++_, map}
 use lib.Bits.{bitAnd}
 use lib.Dec.{eqb, ltb}
 use lib.ListN.{length, getD, replicate}
 use Rattle.rights.specs.Limits.{recordsMax}
 use Rattle.rights.specs.PolicyBytes.{ruleCount, rightBit, whose, accepts}
 use Rattle.rights.specs.How.Roles.{Subjects}
-use Rattle.rights.specs.Policy.{Right, position, read, insert, update, delete, bitOf}
-use Rattle.rights.specs.Rights.{Step, ruledSet, tried, reaches, holds}
+use Rattle.rights.specs.Policy.{Right, position, read, insert, update, delete, bitOf, Policy}
+use Rattle.rights.specs.Rights.{Step, ruledSet, tried, reaches, holds, rightsBy, chains}
 use Rattle.rights.specs.How.Automaton.{value, deeps, passedBy, rulePath, Sound}
 use Rattle.rights.specs.Table.{recAt, recordAt, recordsFrom, recordsOk, label}
-use Rattle.rights.specs.How.Vocabulary.{numberIn, Sorted}
+use Rattle.rights.specs.How.Vocabulary.{listedNumber, Sorted}
 
 -- bit j of a number
 abbrev pub bitAt : ℕ → ℕ → Bool
@@ -53,17 +53,17 @@ cat f q i zero = []
 cat f q i (suc n) = cond (q (i + n) .on) (cat f q i n ++ f (q (i + n))) (cat f q i n)
 
 -- their steps, and their first states
-abbrev pub stepsOf : Ruling → List Step
-stepsOf l = l .path ++ (never ∷ [])
+abbrev pub rulingSteps : Ruling → List Step
+rulingSteps l = l .path ++ (never ∷ [])
 
-abbrev pub firstOf : Ruling → List Bool
-firstOf l = true ∷ replicate (length (l .path)) false
+abbrev pub rulingStarts : Ruling → List Bool
+rulingStarts l = true ∷ replicate (length (l .path)) false
 
 abbrev pub laid : (ℕ → Ruling) → ℕ → ℕ → List Step
-laid q i n = cat stepsOf q i n
+laid q i n = cat rulingSteps q i n
 
 abbrev pub firsts : (ℕ → Ruling) → ℕ → ℕ → List Bool
-firsts q i n = cat firstOf q i n
+firsts q i n = cat rulingStarts q i n
 
 -- the bit of rule i + k that says that its path finds the node
 abbrev pub endAt : (ℕ → Ruling) → ℕ → ℕ → ℕ
@@ -116,7 +116,7 @@ pub record Grouped (number : List ℕ → ℕ) (q : ℕ → Ruling) (b i n : ℕ
 -- the text of a step at a place is among the words, if it is a label
 abbrev pub Known : List ℕ → List ℕ → ℕ → ℕ → Type 0
 Known p ws n at =
-    (getD (label (recAt p at)) 0 0 ≡ 42 → ⊥) → (getD (label (recAt p at)) 0 0 ≡ 36 → ⊥) → 0 < numberIn p ws n (label (recAt p at))
+    (getD (label (recAt p at)) 0 0 ≡ 42 → ⊥) → (getD (label (recAt p at)) 0 0 ≡ 36 → ⊥) → 0 < listedNumber p ws n (label (recAt p at))
 
 -- what the work on a policy's groups asks: a sound policy, the subjects of it for which `$` stands, and the words
 pub record Ready (p own ws : List ℕ) (n : ℕ) : Type 0 where
@@ -130,4 +130,8 @@ pub record Numbered (p ws : List ℕ) (count : ℕ) (t : List ℕ) (n : ℕ) (nu
   pub room : 4 + n * 32 ≤ length t
   pub records : recordsOk 0 0 (recordsFrom t n 0) ≡ true
   pub long : n ≤ length numbers
-  pub at : (i : ℕ) → i < n → getD numbers i 0 ≡ numberIn p ws count (label (recordAt t i))
+  pub at : (i : ℕ) → i < n → getD numbers i 0 ≡ listedNumber p ws count (label (recordAt t i))
+
+-- Of those rights the ones that are asked, by a set of rights.
+abbrev pub askedOn : ℕ → Policy → ℕ → List (List ℕ) → List ℕ
+askedOn asked P u rs = map (λ c. bitAnd (rightsBy P u c) asked) (chains [] rs)

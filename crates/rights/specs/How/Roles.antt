@@ -10,7 +10,8 @@ use Rattle.rights.specs.Labels.{sameLabel}
 use Rattle.rights.specs.Policy.{some}
 use Rattle.rights.specs.Isa.{is, ownSubjects}
 use Rattle.rights.specs.PolicyCheck.{policyOk}
-use Rattle.rights.specs.PolicyBytes.{policyOf, subjectCount, isaCount, isaN, isaR, nameAt, Subject}
+use Rattle.rights.specs.PolicyBytes.{policyOf, subjectCount, isaCount, isaN, isaR, nameAt}
+use Rattle.rights.specs.How.Places.{Subject}
 
 -- a subject of a policy that passed its check
 pub record Declared (p : List ℕ) (u : ℕ) : Type 0 where
@@ -25,12 +26,12 @@ pub record Roles (p : List ℕ) (u : ℕ) (roles : List ℕ) : Type 0 where
 abbrev pub lined : List ℕ → ℕ → ℕ → List ℕ → List ℕ
 lined p k j out = cond (eqb (isaN p j) k) (set out (isaR p j) 1) out
 
-unfoldable pub raised : List ℕ → ℕ → ℕ → List ℕ → List ℕ
-raised p k zero out = out
-raised p k (suc j) out = lined p k j (raised p k j out)
+unfoldable pub linesGiven : List ℕ → ℕ → ℕ → List ℕ → List ℕ
+linesGiven p k zero out = out
+linesGiven p k (suc j) out = lined p k j (linesGiven p k j out)
 
 abbrev pub widened : List ℕ → ℕ → List ℕ → List ℕ
-widened p k out = cond (eqb (getD out k 0) 0) out (raised p k (isaCount p) out)
+widened p k out = cond (eqb (getD out k 0) 0) out (linesGiven p k (isaCount p) out)
 
 unfoldable pub sweep : List ℕ → ℕ → List ℕ → List ℕ
 sweep p zero out = out

@@ -1,17 +1,46 @@
--- How a change reads what is shown and selected: by the numbers of the shown nodes, record by record. proofs/DoneLaws.antt shows that this is what `shown` and `inTable` say.
-use Prim.Native.Nat.{ℕ, zero, suc, _%_}
-use mathlib.Core.Bool.{Bool, false, cond}
+-- What is shown, by the depth of the shown chain and by the numbers of the shown nodes, and how a change reads what is shown and selected off those numbers.
+-- proofs/ShownDepth.antt, proofs/ViewLaws.antt and proofs/DoneLaws.antt show that this is what `shown`, `view` and `inTable` say.
+use Prim.Native.Nat.{ℕ, zero, suc, _%_, _+_, min}
+use mathlib.Core.Bool.{Bool, false, cond, _&&_}
 use mathlib.Core.Path.{_≡_}
 use mathlib.Core.List.{List, [], _∷_, _++_, map}
-use lib.Dec.{eqb}
+use lib.Dec.{eqb, leb}
 use lib.ListN.{getD, drop}
 use Rattle.rights.specs.Limits.{recordsMax}
 use Rattle.rights.specs.Table.{count}
-use Rattle.rights.specs.Marks.{bit, marksOf}
-use Rattle.rights.specs.Policy.{policyWord}
+use Rattle.rights.specs.Marks.{bit, marksOf, keep}
+use Rattle.rights.specs.Policy.{policyWord, read}
 use Rattle.rights.specs.PolicyBytes.{policyOf}
 use Rattle.views.specs.Done.{doneMarks}
 use Rattle.views.specs.declared.done.Change.{Change}
+use Rattle.rights.specs.Rights.{holds}
+use Rattle.views.specs.Shown.{Stored, storedLevel, granted, shown}
+
+-- the depth of the shown chain after a node at level l, shown or not
+abbrev pub depthAfter : ℕ → ℕ → Bool → ℕ
+depthAfter d l b = cond b (l + 1) (min d l)
+
+module _ {E : Type 0} (lev : E → ℕ) (gr : E → Bool) where
+  -- What is shown, with one number, the depth of the shown chain: a node is shown if its level is at most that and it is granted. Equal to `shownBy`
+  -- on every nested list (proofs/ShownDepth.antt).
+  abbrev pub isShownAt : ℕ → E → Bool
+  isShownAt d x = gr x && leb (lev x) d
+
+  unfoldable pub shownFrom : ℕ → List E → List Bool
+  shownFrom d [] = []
+  shownFrom d (x ∷ xs) = isShownAt d x ∷ shownFrom (depthAfter d (lev x) (isShownAt d x)) xs
+
+-- the number that stands for a shown node: its record's, and 16384 more where the label stays hidden
+abbrev pub shownNumber : Stored → ℕ
+shownNumber x = cond (holds read (x .rights)) (x .number) (x .number + recordsMax)
+
+-- the view by numbers: `viewOf table (shownNumbers (stored table rights))` is the view (proofs/ViewLaws.antt)
+abbrev pub shownNumbers : List Stored → List ℕ
+shownNumbers xs = map shownNumber (keep (shown xs) xs)
+
+-- the numbers by the depth of the shown chain
+abbrev pub numbersFrom : ℕ → List Stored → List ℕ
+numbersFrom d xs = map shownNumber (keep (shownFrom storedLevel granted d xs) xs)
 
 -- the next shown node is record i
 abbrev pub isNext : List ℕ → ℕ → Bool

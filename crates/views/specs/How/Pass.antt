@@ -9,6 +9,7 @@ use lib.Dec.{leb}
 use Rattle.rights.specs.Table.{level}
 use Rattle.views.specs.Change.{dropBelow, putBehind, remove, insertBehind, insertInFront, chunks, raise}
 use Rattle.rights.specs.Marks.{marksOf}
+use Rattle.views.specs.Nodes.{All, Under}
 
 -- The bytes from `from` to `end` moved up by `by`; the bytes that they leave stay.
 abbrev pub shifted : List ℕ → ℕ → ℕ → ℕ → List ℕ
@@ -30,31 +31,12 @@ abbrev pub Falls : List ℕ → Type 0
 Falls [] = Unit {0}
 Falls (k ∷ ks) = Below k ks × Falls ks
 
--- P holds of each
-abbrev pub Every : (ℕ → Type 0) → List ℕ → Type 0
-Every P [] = Unit {0}
-Every P (k ∷ ks) = P k × Every P ks
-
 -- whether the first of the waiting levels is due in front of a node at level l
 abbrev pub isDue : ℕ → List ℕ → Bool
 isDue l [] = false
 isDue l (k ∷ ks) = leb l k
 
 module _ {E : Type 0} (lev : E → ℕ) where
-  -- every node at level k or deeper; less deep than k
-  abbrev pub Above : ℕ → List E → Type 0
-  Above k [] = Unit {0}
-  Above k (x ∷ t) = (k ≤ lev x) × Above k t
-
-  abbrev pub Under : ℕ → List E → Type 0
-  Under k [] = Unit {0}
-  Under k (x ∷ t) = (lev x < k) × Under k t
-
-  -- the first node, where there is one, is no deeper than k
-  abbrev pub Front : ℕ → List E → Type 0
-  Front k [] = Unit {0}
-  Front k (x ∷ t) = lev x ≤ k
-
   -- the level of the first node, 0 where there is none
   abbrev pub front : List E → ℕ
   front [] = 0
@@ -113,7 +95,7 @@ pub record Between (n gap up m i d : ℕ) (tree ms t st : List ℕ) : Type 0 whe
   pub place : i ≤ n
   pub below : Below 12 (stack d st)
   pub falls : Falls (stack d st)
-  pub fits : Every (Shallow up m tree) (stack d st)
+  pub fits : All (Shallow up m tree) (stack d st)
   pub low : Under level 12 (rest n gap i t)
   pub done : AtDone (λ r. Shallow up m tree (level r)) (marksOf (drop i ms)) (rest n gap i t)
   pub room : length st ≡ 12

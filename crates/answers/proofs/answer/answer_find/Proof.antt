@@ -1,7 +1,7 @@
 use Rattle.rights.specs.Marks.{marksOf}
 use Rattle.answers.proofs.AnswerLaws.{answered-not, answered-fits}
 use Rattle.answers.specs.AnswerChoice.{findText, chosen}
-use Rattle.rights.specs.Nodes.{viewOf}
+use Rattle.rights.specs.How.Numbers.{viewOf}
 use native.Mathlib.Omega.{arith}
 use mathlib.Core.Path.{refl}
 use borrow.Author.Needs.{needs}

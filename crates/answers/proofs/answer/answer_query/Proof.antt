@@ -1,7 +1,7 @@
 use Rattle.rights.specs.Marks.{marksOf, keep}
 use Rattle.answers.proofs.AnswerLaws.{answered-not, answered-fits, answered-surely}
 use Rattle.answers.specs.Answer.{queryText}
-use Rattle.rights.specs.Nodes.{viewOf}
+use Rattle.rights.specs.How.Numbers.{viewOf}
 use native.Mathlib.Omega.{arith}
 use lib.ListN.{length}
 use mathlib.Core.Path.{refl, sym, _∙_}

@@ -1,6 +1,6 @@
 use Rattle.answers.proofs.AnswerLaws.{answered-not, answered-fits, answered-surely}
 use Rattle.answers.specs.Answer.{viewText}
-use Rattle.rights.specs.Nodes.{viewOf}
+use Rattle.rights.specs.How.Numbers.{viewOf}
 use native.Mathlib.Omega.{arith}
 use lib.ListN.{length}
 use mathlib.Core.Path.{refl, sym, _∙_}

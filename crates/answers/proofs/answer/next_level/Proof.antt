@@ -1,6 +1,6 @@
 use Rattle.answers.proofs.AnswerNodes.{next-some, next-none}
 use Rattle.rights.proofs.PassLaws.{view-length}
-use Rattle.rights.specs.Nodes.{viewOf}
+use Rattle.rights.specs.How.Numbers.{viewOf}
 use native.Mathlib.Omega.{arith}
 use Prim.Native.Nat.{_+_}
 use mathlib.Core.Path.{sym, _∙_}

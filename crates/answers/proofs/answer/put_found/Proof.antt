@@ -2,7 +2,7 @@
 use Rattle.rights.specs.Marks.{marksOf, keep}
 use Rattle.answers.proofs.AnswerNodes.{hits-pass, found-hit, found-none}
 use Rattle.rights.proofs.PassLaws.{view-length}
-use Rattle.rights.specs.Nodes.{viewOf}
+use Rattle.rights.specs.How.Numbers.{viewOf}
 use native.Mathlib.Omega.{arith}
 use lib.ListN.{length, drop}
 use mathlib.Core.Path.{_≡_, refl, sym, _∙_}

@@ -4,7 +4,7 @@ use Rattle.answers.proofs.AnswerNodes.{hits-step, hit-lines-end}
 use Rattle.rights.proofs.PassLaws.{view-length}
 use Rattle.answers.proofs.AnswerLaws.{Toward, toward-start, toward-more, toward-end}
 use Rattle.answers.specs.Answer.{hitLines}
-use Rattle.rights.specs.Nodes.{viewOf}
+use Rattle.rights.specs.How.Numbers.{viewOf}
 use native.Mathlib.Omega.{arith}
 use lib.ListN.{length, drop}
 use mathlib.Core.Path.{_≡_, refl}

@@ -1,4 +1,4 @@
-use Rattle.rights.specs.Nodes.{recordPlace}
+use Rattle.rights.specs.How.Numbers.{recordPlace}
 use Rattle.rights.proofs.PassLaws.{label-hidden}
 use Rattle.answers.proofs.NodeLaws.{label-read, label-short}
 use Rattle.answers.proofs.AnswerLaws.{take-short}

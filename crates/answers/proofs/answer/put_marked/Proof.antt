@@ -1,6 +1,6 @@
 use Rattle.answers.proofs.AnswerNodes.{hit-none, hit-some}
 use Rattle.answers.proofs.AnswerLaws.{puts-none}
-use Rattle.rights.specs.Nodes.{viewOf}
+use Rattle.rights.specs.How.Numbers.{viewOf}
 use native.Mathlib.Omega.{arith}
 use borrow.Author.Needs.{needs}
 use Rattle.answers.proofs.answer.put_marked.Statement.{statement}

@@ -1,7 +1,7 @@
 use Rattle.answers.proofs.AnswerNodes.{count-hits}
 use Rattle.rights.proofs.PassLaws.{view-length}
 use Rattle.answers.proofs.AnswerLaws.{puts-more}
-use Rattle.rights.specs.Nodes.{viewOf}
+use Rattle.rights.specs.How.Numbers.{viewOf}
 use native.Mathlib.Omega.{arith}
 use lib.ListN.{length}
 use mathlib.Core.Path.{_∙_}

@@ -5,8 +5,8 @@ use mathlib.Core.List.{List}
 use native.Mathlib.Omega.{arith}
 use lib.ListN.{length, getD, length-set}
 use Rattle.forms.specs.Kind.{Kind}
-use Rattle.forms.specs.Layout.{codesOf, shapeOf}
-use Rattle.forms.specs.Form.{oneBy}
+use Rattle.forms.specs.Layout.{shapeOf}
+use Rattle.forms.specs.How.Codes.{codesOf, oneBy}
 use Rattle.forms.proofs.FormLaws.{few-kinds, kind-at, Reading, reading-starts, part-missing, part-taken, parts-over, parts-none}
 use borrow.Author.Needs.{needs}
 use Rattle.forms.proofs.form.parts.Statement.{statement}

@@ -3,10 +3,9 @@ use mathlib.Core.Path.{refl, sym, _∙_}
 use mathlib.Core.List.{[]}
 use native.Mathlib.Omega.{arith}
 use Rattle.rights.proofs.PathLaws.{past}
-use Rattle.forms.specs.Kind.{endBy}
+use Rattle.forms.specs.How.Codes.{endBy, LaidOut}
 use Rattle.forms.specs.declared.layout.Word.{Word}
 use Rattle.forms.specs.declared.layout.Layout.{Layout}
-use Rattle.forms.specs.Layout.{LaidOut}
 use Rattle.forms.proofs.FormLaws.{laid-at, zeros, unbegun, wordless, partless, read-parts}
 use borrow.Author.Needs.{needs}
 use Rattle.forms.proofs.form.read_form.Statement.{statement}

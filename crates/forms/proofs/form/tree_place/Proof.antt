@@ -6,7 +6,8 @@ use native.Mathlib.Numerals.{add-one}
 use native.Mathlib.Omega.{arith}
 use lib.ListN.{length, getD, drop}
 use Rattle.forms.specs.Kind.{Kind}
-use Rattle.forms.specs.Layout.{codesOf, shapeOf}
+use Rattle.forms.specs.Layout.{shapeOf}
+use Rattle.forms.specs.How.Codes.{codesOf}
 use Rattle.forms.specs.Form.{placeIn, treePlace}
 use Rattle.forms.proofs.FormLaws.{few-kinds, kind-at, tree-here, tree-later, tree-none}
 use borrow.Author.Needs.{needs}

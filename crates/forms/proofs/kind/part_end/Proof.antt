@@ -2,7 +2,7 @@
 use borrow.Author.Tests.{ne-eqb}
 use native.Mathlib.Omega.{arith}
 use Rattle.rights.proofs.PathLaws.{bad-onward, earlier}
-use Rattle.forms.specs.Kind.{endBy}
+use Rattle.forms.specs.How.Codes.{endBy}
 use borrow.Author.Needs.{needs}
 use Rattle.forms.proofs.kind.part_end.Statement.{statement}
 use Rattle.forms.proofs.kind.part_end.Tie as tie

@@ -2,7 +2,7 @@
 use mathlib.Core.Path.{refl, ap, _∙_}
 use Rattle.rights.specs.Labels.{labelByte}
 use Rattle.rights.specs.Bytes.{all}
-use Rattle.forms.specs.Word.{byNumber}
+use Rattle.forms.specs.How.Codes.{byNumber}
 use Rattle.forms.specs.declared.layout.Word.the-variants.{Other}
 use Rattle.forms.specs.Layout.{words, wordAt}
 use Rattle.forms.proofs.WordLaws.{numbered-among}

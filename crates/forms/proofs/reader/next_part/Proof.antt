@@ -40,13 +40,12 @@ use denote.Triple.Table.{entered, cited}
 use denote.Triple.Walked.{says, needs, Stays, stay-none-slice, stay-none, walkOf, goes-none-slice, goes-none, Walks, ends-at, walked, walk-meets}
 use denote.Exit.{yes}
 use denote.Triple.Clauses.{ensured, lasts}
-use Rattle.rights.specs.PathReader.{Onward}
+use Rattle.rights.specs.How.Reading.{Onward}
 use Rattle.rights.specs.declared.path.Read.{Read}
 use Rattle.rights.proofs.path.Read as S
 use Rattle.rights.proofs.path.Read.Laws as S′
-use Rattle.forms.specs.Part.{movedTo}
-use Rattle.forms.specs.Kind.{endBy}
-use Rattle.forms.specs.How.Reader.{Takes}
+use Rattle.forms.specs.How.Reader.{movedTo, Takes}
+use Rattle.forms.specs.How.Codes.{endBy}
 use Rattle.forms.proofs.ReaderLaws.{takes-onward}
 use Rattle.forms.specs.declared.reader.LineReader.{LineReader}
 use Rattle.forms.proofs.reader.LineReader as T

@@ -43,7 +43,7 @@ use denote.Triple.Table.{entered, cited}
 use denote.Triple.Walked.{says, needs, Stays, stay-none, walkOf, goes-none, Walks, ends-at, walked, walk-meets}
 use denote.Exit.{yes}
 use denote.Triple.Clauses.{ensured, lasts}
-use Rattle.forms.specs.Kind.{endBy}
+use Rattle.forms.specs.How.Codes.{endBy}
 use Rattle.forms.specs.How.Reader.{Takes}
 use Rattle.forms.specs.declared.reader.LineReader.{LineReader}
 use Rattle.forms.proofs.reader.LineReader as T

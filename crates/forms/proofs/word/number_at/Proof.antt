@@ -4,7 +4,7 @@ use native.Mathlib.Omega.{arith}
 use borrow.Author.Tests.{le-leb, lt-leb}
 use Rattle.rights.specs.Labels.{labelByte}
 use Rattle.rights.specs.PathReader.{runAt}
-use Rattle.forms.specs.Word.{numberAt}
+use Rattle.forms.specs.How.Codes.{textNumberAt}
 use borrow.Author.Needs.{needs}
 use Rattle.forms.proofs.word.number_at.Statement.{statement}
 use Rattle.forms.proofs.word.number_at.Tie as tie
@@ -16,7 +16,7 @@ sub-if1 : tie.Need-sub-if1
 sub-if1 c = search needs
 
 returns : tie.Need-returns
-unfolding numberAt
+unfolding textNumberAt
 returns c =
     let start = c .before .before .before in
     rw (lt-leb (runAt labelByte (start .args .s .now) (start .args .at)) 8 (omega arith))
@@ -25,7 +25,7 @@ word-number-requires : tie.Need-word-number-requires
 word-number-requires c κs = search needs
 
 returns-2 : tie.Need-returns-2
-unfolding numberAt
+unfolding textNumberAt
 returns-2 c =
     let at-label-end = c .before .before in let start = at-label-end .before .before in
     let z : at-label-end .label-end .result - start .args .at ≡ runAt labelByte (start .args .s .now) (start .args .at) = omega arith in

@@ -1,6 +1,7 @@
 -- What the number finds, the letters find.
 use mathlib.Core.Path.{refl, ap, _∙_}
-use Rattle.forms.specs.Word.{byNumber, rights, rightAt}
+use Rattle.forms.specs.Word.{rights, rightAt}
+use Rattle.forms.specs.How.Codes.{byNumber}
 use Rattle.forms.proofs.WordLaws.{numbered-among}
 use Rattle.rights.specs.Labels.{labelByte}
 use Rattle.rights.specs.Bytes.{all}

@@ -1,22 +1,22 @@
--- N is the number of the bytes from i on, and fits in as many bytes.
+-- N is the textNumber of the bytes from i on, and fits in as many bytes.
 use Prim.Native.Nat.{ℕ, suc, _+_, _-_, _*_, _^_, _≤_, _<_}
 use mathlib.Core.Path.{_≡_, sym, ap, _∙_}
 use mathlib.Core.List.{List}
 use native.Mathlib.Omega.{arith}
 use lib.ListN.{getD, take, drop}
-use Rattle.forms.specs.Word.{number}
+use Rattle.forms.specs.How.Codes.{textNumber}
 use Rattle.forms.proofs.WordLaws.{number-more, more-fits, few-fit}
 use Rattle.forms.proofs.word.word_number.Statement.{statement}
 use Rattle.forms.proofs.word.word_number.Tie as tie
 
 abbrev Inv-loop : tie.InvT-loop
-Inv-loop s a e n₀ i₀ n i = (a ≤ i) × (i ≤ e) × (n ≡ number (take (e - i) (drop i s))) × (n < 256 ^ (e - i))
+Inv-loop s a e n₀ i₀ n i = (a ≤ i) × (i ≤ e) × (n ≡ textNumber (take (e - i) (drop i s))) × (n < 256 ^ (e - i))
 
 abbrev μ-loop : tie.MeasureT-loop
 μ-loop s a e n₀ i₀ n i = i
 
 loop-holds : tie.Need-loop-holds Inv-loop μ-loop
-unfolding number
+unfolding textNumber
 loop-holds c =
     let z : c .args .e - c .args .e ≡ 0 = omega arith in
     (omega arith, omega arith, rw z, rw z (omega arith))

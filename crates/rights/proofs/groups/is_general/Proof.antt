@@ -3,7 +3,8 @@ use mathlib.Core.Bool.{false≢true}
 use mathlib.Core.Path.{_≡_, sym, _∙_, subst}
 use native.Mathlib.Omega.{arith}
 use borrow.Author.Needs.{needs}
-use Rattle.rights.specs.PolicyBytes.{stepsAt, stepCount, Text}
+use Rattle.rights.specs.PolicyBytes.{stepsAt, stepCount}
+use Rattle.rights.specs.How.Places.{Text}
 use Rattle.rights.proofs.Texts.{text-first}
 use Rattle.rights.proofs.GroupLaws.{general-path}
 use Rattle.rights.proofs.groups.is_general.Statement.{statement}

@@ -4,7 +4,7 @@ use mathlib.Core.Path.{_≡_, sym, _∙_}
 use native.Mathlib.Omega.{arith}
 use Rattle.rights.specs.PolicyBytes.{stepCount, stepsAt}
 use Rattle.rights.specs.How.Roles.{nameAmong}
-use Rattle.rights.specs.How.Vocabulary.{wordAt, numberIn}
+use Rattle.rights.specs.How.Vocabulary.{listedWord, listedNumber}
 use Rattle.rights.specs.How.Groups.{rulingAt, Grouped}
 use Rattle.rights.proofs.StateMasks.{length-steps}
 use Rattle.rights.proofs.VocabularyLaws.{number-low}
@@ -16,7 +16,7 @@ abbrev Inv-loop : tie.InvT-loop
 Inv-loop policy own words n roles right from to rows₀ g₀ k₀ rows g k =
     (from ≤ k)
     × (k ≤ to)
-    × Grouped (numberIn policy words n) (rulingAt policy own roles right) right from (k - from) (g .deep) (g .every) (g .start) (g .yes) (g .noes) (g .used) rows
+    × Grouped (listedNumber policy words n) (rulingAt policy own roles right) right from (k - from) (g .deep) (g .every) (g .start) (g .yes) (g .noes) (g .used) rows
 
 abbrev μ-loop : tie.MeasureT-loop
 μ-loop policy own words n roles right from to rows₀ g₀ k₀ rows g k = to - k
@@ -39,7 +39,7 @@ loop-holds c =
     let p = a .policy .now in
     let r = at-clear-rows .clear-rows .ensures in
     let z : a .from - a .from ≡ 0 = omega arith in
-    (omega arith, omega arith, rw z (group-none (numberIn p (a .words .now) (a .n)) (rulingAt p (a .own .now) (a .roles .now) (a .right)) (a .right) (a .from) _ (r .long ∙ g .5) (λ x. r .at _ (omega (arith, number-low (wordAt p (a .words .now)) (a .n) x)))))
+    (omega arith, omega arith, rw z (group-none (listedNumber p (a .words .now) (a .n)) (rulingAt p (a .own .now) (a .roles .now) (a .right)) (a .right) (a .from) _ (r .long ∙ g .5) (λ x. r .at _ (omega (arith, number-low (listedWord p (a .words .now)) (a .n) x)))))
 
 with-ruling-requires : tie.Need-with-ruling-requires Inv-loop μ-loop
 with-ruling-requires c κs =

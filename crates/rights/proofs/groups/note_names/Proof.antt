@@ -4,7 +4,7 @@ use mathlib.Core.Path.{_∙_}
 use native.Mathlib.Omega.{arith}
 use lib.ListN.{length, take}
 use Rattle.rights.specs.How.Roles.{nameAmong}
-use Rattle.rights.specs.How.Vocabulary.{numberIn}
+use Rattle.rights.specs.How.Vocabulary.{listedNumber}
 use Rattle.rights.specs.How.Groups.{Noted}
 use Rattle.rights.proofs.OwnNames.{names-more, names-all, names-none}
 use Rattle.rights.proofs.PackedLaws.{sorted-name, noted-none, noted-then, noted-alike}
@@ -13,7 +13,7 @@ use Rattle.rights.proofs.groups.note_names.Tie as tie
 
 abbrev Inv-loop : tie.InvT-loop
 Inv-loop policy own words n j rows₀ i₀ rows i =
-    (i ≤ length own) × Noted (numberIn policy words n) rows₀ rows j (nameAmong policy (take i own))
+    (i ≤ length own) × Noted (listedNumber policy words n) rows₀ rows j (nameAmong policy (take i own))
 
 abbrev μ-loop : tie.MeasureT-loop
 μ-loop policy own words n j rows₀ i₀ rows i = length own - i
@@ -21,7 +21,7 @@ abbrev μ-loop : tie.MeasureT-loop
 loop-holds : tie.Need-loop-holds Inv-loop μ-loop
 loop-holds c =
     let a = c .before .before .before .before .args in
-    (omega arith, noted-none (numberIn (a .policy .now) (a .words .now) (a .n)) (a .rows .now) (a .j) _ (names-none (a .policy .now) (a .own .now)))
+    (omega arith, noted-none (listedNumber (a .policy .now) (a .words .now) (a .n)) (a .rows .now) (a .j) _ (names-none (a .policy .now) (a .own .now)))
 
 mul-note-label : tie.Need-mul-note-label Inv-loop μ-loop
 mul-note-label c =
@@ -52,7 +52,7 @@ loop-again c =
     let a = start .args in
     let l = at-loop .loop in
     let p = a .policy .now in
-    (omega arith, noted-then (numberIn p (a .words .now) (a .n)) (a .rows .now) (a .j) (l .rows) _ _ _ _ (λ x. names-more p (a .own .now) (l .i) x (at-test .loop-test .taken)) (l .inv .1) (rw (at-wide .wide .ensures) at (at-note-label .note-label .ensures)))
+    (omega arith, noted-then (listedNumber p (a .words .now) (a .n)) (a .rows .now) (a .j) (l .rows) _ _ _ _ (λ x. names-more p (a .own .now) (l .i) x (at-test .loop-test .taken)) (l .inv .1) (rw (at-wide .wide .ensures) at (at-note-label .note-label .ensures)))
 
 same-length : tie.Need-same-length Inv-loop μ-loop
 same-length c = c .before .loop .inv .1 .long
@@ -62,7 +62,7 @@ returns c =
     let at-loop = c .before in let start = at-loop .before .before .before .before .before in
     let a = start .args in
     let l = at-loop .loop in
-    noted-alike (numberIn (a .policy .now) (a .words .now) (a .n)) (a .rows .now) (a .j) (l .rows) _ _ (λ x. names-all (a .policy .now) (a .own .now) (l .i) x (omega arith)) (l .inv .1)
+    noted-alike (listedNumber (a .policy .now) (a .words .now) (a .n)) (a .rows .now) (a .j) (l .rows) _ _ (λ x. names-all (a .policy .now) (a .own .now) (l .i) x (omega arith)) (l .inv .1)
 
 pub note-names-spec : {M : Type 1} → statement M
 note-names-spec =

@@ -4,7 +4,7 @@ use mathlib.Core.Path.{_≡_, refl, sym, _∙_}
 use native.Mathlib.Numerals.{add-one}
 use native.Mathlib.Omega.{arith}
 use lib.ListN.{length, drop, getD, length-set}
-use Rattle.rights.specs.How.Vocabulary.{wordAt, numberIn}
+use Rattle.rights.specs.How.Vocabulary.{listedWord, listedNumber}
 use Rattle.rights.specs.How.Groups.{rulingAt, laid, firsts, ruled}
 use Rattle.rights.specs.How.Automaton.{chainOf, chainTo}
 use Rattle.rights.specs.Table.{recordAt, label}
@@ -92,7 +92,7 @@ mul-next-states c =
     let a = start .args in
     let g = start .pre in
     let i = at-loop .loop .i in
-    omega (arith, c .wide-number .ensures, g .6 .at i (at-test .loop-test .taken), number-low (wordAt (a .policy .now) (a .words .now)) (a .count) (label (recordAt (a .t .now) i)), g .0 .sorted .words .few, at-make-group .make-group .ensures .packed .long)
+    omega (arith, c .wide-number .ensures, g .6 .at i (at-test .loop-test .taken), number-low (listedWord (a .policy .now) (a .words .now)) (a .count) (label (recordAt (a .t .now) i)), g .0 .sorted .words .few, at-make-group .make-group .ensures .packed .long)
 
 slice-read-next-states : tie.Need-slice-read-next-states Inv-loop μ-loop
 slice-read-next-states c =
@@ -102,7 +102,7 @@ slice-read-next-states c =
     let a = start .args in
     let g = start .pre in
     let i = at-loop .loop .i in
-    omega (arith, at-wide-number .wide-number .ensures, g .6 .at i (at-test .loop-test .taken), number-low (wordAt (a .policy .now) (a .words .now)) (a .count) (label (recordAt (a .t .now) i)), g .0 .sorted .words .few, at-make-group .make-group .ensures .packed .long)
+    omega (arith, at-wide-number .wide-number .ensures, g .6 .at i (at-test .loop-test .taken), number-low (listedWord (a .policy .now) (a .words .now)) (a .count) (label (recordAt (a .t .now) i)), g .0 .sorted .words .few, at-make-group .make-group .ensures .packed .long)
 
 mul-next-states-2 : tie.Need-mul-next-states-2 Inv-loop μ-loop
 mul-next-states-2 c =
@@ -172,7 +172,7 @@ loop-again c =
     let m = at-next-states .next-states .result in
     let x = label (recordAt t (l .i)) in
     let w = chain-step ss s t (l .i) (at-wide .wide .result) m (l .st) (at-wide .wide .ensures) (fit t (a .n) (l .i) (g .6 .records) h) (low-level t (a .n) (l .i) (g .6 .records) h) (l .inv .4) (l .inv .5)
-    (λ b e. at-next-states .next-states .ensures (numberIn p (a .words .now) (a .count)) ss b _ x (made .packed) (g .4) (row-at (made .packed) (at-wide-number .wide-number .result) x (at-wide-number .wide-number .ensures ∙ g .6 .at (l .i) h)) e) in
+    (λ b e. at-next-states .next-states .ensures (listedNumber p (a .words .now) (a .count)) ss b _ x (made .packed) (g .4) (row-at (made .packed) (at-wide-number .wide-number .result) x (at-wide-number .wide-number .ensures ∙ g .6 .at (l .i) h)) e) in
     let v = c .settle .ensures .0 ∙ sym (made .says m (getD (l .out) (l .i) 0) (chainOf t (l .i)) (c .settle .ensures .1) (agree q (a .from) (a .to - a .from) m (chainOf t (l .i)) (w .0))) in (
       omega arith,
       simp length-set (l .inv .1),

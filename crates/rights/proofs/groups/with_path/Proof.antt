@@ -7,7 +7,7 @@ use lib.ListN.{length}
 use Rattle.rights.specs.How.Roles.{nameAmong}
 use Rattle.rights.specs.Rights.{Step}
 use Rattle.rights.specs.How.Automaton.{stepsFor}
-use Rattle.rights.specs.How.Vocabulary.{numberIn}
+use Rattle.rights.specs.How.Vocabulary.{listedNumber}
 use Rattle.rights.specs.How.Groups.{Packed}
 use Rattle.rights.proofs.PackedLaws.{path-more, path-length}
 use Rattle.rights.proofs.groups.with_path.Statement.{statement}
@@ -17,7 +17,7 @@ abbrev Inv-loop : tie.InvT-loop
 Inv-loop policy own words n b count used rows₀ m₀ j₀ rows m j =
     (j ≤ count)
     × (length rows ≡ 2113)
-    × ((ss : List Step) → length ss ≡ used → Packed (numberIn policy words n) ss (m₀ .deep) (m₀ .every) rows₀ → Packed (numberIn policy words n) (ss ++ stepsFor (nameAmong policy own) policy b j 0) (m .deep) (m .every) rows)
+    × ((ss : List Step) → length ss ≡ used → Packed (listedNumber policy words n) ss (m₀ .deep) (m₀ .every) rows₀ → Packed (listedNumber policy words n) (ss ++ stepsFor (nameAmong policy own) policy b j 0) (m .deep) (m .every) rows)
 
 abbrev μ-loop : tie.MeasureT-loop
 μ-loop policy own words n b count used rows₀ m₀ j₀ rows m j = count - j

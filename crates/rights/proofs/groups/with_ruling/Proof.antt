@@ -2,7 +2,7 @@ use Prim.Native.Nat.{ℕ}
 use mathlib.Core.Path.{sym, _∙_, ap}
 use native.Mathlib.Omega.{arith}
 use borrow.Author.Needs.{needs}
-use Rattle.rights.specs.How.Vocabulary.{numberIn}
+use Rattle.rights.specs.How.Vocabulary.{listedNumber}
 use Rattle.rights.specs.How.Groups.{rulingAt}
 use Rattle.rights.proofs.GroupLaws.{ruling-added, group-skip}
 use Rattle.rights.proofs.groups.with_ruling.Statement.{statement}
@@ -26,7 +26,7 @@ returns c =
     let start = at-counts .before .before .before .before .before in
     let a = start .args in
     let r = at-with-rule .with-rule .ensures in (
-      (λ i size z g. ruling-added (numberIn (a .policy .now) (a .words .now) (a .n)) (a .policy .now) (a .own .now) (a .roles .now) (a .right) (start .pre .2) i size (a .k) z (sym (at-counts .counts .ensures) ∙ at-if1 .if1 .taken) _ _ _ _ _ _ _ _ _ _ _ _ _ _ g (r .0) (r .1) (r .2) (r .3) (r .4)),
+      (λ i size z g. ruling-added (listedNumber (a .policy .now) (a .words .now) (a .n)) (a .policy .now) (a .own .now) (a .roles .now) (a .right) (start .pre .2) i size (a .k) z (sym (at-counts .counts .ensures) ∙ at-if1 .if1 .taken) _ _ _ _ _ _ _ _ _ _ _ _ _ _ g (r .0) (r .1) (r .2) (r .3) (r .4)),
       r .5,
     )
 
@@ -35,7 +35,7 @@ returns-2 c =
     let at-counts = c .before in let start = at-counts .before .before .before .before .before in
     let a = start .args in
     let q = rulingAt (a .policy .now) (a .own .now) (a .roles .now) (a .right) in (
-      (λ i size z g. group-skip (numberIn (a .policy .now) (a .words .now) (a .n)) q (a .right) i size _ _ _ _ _ _ _ g (ap (λ (m : ℕ). q m .on) z ∙ sym (at-counts .counts .ensures) ∙ c .if1 .left)),
+      (λ i size z g. group-skip (listedNumber (a .policy .now) (a .words .now) (a .n)) q (a .right) i size _ _ _ _ _ _ _ g (ap (λ (m : ℕ). q m .on) z ∙ sym (at-counts .counts .ensures) ∙ c .if1 .left)),
       start .pre .4,
     )
 

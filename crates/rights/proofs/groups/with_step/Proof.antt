@@ -4,7 +4,7 @@ use Rattle.rights.specs.PolicyBytes.{stepOf}
 use Rattle.rights.specs.How.Roles.{nameAmong}
 use Rattle.rights.specs.Rights.{stepFor}
 use Rattle.rights.specs.Table.{recAt}
-use Rattle.rights.specs.How.Vocabulary.{numberIn}
+use Rattle.rights.specs.How.Vocabulary.{listedNumber}
 use Rattle.rights.proofs.Texts.{text-first}
 use Rattle.rights.proofs.PackedLaws.{packed-every, packed-noted, step-deep, step-every, step-own, step-label}
 use Rattle.rights.proofs.groups.with_step.Statement.{statement}
@@ -21,7 +21,7 @@ returns c =
     let s = stepFor (nameAmong p own) (stepOf (recAt p (a .step))) in
     let d = at-is-deep .is-deep .result in (
       (λ ss e k. rw (at-mark-if .mark-if .ensures, at-one-at .one-at .ensures)
-          (packed-every (numberIn p (a .words .now) (a .n)) ss (a .m .deep) (a .m .every) (a .rows .now) k s (a .j) e d (step-deep p own (a .step) d (at-is-deep .is-deep .ensures))
+          (packed-every (listedNumber p (a .words .now) (a .n)) ss (a .m .deep) (a .m .every) (a .rows .now) k s (a .j) e d (step-deep p own (a .step) d (at-is-deep .is-deep .ensures))
           (step-every p own (a .step) (text-first p (a .step) (g .1) ∙ at-if1 .if1 .taken)))),
       g .4,
     )
@@ -39,7 +39,7 @@ returns-2 c =
     let d = at-is-deep .is-deep .result in
     let first = text-first p (a .step) (g .1) in (
       (λ ss e k. rw (at-mark-if .mark-if .ensures)
-          (packed-noted (numberIn p (a .words .now) (a .n)) ss (a .m .deep) (a .m .every) (a .rows .now) k s (a .j) e _ _ (at-note-names .note-names .ensures)
+          (packed-noted (listedNumber p (a .words .now) (a .n)) ss (a .m .deep) (a .m .every) (a .rows .now) k s (a .j) e _ _ (at-note-names .note-names .ensures)
           (step-own p own (a .step) (λ q. at-if1 .if1 .left (sym first ∙ q)) (first ∙ at-if2 .if2 .taken)) d (step-deep p own (a .step) d (at-is-deep .is-deep .ensures)))),
       at-note-names .note-names .ensures .long ∙ g .4,
     )
@@ -65,7 +65,7 @@ returns-3 c =
     let d = at-is-deep .is-deep .result in
     let first = text-first p (a .step) (g .1) in (
       (λ ss e k. rw (at-mark-if .mark-if .ensures)
-          (packed-noted (numberIn p (a .words .now) (a .n)) ss (a .m .deep) (a .m .every) (a .rows .now) k s (a .j) e _ _ (at-note-label .note-label .ensures)
+          (packed-noted (listedNumber p (a .words .now) (a .n)) ss (a .m .deep) (a .m .every) (a .rows .now) k s (a .j) e _ _ (at-note-label .note-label .ensures)
           (step-label p own (a .step) (λ q. at-if1 .if1 .left (sym first ∙ q)) (λ q. at-if2 .if2 .left (sym first ∙ q))) d (step-deep p own (a .step) d (at-is-deep .is-deep .ensures)))),
       at-note-label .note-label .ensures .long ∙ g .4,
     )

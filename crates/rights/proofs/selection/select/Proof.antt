@@ -6,7 +6,8 @@ use native.Mathlib.Omega.{arith}
 use borrow.Author.Needs.{needs}
 use lib.ListN.{length}
 use Rattle.rights.specs.How.Roles.{nameAmong}
-use Rattle.rights.specs.Nodes.{Nodes, viewOf}
+use Rattle.rights.specs.Nodes.{Nodes}
+use Rattle.rights.specs.How.Numbers.{viewOf}
 use Rattle.rights.proofs.PassLaws.{view-length}
 use Rattle.rights.proofs.WalkLaws.{select-done}
 use Rattle.rights.proofs.selection.select.Statement.{statement}

@@ -3,7 +3,7 @@ use mathlib.Core.Path.{_≡_, sym, ap, subst, _∙_, ap₂}
 use native.Mathlib.Omega.{arith}
 use borrow.Author.Needs.{needs}
 use lib.ListN.{getD}
-use Rattle.rights.specs.PolicyBytes.{Text}
+use Rattle.rights.specs.How.Places.{Text}
 use Rattle.rights.specs.Table.{recAt, label}
 use Rattle.rights.specs.How.Vocabulary.{labelOrder}
 use Rattle.rights.proofs.Texts.{text-eq}

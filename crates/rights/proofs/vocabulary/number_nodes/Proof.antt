@@ -4,7 +4,7 @@ use mathlib.Core.Path.{_≡_, refl, _∙_}
 use native.Mathlib.Omega.{arith}
 use lib.ListN.{length, drop, length-set}
 use Rattle.rights.specs.Table.{recordAt, label}
-use Rattle.rights.specs.How.Vocabulary.{numberIn}
+use Rattle.rights.specs.How.Vocabulary.{listedNumber}
 use Rattle.rights.proofs.Chains.{record-text}
 use Rattle.rights.proofs.Eaches.{Done, done-more, drop-more}
 use Rattle.rights.proofs.vocabulary.number_nodes.Statement.{statement}
@@ -15,7 +15,7 @@ Inv-loop policy words count t n numbers₀ i₀ numbers i =
     (i ≤ n)
     × (length numbers ≡ length numbers₀)
     × (drop i numbers ≡ drop i numbers₀)
-    × Done (λ (q x : ℕ). numberIn policy words count (label (recordAt t q))) numbers₀ numbers i
+    × Done (λ (q x : ℕ). listedNumber policy words count (label (recordAt t q))) numbers₀ numbers i
 
 abbrev μ-loop : tie.MeasureT-loop
 μ-loop policy words count t n numbers₀ i₀ numbers i = n - i
@@ -43,7 +43,7 @@ loop-again c =
       omega arith,
       simp length-set (l .inv .1),
       drop-more (a .numbers .now) (l .numbers) (l .i) (l .inv .2) _,
-      done-more (a .numbers .now) (l .numbers) (l .i) (l .inv .2) (λ (q x : ℕ). numberIn (a .policy .now) (a .words .now) (a .count) (label (recordAt (a .t .now) q))) _ (omega arith) (l .inv .3)
+      done-more (a .numbers .now) (l .numbers) (l .i) (l .inv .2) (λ (q x : ℕ). listedNumber (a .policy .now) (a .words .now) (a .count) (label (recordAt (a .t .now) q))) _ (omega arith) (l .inv .3)
           (c .narrow .ensures ∙ at-number-of .number-of .ensures .0),
     )
 

@@ -3,7 +3,7 @@ use mathlib.Core.Path.{_∙_, subst, sym}
 use native.Mathlib.Numerals.{add-one}
 use native.Mathlib.Omega.{arith}
 use borrow.Author.Needs.{needs}
-use Rattle.rights.specs.How.Vocabulary.{Stands, wordAt}
+use Rattle.rights.specs.How.Vocabulary.{Stands, listedWord}
 use Rattle.rights.specs.Table.{recAt, label}
 use Rattle.rights.proofs.VocabularyLaws.{number-found, number-missing}
 use Rattle.rights.proofs.vocabulary.number_of.Statement.{statement}
@@ -14,7 +14,7 @@ returns c =
     let at-search = c .before .before in let start = at-search .before .before .before .before in
     let a = start .args in
     let g = start .pre in
-    let f = wordAt (a .policy .now) (a .words .now) in
+    let f = listedWord (a .policy .now) (a .words .now) in
     let x = label (recAt (a .s .now) (a .at)) in
     let s = subst (Stands f (a .n) x) (c .enum-told .given .1) (at-search .search .ensures) in
     (sym (number-missing f (a .n) (g .0 .sorted) x _ (s .1) (s .2)), omega arith)
@@ -24,7 +24,7 @@ add-result c =
     let at-i = c .before in let at-search = at-i .before .before in let start = at-search .before .before .before .before in
     let a = start .args in
     let g = start .pre in
-    let s = subst (Stands (wordAt (a .policy .now) (a .words .now)) (a .n) (label (recAt (a .s .now) (a .at)))) (at-i .i .given .1) (at-search .search .ensures) in
+    let s = subst (Stands (listedWord (a .policy .now) (a .words .now)) (a .n) (label (recAt (a .s .now) (a .at)))) (at-i .i .given .1) (at-search .search .ensures) in
     omega (arith, s .0, g .0 .few)
 
 returns-2 : tie.Need-returns-2
@@ -32,7 +32,7 @@ returns-2 c =
     let at-i = c .before in let at-search = at-i .before .before in let start = at-search .before .before .before .before in
     let a = start .args in
     let g = start .pre in
-    let f = wordAt (a .policy .now) (a .words .now) in
+    let f = listedWord (a .policy .now) (a .words .now) in
     let x = label (recAt (a .s .now) (a .at)) in
     let s = subst (Stands f (a .n) x) (at-i .i .given .1) (at-search .search .ensures) in
     (add-one _ ∙ sym (number-found f (a .n) (g .0 .sorted) x _ (s .0) (s .1)), omega (arith, s .0))

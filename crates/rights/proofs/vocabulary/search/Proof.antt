@@ -3,7 +3,7 @@ use Prim.Native.Nat.{ℕ, _+_, _-_, _/_, _≤_, _<_}
 use mathlib.Core.Path.{_≡_, sym, _∙_}
 use native.Mathlib.Omega.{arith}
 use Rattle.rights.specs.Table.{recAt, label}
-use Rattle.rights.specs.How.Vocabulary.{labelOrder, wordAt}
+use Rattle.rights.specs.How.Vocabulary.{labelOrder, listedWord}
 use Rattle.rights.proofs.VocabularyLaws.{low-raised, high-lowered, order-most, halved}
 use Rattle.rights.proofs.vocabulary.search.Statement.{statement}
 use Rattle.rights.proofs.vocabulary.search.Tie as tie
@@ -12,8 +12,8 @@ abbrev Inv-loop : tie.InvT-loop
 Inv-loop policy words n s at low₀ high₀ low high =
     (low ≤ high)
     × (high ≤ n)
-    × ((j : ℕ) → j < low → labelOrder (wordAt policy words j) (label (recAt s at)) ≡ 0)
-    × ((j : ℕ) → high ≤ j → j < n → labelOrder (wordAt policy words j) (label (recAt s at)) ≡ 2)
+    × ((j : ℕ) → j < low → labelOrder (listedWord policy words j) (label (recAt s at)) ≡ 0)
+    × ((j : ℕ) → high ≤ j → j < n → labelOrder (listedWord policy words j) (label (recAt s at)) ≡ 2)
 
 abbrev μ-loop : tie.MeasureT-loop
 μ-loop policy words n s at low₀ high₀ low high = high - low
@@ -55,7 +55,7 @@ loop-again c =
     let a = start .args in
     let g = start .pre in
     let l = at-loop .loop in
-    let f = wordAt (a .policy .now) (a .words .now) in
+    let f = listedWord (a .policy .now) (a .words .now) in
     let x = label (recAt (a .s .now) (a .at)) in
     let o = at-compare-word .compare-word .result in
     let e = at-compare-word .compare-word .ensures in

@@ -8,7 +8,8 @@ use borrow.Author.Needs.{needs}
 use lib.ListN.{getD}
 use Rattle.rights.specs.Marks.{bit}
 use Rattle.rights.specs.Policy.{policyWord}
-use Rattle.rights.specs.PolicyBytes.{policyOf, Text}
+use Rattle.rights.specs.PolicyBytes.{policyOf}
+use Rattle.rights.specs.How.Places.{Text}
 use Rattle.rights.specs.Table.{count}
 use Rattle.views.proofs.StoredNodes.{record-text}
 use Rattle.views.proofs.TableFacts.{facts}

@@ -10,7 +10,8 @@ use Rattle.views.proofs.remove.compact.Statement.{statement}
 use Rattle.views.proofs.remove.compact.Tie as tie
 use Rattle.rights.specs.Marks.{marksOf}
 use Rattle.views.specs.Change.{removed, chunks}
-use Rattle.views.specs.How.Pass.{going, Under}
+use Rattle.views.specs.How.Pass.{going}
+use Rattle.views.specs.Nodes.{Under}
 
 abbrev Inv-loop : tie.InvT-loop
 Inv-loop t₀ marks n i₀ w₀ cut₀ t i w cut =

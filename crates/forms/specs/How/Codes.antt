@@ -1,0 +1,54 @@
+-- How the code names words and kinds by numbers.
+use Prim.Native.Nat.{ℕ, _+_, _*_, _-_}
+use mathlib.Core.Bool.{cond}
+use mathlib.Core.List.{List, [], _∷_, _++_, map}
+use lib.Dec.{eqb, leb}
+use Rattle.rights.specs.Labels.{labelByte}
+use Rattle.rights.specs.PathReader.{runAt}
+use Rattle.forms.specs.Word.{labelBytesAt}
+use Rattle.rights.specs.declared.path.Read.{Read}
+use Rattle.rights.specs.declared.path.Read.the-variants.{Bad}
+use Rattle.forms.specs.Part.{runEnd}
+use Rattle.forms.specs.Kind.{partEnd, Label, Path, Tree, Sign, Right, Kind, codeOf}
+use Rattle.rights.specs.Bytes.{byteAt}
+use mathlib.Core.Path.{_≡_}
+use lib.ListN.{length, replicate}
+use Rattle.forms.specs.declared.layout.Word.{Word}
+use Rattle.forms.specs.declared.layout.Layout.{Layout}
+use Rattle.forms.specs.Layout.{shapeOf}
+
+-- The code compares words by textNumber: a text as a textNumber, its first byte lowest. Law numbered-among says that this comes to the same.
+unfoldable pub textNumber : List ℕ → ℕ
+textNumber [] = 0
+textNumber (x ∷ xs) = textNumber xs * 256 + x
+
+unfoldable pub textNumberAt : List ℕ → ℕ → ℕ
+textNumberAt s at = cond (leb (runAt labelByte s at) 8) (textNumber (labelBytesAt s at)) 0
+
+unfoldable pub byNumber : {A : Type 0} → A → List (List ℕ × A) → ℕ → A
+byNumber other [] n = other
+byNumber other ((w, x) ∷ rest) n = cond (eqb n (textNumber w)) x (byNumber other rest n)
+
+-- the place after a part of the kind with a textNumber, or of the form's word; after a space
+unfoldable pub endBy : ℕ → List ℕ → ℕ → Read
+endBy n s at =
+    cond (eqb n 1) (partEnd Label s at)
+    (cond (eqb n 2) (partEnd Path s at)
+    (cond (eqb n 3) (partEnd Tree s at)
+    (cond (eqb n 4) (partEnd Sign s at)
+    (cond (eqb n 5) (partEnd Right s at)
+    (cond (eqb n 6) (runEnd labelByte s at)
+    Bad)))))
+
+abbrev pub oneBy : ℕ → List ℕ → ℕ → Read
+oneBy n s at = cond (eqb (byteAt s at) 32) (endBy n s (at + 1)) Bad
+
+-- a form's kinds by their numbers, as the code has them: at most four, and 0 after the last
+abbrev pub codesOf : List Kind → List ℕ
+codesOf ks = map codeOf ks ++ replicate (1 + (4 - length ks)) 0
+
+-- a word with the kinds of its parts
+pub record LaidOut (w : Word) (r : Layout) : Type 0 where
+  pub word : r .word ≡ w
+  pub kinds : r .kinds ≡ codesOf (shapeOf w)
+  pub size : length (r .kinds) ≡ 5
