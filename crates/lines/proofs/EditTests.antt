@@ -10,7 +10,7 @@ use lib.ListN.{length, getD}
 use Rattle.rights.specs.Labels.{sameLabel}
 use Rattle.rights.specs.Policy.{Policy, some}
 use Rattle.rights.specs.PolicyBytes.{policyOf, subjectCount, isaCount, nameAt, isaN, isaR, namesFrom, isaFrom}
-use Rattle.rights.specs.PolicyBytes as bytes
+use Rattle.rights.specs.How.Places as places
 use Rattle.rights.specs.PolicyCheck.{policyOk}
 use Rattle.lines.specs.PolicyEdit.{subjectFrom, subjectNamed, isLine, isaHeld}
 use Rattle.lines.specs.declared.policy_edit.Found.the-variants.{Subject, Unknown}
@@ -101,7 +101,7 @@ unfolding namesFrom
 names-length p zero i = refl
 names-length p (suc n) i = ap suc (names-length p n (suc i))
 
-pub found-subject : (p x : List ℕ) (u : ℕ) → policyOk p ≡ true → subjectNamed (policyOf p) x ≡ Subject u → bytes.Subject p u
+pub found-subject : (p x : List ℕ) (u : ℕ) → policyOk p ≡ true → subjectNamed (policyOf p) x ≡ Subject u → places.Subject p u
 unfolding policyOf
 found-subject p x u ok e =
     let h : u < subjectCount p = omega (arith, found-named (policyOf p) x u e .0, names-length p (subjectCount p) 0) in

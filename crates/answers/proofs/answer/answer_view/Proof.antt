@@ -8,24 +8,28 @@ use borrow.Author.Needs.{needs}
 use Rattle.answers.proofs.answer.answer_view.Statement.{statement}
 use Rattle.answers.proofs.answer.answer_view.Tie as tie
 
+-- the places further back that answers read
+abbrev to-start : tie.After-surely-fits → tie.Start
+to-start c = c .before .before .before .before
+
 returns : tie.Need-returns
 returns c =
     let at-put-view = c .before .before in let at-if1 = at-put-view .before .before in let at-surely-fits = at-if1 .before in
-    let start = at-surely-fits .before .before .before .before in
+    let start = to-start at-surely-fits in
     let a = start .args in
     answered-surely (viewText (viewOf (a .table .now) (a .shown .now))) (a .area .now) (at-put-view .put-view .last .0) (length (a .shown .now)) _ (at-put-view .put-view .ensures)
     (sym (at-surely-fits .surely-fits .ensures) ∙ at-if1 .if1 .taken)
 
 returns-2 : tie.Need-returns-2
 returns-2 c =
-    let at-put-view2 = c .before .before in let start = at-put-view2 .before .before .before .before .before .before .before in
+    let at-put-view2 = c .before .before in let start = to-start (at-put-view2 .before .before .before) in
     let a = start .args in
     answered-not (viewText (viewOf (a .table .now) (a .shown .now))) (a .area .now) _ (omega (arith, at-put-view2 .put-view2 .ensures .0 .next)) (c .if2 .taken)
 
 returns-3 : tie.Need-returns-3
 returns-3 c =
     let at-put-view3 = c .before .before in let at-put-view2 = at-put-view3 .before .before .before .before in
-    let start = at-put-view2 .before .before .before .before .before .before .before in
+    let start = to-start (at-put-view2 .before .before .before) in
     let a = start .args in
     let p = at-put-view2 .put-view2 .ensures .0 in
     let q = at-put-view3 .put-view3 .ensures .0 in

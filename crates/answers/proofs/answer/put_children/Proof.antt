@@ -18,6 +18,10 @@ Inv-loop area₀ at table shown next₀ i₀ area next i = (i ≤ length shown) 
 abbrev μ-loop : tie.MeasureT-loop
 μ-loop area₀ at table shown next₀ i₀ area next i = length shown - i
 
+-- the places further back that answers read
+abbrev to-start : tie.At-loop Inv-loop μ-loop → tie.Start Inv-loop μ-loop
+to-start c = c .before .before .before .before
+
 loop-holds : tie.Need-loop-holds Inv-loop μ-loop
 loop-holds c =
     let a = c .before .before .before .args in
@@ -25,7 +29,7 @@ loop-holds c =
 
 loop-again : tie.Need-loop-again Inv-loop μ-loop
 loop-again c =
-    let at-put-node = c .before .before in let at-loop = at-put-node .before .before .before in let start = at-loop .before .before .before .before in
+    let at-put-node = c .before .before in let at-loop = at-put-node .before .before .before in let start = to-start at-loop in
     let a = start .args in
     let l = at-loop .loop in
     let n = view-length (a .table .now) (a .shown .now) in
@@ -33,7 +37,7 @@ loop-again c =
 
 returns : tie.Need-returns Inv-loop μ-loop
 returns c =
-    let at-loop = c .before in let start = at-loop .before .before .before .before in
+    let at-loop = c .before in let start = to-start at-loop in
     let a = start .args in
     let l = at-loop .loop in
     let n = view-length (a .table .now) (a .shown .now) in

@@ -19,15 +19,19 @@ Inv-loop area₀ table shown marks at₀ i₀ area at i = (i ≤ length shown) �
 abbrev μ-loop : tie.MeasureT-loop
 μ-loop area₀ table shown marks at₀ i₀ area at i = length shown - i
 
+-- the places further back that answers read
+abbrev to-start : tie.After-shared-slice-known3 Inv-loop μ-loop → tie.Start Inv-loop μ-loop
+to-start c = c .before .before .before .before
+
 loop-holds : tie.Need-loop-holds Inv-loop μ-loop
 loop-holds c =
-    let a = c .before .before .before .before .args in
+    let a = to-start c .args in
     (search needs, search needs, refl, toward-start (hitLines (keep (marksOf (a .marks .now)) (viewOf (a .table .now) (a .shown .now)))) 0 (a .area .now))
 
 loop-again : tie.Need-loop-again Inv-loop μ-loop
 loop-again c =
     let at-put-marked = c .before .before in let at-loop = at-put-marked .before .before .before in
-    let start = at-loop .before .before .before .before .before in
+    let start = to-start (at-loop .before) in
     let a = start .args in
     let l = at-loop .loop in
     let n = view-length (a .table .now) (a .shown .now) in
@@ -35,7 +39,7 @@ loop-again c =
 
 returns : tie.Need-returns Inv-loop μ-loop
 returns c =
-    let at-loop = c .before in let start = at-loop .before .before .before .before .before in
+    let at-loop = c .before in let start = to-start (at-loop .before) in
     let a = start .args in
     let l = at-loop .loop in
     let n = view-length (a .table .now) (a .shown .now) in

@@ -11,6 +11,10 @@ use borrow.Author.Needs.{needs}
 use Rattle.answers.proofs.answer.put_label.Statement.{statement}
 use Rattle.answers.proofs.answer.put_label.Tie as tie
 
+-- the places further back that answers read
+abbrev to-start : tie.After-record-place → tie.Start
+to-start c = c .before .before .before .before .before .before .before
+
 returns : tie.Need-returns
 returns c =
     let at-put-bytes = c .before .before in let start = at-put-bytes .before .before .before .before .before .before .before .before .before in
@@ -19,25 +23,25 @@ returns c =
 
 add-from : tie.Need-add-from
 add-from c =
-    let start = c .before .before .before .before .before .before .before in
+    let start = to-start c in
     let w = start .pre .0 .stands (start .args .i) (omega arith) in
     omega (arith, w .room, c .record-place .ensures)
 
 add-wide : tie.Need-add-wide
 add-wide c =
-    let start = c .before .before .before .before .before .before .before in
+    let start = to-start c in
     let w = start .pre .0 .stands (start .args .i) (omega arith) in
     omega (arith, w .room, c .record-place .ensures)
 
 shared-slice-read-wide : tie.Need-shared-slice-read-wide
 shared-slice-read-wide c =
-    let at-record-place = c .before in let start = at-record-place .before .before .before .before .before .before .before in
+    let at-record-place = c .before in let start = to-start at-record-place in
     let w = start .pre .0 .stands (start .args .i) (omega arith) in
     omega (arith, w .room, at-record-place .record-place .ensures)
 
 add-end : tie.Need-add-end
 add-end c =
-    let at-record-place = c .before .before in let start = at-record-place .before .before .before .before .before .before .before in
+    let at-record-place = c .before .before in let start = to-start at-record-place in
     let w = start .pre .0 .stands (start .args .i) (omega arith) in
     let s = label-short (start .args .table .now) (recordPlace (getD (start .args .shown .now) (start .args .i) 0)) (w .short) (at-record-place .record-place .ensures) (c .wide .ensures) in
     omega (arith, w .room, at-record-place .record-place .ensures)
@@ -45,7 +49,7 @@ add-end c =
 part-put-bytes-end : tie.Need-part-put-bytes-end
 part-put-bytes-end c =
     let at-wide = c .before in let at-record-place = at-wide .before .before in
-    let start = at-record-place .before .before .before .before .before .before .before in
+    let start = to-start at-record-place in
     let w = start .pre .0 .stands (start .args .i) (omega arith) in
     let s = label-short (start .args .table .now) (recordPlace (getD (start .args .shown .now) (start .args .i) 0)) (w .short) (at-record-place .record-place .ensures) (at-wide .wide .ensures) in
     omega (arith, w .room, at-record-place .record-place .ensures)
@@ -53,7 +57,7 @@ part-put-bytes-end c =
 put-bytes-requires-2 : tie.Need-put-bytes-requires-2
 put-bytes-requires-2 c κs =
     let at-wide = c .before .before in let at-record-place = at-wide .before .before in
-    let start = at-record-place .before .before .before .before .before .before .before in
+    let start = to-start at-record-place in
     let w = start .pre .0 .stands (start .args .i) (omega arith) in
     let s = label-short (start .args .table .now) (recordPlace (getD (start .args .shown .now) (start .args .i) 0)) (w .short) (at-record-place .record-place .ensures) (at-wide .wide .ensures) in
     let f = at-record-place .record-place .result + 2 in
@@ -63,7 +67,7 @@ put-bytes-requires-2 c κs =
 returns-2 : tie.Need-returns-2
 returns-2 c =
     let at-put-bytes2 = c .before .before in let at-wide = at-put-bytes2 .before .before .before in let at-record-place = at-wide .before .before in
-    let start = at-record-place .before .before .before .before .before .before .before in
+    let start = to-start at-record-place in
     let a = start .args in
     let w = start .pre .0 .stands (a .i) (omega arith) in
     let s = label-short (start .args .table .now) (recordPlace (getD (start .args .shown .now) (start .args .i) 0)) (w .short) (at-record-place .record-place .ensures) (at-wide .wide .ensures) in

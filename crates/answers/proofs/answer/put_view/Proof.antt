@@ -9,9 +9,13 @@ use borrow.Author.Needs.{needs}
 use Rattle.answers.proofs.answer.put_view.Statement.{statement}
 use Rattle.answers.proofs.answer.put_view.Tie as tie
 
+-- the places further back that answers read
+abbrev to-start : tie.After-shared-slice-known2 → tie.Start
+to-start c = c .before .before .before
+
 returns : tie.Need-returns
 returns c =
-    let at-put-end = c .before .before in let start = at-put-end .before .before .before .before .before .before in
+    let at-put-end = c .before .before in let start = to-start (at-put-end .before .before .before) in
     let a = start .args in
     let n = view-length (a .table .now) (a .shown .now) in
     (rw (view-none (viewOf (a .table .now) (a .shown .now)) (omega arith)) (at-put-end .put-end .ensures .0), omega (arith, at-put-end .put-end .ensures .1))
@@ -19,7 +23,7 @@ returns c =
 returns-2 : tie.Need-returns-2
 returns-2 c =
     let at-put-end2 = c .before .before in let at-put-children = at-put-end2 .before .before .before .before in
-    let at-put-root = at-put-children .before .before .before .before in let start = at-put-root .before .before .before .before .before .before in
+    let at-put-root = at-put-children .before .before .before .before in let start = to-start (at-put-root .before .before .before) in
     let a = start .args in
     let n = view-length (a .table .now) (a .shown .now) in
     let root = at-put-root .put-root .ensures in

@@ -11,6 +11,10 @@ use borrow.Author.Needs.{needs}
 use Rattle.forms.proofs.form.read_form.Statement.{statement}
 use Rattle.forms.proofs.form.read_form.Tie as tie
 
+-- the places further back that answers read
+abbrev to-next-part : tie.After-layout-at → tie.After-next-part
+to-next-part c = c .before .before .before .before
+
 returns : tie.Need-returns
 returns c = unbegun _ _ (past (c .before .before .before .args .s .now) 0 40 (omega arith) (omega arith))
 
@@ -35,14 +39,14 @@ parts-requires c κs =
 
 tree-place-requires : tie.Need-tree-place-requires
 tree-place-requires c κs =
-    let at-parts = c .before .before in let at-layout-at = at-parts .before .before in let at-next-part = at-layout-at .before .before .before .before in
+    let at-parts = c .before .before in let at-layout-at = at-parts .before .before in let at-next-part = to-next-part at-layout-at in
     let x = at-parts .parts .ensures in
     (self (at-layout-at .layout-at .ensures), (x .1, λ i. omega (arith, x .0 .inside (c .before .if3 .taken) i, at-next-part)))
 
 build-requires : tie.Need-build-requires
 build-requires c κs =
     let at-if3 = c .before .before .before .before .before .before .before in let at-parts = at-if3 .before in
-    let at-next-part = at-parts .before .before .before .before .before .before in
+    let at-next-part = to-next-part (at-parts .before .before) in
     let x = at-parts .parts .ensures in
     let inside = x .0 .inside (at-if3 .if3 .taken) in
     ((x .1, λ i. omega (arith, inside i, at-next-part)), inside)

@@ -7,6 +7,10 @@ use borrow.Author.Needs.{needs}
 use Rattle.forms.proofs.tree.open_end.Statement.{statement}
 use Rattle.forms.proofs.tree.open_end.Tie as tie
 
+-- the places further back that answers read
+abbrev to-start : tie.After-shared-slice-known2 → tie.Start
+to-start c = c .before .before .before
+
 returns : tie.Need-returns
 returns c =
     let s : List ℕ = c .before .before .args .s .now in
@@ -15,14 +19,14 @@ returns c =
 
 returns-2 : tie.Need-returns-2
 returns-2 c =
-    let start = c .before .before .before .before in
+    let start = to-start (c .before) in
     let s : List ℕ = start .args .s .now in
     let at : ℕ = start .args .at in
     bad-onward _ _ (open-not s at (c .if2 .taken))
 
 returns-3 : tie.Need-returns-3
 returns-3 c =
-    let at-if2 = c .before in let start = at-if2 .before .before .before .before in
+    let at-if2 = c .before in let start = to-start (at-if2 .before) in
     let s : List ℕ = start .args .s .now in
     let at : ℕ = start .args .at in
     earlier _ _ _ (open-label s at (at-if2 .if2 .left)) (omega arith) (c .label-part-end .ensures)

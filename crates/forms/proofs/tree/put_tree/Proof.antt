@@ -8,6 +8,13 @@ use borrow.Author.Needs.{needs}
 use Rattle.forms.proofs.tree.put_tree.Statement.{statement}
 use Rattle.forms.proofs.tree.put_tree.Tie as tie
 
+-- the places further back that answers read
+abbrev to-put-node : tie.After-put-tail-arg2 → tie.After-put-node
+to-put-node c = c .before .before .before .before
+
+abbrev to-e : tie.After-slice-known2 → tie.After-e
+to-e c = c .before .before .before .before .before
+
 returns : tie.Need-returns
 returns c =
     let at-open-end = c .before .before in let start = at-open-end .before .before .before in
@@ -43,21 +50,21 @@ put-node-requires c κs =
 
 sub-put-tail : tie.Need-sub-put-tail
 sub-put-tail c =
-    let at-e = c .before .before .before .before .before in let at-open-end = at-e .before .before in
+    let at-e = to-e c in let at-open-end = at-e .before .before in
     let e : ℕ = at-e .e .given .0 .0 in
     let hi = at-open-end .open-end .ensures .on e (at-e .e .given .1) in
     omega arith
 
 part-put-tail-start : tie.Need-part-put-tail-start
 part-put-tail-start c =
-    let at-e = c .before .before .before .before .before in let at-open-end = at-e .before .before in
+    let at-e = to-e c in let at-open-end = at-e .before .before in
     let e : ℕ = at-e .e .given .0 .0 in
     let hi = at-open-end .open-end .ensures .on e (at-e .e .given .1) in
     omega arith
 
 put-tail-requires : tie.Need-put-tail-requires
 put-tail-requires c κs =
-    let at-put-node = c .before .before .before .before in let at-e = at-put-node .before .before .before in let at-open-end = at-e .before .before in
+    let at-put-node = to-put-node c in let at-e = at-put-node .before .before .before in let at-open-end = at-e .before .before in
     let start = at-open-end .before .before .before in
     let s : List ℕ = start .args .s .now in
     let at : ℕ = start .args .at in
@@ -71,7 +78,7 @@ put-tail-requires c κs =
 
 returns-2 : tie.Need-returns-2
 returns-2 c =
-    let at-put-tail = c .before .before in let at-put-node = at-put-tail .before .before .before .before .before in
+    let at-put-tail = c .before .before in let at-put-node = to-put-node (at-put-tail .before) in
     let at-e = at-put-node .before .before .before in let at-open-end = at-e .before .before in let start = at-open-end .before .before .before in
     let s : List ℕ = start .args .s .now in
     let at : ℕ = start .args .at in

@@ -39,6 +39,10 @@ record-known : (c : tie.In-loop Inv-loop μ-loop)
     → Text (table (c .before)) (4 + c .before .loop .i * 32) × (getD (table (c .before)) (4 + c .before .loop .i * 32) 0 < 12)
 record-known c = record-text (table (c .before)) (start (c .before .before) .pre .1) (c .before .loop .i) (omega arith)
 
+-- the places further back that answers read
+abbrev to-in-loop : tie.After-is-set2 Inv-loop μ-loop → tie.In-loop Inv-loop μ-loop
+to-in-loop c = c .before .before .before .before .before .before .before
+
 count-of-requires : tie.Need-count-of-requires Inv-loop μ-loop
 count-of-requires c κs = facts _ (c .before .before .before .before .before .before .before .pre .1) .head
 
@@ -79,13 +83,13 @@ array-read-is-set-2 c =
 
 is-done-requires : tie.Need-is-done-requires Inv-loop μ-loop
 is-done-requires c κs =
-    let in-loop = c .before .before .before .before .before .before .before in
+    let in-loop = to-in-loop c in
     (start (in-loop .before .before) .pre .0, record-known in-loop .0)
 
 next-of-requires : tie.Need-next-of-requires Inv-loop μ-loop
 next-of-requires c κs =
     let at-is-done = c .before .before .before .before .before .before .before .before in
-    let in-loop = at-is-done .before .before .before .before .before .before .before .before in
+    let in-loop = to-in-loop (at-is-done .before) in
     omega (arith, in-loop .before .loop .inv .1 .behind, in-loop .loop-test .taken)
 
 loop-again : tie.Need-loop-again Inv-loop μ-loop

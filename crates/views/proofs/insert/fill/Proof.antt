@@ -3,9 +3,13 @@ use borrow.Author.Needs.{needs}
 use Rattle.views.proofs.insert.fill.Statement.{statement}
 use Rattle.views.proofs.insert.fill.Tie as tie
 
+-- the places further back that answers read
+abbrev to-start : tie.After-shift-up → tie.Start
+to-start c = c .before .before .before .before .before
+
 spread-by-requires : tie.Need-spread-by-requires
 spread-by-requires c κs =
-    let at-shift-up = c .before .before .before in let s = at-shift-up .before .before .before .before .before in
+    let at-shift-up = c .before .before .before in let s = to-start at-shift-up in
     let a = s .args in
     let u = at-shift-up .shift-up in
     place-asks (a .place) (a .n) (a .gap) (a .m) (a .t .now) (u .last .0) (a .marks .now) (a .tree .now) (s .pre .0) (u .ensures) (search needs) (s .pre .1 .1) (s .pre .1 .2) (s .pre .1 .3)
@@ -14,7 +18,7 @@ returns : tie.Need-returns
 returns c =
     let at-put-count = c .before .before in let at-clear-from = at-put-count .before .before .before .before in
     let at-spread-by = at-clear-from .before .before .before .before in let at-shift-up = at-spread-by .before .before .before .before in
-    let s = at-shift-up .before .before .before .before .before in
+    let s = to-start at-shift-up in
     let a = s .args in
     let u = at-shift-up .shift-up in
     let q = at-spread-by .spread-by in

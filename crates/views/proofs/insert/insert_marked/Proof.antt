@@ -6,9 +6,13 @@ use borrow.Author.Needs.{needs}
 use Rattle.views.proofs.insert.insert_marked.Statement.{statement}
 use Rattle.views.proofs.insert.insert_marked.Tie as tie
 
+-- the places further back that answers read
+abbrev to-start : tie.After-count-of-arg → tie.Start
+to-start c = c .before .before .before .before
+
 count-of-requires : tie.Need-count-of-requires
 count-of-requires c κs =
-    let start = c .before .before .before .before in
+    let start = to-start c in
     omega (arith, facts (start .args .t .now) (start .pre .0 .0) .head)
 
 count-marks-requires : tie.Need-count-marks-requires
@@ -16,7 +20,7 @@ count-marks-requires c κs = search needs
 
 mul-gap : tie.Need-mul-gap
 mul-gap c =
-    let at-count-of = c .before in let s = at-count-of .before .before .before .before .before in
+    let at-count-of = c .before in let s = to-start (at-count-of .before) in
     let a = s .args in
     let n = at-count-of .count-of in
     let k = c .count-marks in
@@ -24,7 +28,7 @@ mul-gap c =
 
 fill-requires : tie.Need-fill-requires
 fill-requires c κs =
-    let at-count-marks = c .before in let at-count-of = at-count-marks .before in let s = at-count-of .before .before .before .before .before in
+    let at-count-marks = c .before in let at-count-of = at-count-marks .before in let s = to-start (at-count-of .before) in
     let a = s .args in
     let n = at-count-of .count-of in
     let k = at-count-marks .count-marks in
@@ -36,7 +40,7 @@ same-length c = search needs
 returns : tie.Need-returns
 returns c =
     let at-fill = c .before .before in let at-count-of = at-fill .before .before .before in
-    let start = at-count-of .before .before .before .before .before in
+    let start = to-start (at-count-of .before) in
     let a = start .args in
     let n = at-count-of .count-of in
     let e = rw (n .ensures, ← all-chunks (a .t .now)) at (at-fill .fill .ensures) in e

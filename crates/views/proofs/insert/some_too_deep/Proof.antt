@@ -17,19 +17,23 @@ Inv-loop t marks n deep i₀ i =
 abbrev μ-loop : tie.MeasureT-loop
 μ-loop t marks n deep i₀ i = n - i
 
+-- the places further back that answers read
+abbrev to-loop : tie.After-is-too-deep Inv-loop μ-loop → tie.At-loop Inv-loop μ-loop
+to-loop c = c .before .before .before .before
+
 loop-holds : tie.Need-loop-holds Inv-loop μ-loop
 loop-holds c = let a = c .before .before .args in (omega arith, deep-first (a .deep) (a .n) (a .t .now) (a .marks .now))
 
 returns : tie.Need-returns Inv-loop μ-loop
 returns c =
-    let at-is-too-deep = c .before in let at-loop = at-is-too-deep .before .before .before .before in let start = at-loop .before .before .before in
+    let at-is-too-deep = c .before in let at-loop = to-loop at-is-too-deep in let start = at-loop .before .before .before in
     let l = at-loop .loop in
     let a = start .args in
     deep-stop (a .deep) (a .n) (l .i) (a .t .now) (a .marks .now) (omega arith) (omega arith) (sym (at-is-too-deep .is-too-deep .ensures) ∙ c .if1 .taken) ∙ sym (l .inv .1)
 
 loop-again : tie.Need-loop-again Inv-loop μ-loop
 loop-again c =
-    let at-is-too-deep = c .before in let at-loop = at-is-too-deep .before .before .before .before in let start = at-loop .before .before .before in
+    let at-is-too-deep = c .before in let at-loop = to-loop at-is-too-deep in let start = at-loop .before .before .before in
     let l = at-loop .loop in
     let a = start .args in
     (omega arith, l .inv .1 ∙ deep-step (a .deep) (a .n) (l .i) (a .t .now) (a .marks .now) (omega arith) (omega arith) (sym (at-is-too-deep .is-too-deep .ensures) ∙ c .if1 .left))

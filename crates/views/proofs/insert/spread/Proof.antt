@@ -17,6 +17,10 @@ Inv-loop t₀ marks tree m up n gap st₀ i₀ w₀ d₀ t st i w d =
 abbrev μ-loop : tie.MeasureT-loop
 μ-loop t₀ marks tree m up n gap st₀ i₀ w₀ d₀ t st i w d = n - i + (n - i) + d
 
+-- the places further back that answers read
+abbrev to-start : tie.At-loop Inv-loop μ-loop → tie.Start Inv-loop μ-loop
+to-start c = c .before .before .before .before
+
 loop-holds : tie.Need-loop-holds Inv-loop μ-loop
 loop-holds c =
     let s = c .before .before .before in
@@ -28,14 +32,14 @@ loop-holds c =
 
 add-loop : tie.Need-add-loop Inv-loop μ-loop
 add-loop c =
-    let s = c .before .before .before .before in
+    let s = to-start c in
     let a = s .args in
     let l = c .loop in
     record { fits = omega (arith, depth (a .n) (a .gap) (a .up) (a .m) (l .i) (l .d) (a .tree .now) (a .marks .now) (l .t) (l .st) (l .inv .0), s .pre .0 .0 .size) }
 
 turn-requires : tie.Need-turn-requires Inv-loop μ-loop
 turn-requires c κs =
-    let at-loop = c .before .before .before in let s = at-loop .before .before .before .before in
+    let at-loop = c .before .before .before in let s = to-start at-loop in
     let a = s .args in
     let l = at-loop .loop in (
       (fixed-same (a .n) (a .gap) (a .m) (a .t .now) (l .t) (a .marks .now) (a .tree .now) (l .inv .1) (s .pre .0 .0), s .pre .0 .1),
@@ -51,7 +55,7 @@ loop-again c =
 
 returns : tie.Need-returns Inv-loop μ-loop
 returns c =
-    let at-loop = c .before in let s = at-loop .before .before .before .before in
+    let at-loop = c .before in let s = to-start at-loop in
     let a = s .args in
     let l = at-loop .loop in
     ends (a .n) (a .gap) (a .up) (a .m) (a .tree .now) (a .marks .now) (l .t) (l .st) (l .i) (l .w) (l .d) _ (l .inv .0 .place) (omega arith) (l .inv .2) (s .pre .1 .2)

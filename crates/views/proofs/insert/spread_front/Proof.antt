@@ -19,6 +19,10 @@ Inv-loop t₀ marks tree m n gap i₀ w₀ t i w =
 abbrev μ-loop : tie.MeasureT-loop
 μ-loop t₀ marks tree m n gap i₀ w₀ t i w = n - i
 
+-- the places further back that answers read
+abbrev to-start : tie.At-loop Inv-loop μ-loop → tie.Start Inv-loop μ-loop
+to-start c = c .before .before .before .before
+
 loop-holds : tie.Need-loop-holds Inv-loop μ-loop
 loop-holds c =
     let s = c .before .before .before in
@@ -27,7 +31,7 @@ loop-holds c =
 
 step-front-requires : tie.Need-step-front-requires Inv-loop μ-loop
 step-front-requires c κs =
-    let at-loop = c .before .before in let s = at-loop .before .before .before .before in
+    let at-loop = c .before .before in let s = to-start at-loop in
     let a = s .args in
     let l = at-loop .loop in (
       fixed-same (a .n) (a .gap) (a .m) (a .t .now) (l .t) (a .marks .now) (a .tree .now) (l .inv .2) (s .pre .0),
@@ -43,7 +47,7 @@ loop-again c =
 
 returns : tie.Need-returns Inv-loop μ-loop
 returns c =
-    let at-loop = c .before in let s = at-loop .before .before .before .before in
+    let at-loop = c .before in let s = to-start at-loop in
     let a = s .args in
     let l = at-loop .loop in
     ends-front (a .n) (a .gap) (a .m) (a .tree .now) (a .marks .now) (l .t) (l .i) (l .w) _ (omega arith) (l .inv .3) (s .pre .1 .1)

@@ -4,16 +4,20 @@ use borrow.Author.Needs.{needs}
 use Rattle.views.proofs.insert.step_front.Statement.{statement}
 use Rattle.views.proofs.insert.step_front.Tie as tie
 
+-- the places further back that answers read
+abbrev to-start : tie.After-tree-in-front-arg → tie.Start
+to-start c = c .before .before .before .before .before
+
 tree-in-front-requires : tie.Need-tree-in-front-requires
 tree-in-front-requires c κs =
-    let s = c .before .before .before .before .before in
+    let s = to-start c in
     let a = s .args in
     front-asks (a .n) (a .gap) (a .m) (a .i) (a .w) (a .t .now) (a .marks .now) (a .tree .now) (s .pre .0) (s .pre .1 .0) (s .pre .1 .1) (s .pre .1 .2) _ refl
 
 returns : tie.Need-returns
 returns c =
     let at-move-record = c .before .before in let at-tree-in-front = at-move-record .before .before .before .before in
-    let s = at-tree-in-front .before .before .before .before .before .before in
+    let s = to-start (at-tree-in-front .before) in
     let a = s .args in
     let f = at-tree-in-front .tree-in-front in
     let g = at-move-record .move-record in (

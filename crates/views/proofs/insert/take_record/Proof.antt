@@ -6,16 +6,23 @@ use borrow.Author.Needs.{needs}
 use Rattle.views.proofs.insert.take_record.Statement.{statement}
 use Rattle.views.proofs.insert.take_record.Tie as tie
 
+-- the places further back that answers read
+abbrev to-move-record : tie.After-shared-slice-known2 → tie.After-move-record
+to-move-record c = c .before .before .before
+
+abbrev to-start : tie.After-move-record → tie.Start
+to-start c = c .before .before .before .before .before
+
 returns : tie.Need-returns
 returns c =
-    let at-move-record = c .before .before .before .before in let start = at-move-record .before .before .before .before .before in
+    let at-move-record = to-move-record (c .before) in let start = to-start at-move-record in
     let a = start .args in
     let e = at-move-record .move-record .ensures in
     ((refl, refl, omega arith, push-marked (getD (a .marks .now) (a .i) 0) (a .l) (a .d) (a .st .now) (c .if1 .taken) (omega arith)), e)
 
 returns-2 : tie.Need-returns-2
 returns-2 c =
-    let at-move-record = c .before .before .before .before in let start = at-move-record .before .before .before .before .before in
+    let at-move-record = to-move-record (c .before) in let start = to-start at-move-record in
     let a = start .args in
     let e = at-move-record .move-record .ensures in
     ((refl, refl, omega arith, push-plain (getD (a .marks .now) (a .i) 0) (a .l) (a .d) (a .st .now) (search needs)), e)

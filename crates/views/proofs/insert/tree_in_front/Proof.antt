@@ -8,12 +8,16 @@ use borrow.Author.Needs.{needs}
 use Rattle.views.proofs.insert.tree_in_front.Statement.{statement}
 use Rattle.views.proofs.insert.tree_in_front.Tie as tie
 
+-- the places further back that answers read
+abbrev to-start : tie.After-shared-slice-known3 → tie.Start
+to-start c = c .before .before .before .before
+
 shared-slice-read-if1 : tie.Need-shared-slice-read-if1
 shared-slice-read-if1 c = search needs
 
 put-tree-requires : tie.Need-put-tree-requires
 put-tree-requires c κs =
-    let at-if1 = c .before in let s = at-if1 .before .before .before .before .before in
+    let at-if1 = c .before in let s = to-start (at-if1 .before) in
     let r = s .pre .1 .0 (at-if1 .if1 .taken) in
     (omega (arith, r), search needs, λ j h. omega (arith, s .pre .1 .1 (at-if1 .if1 .taken) j h))
 
@@ -25,7 +29,7 @@ same-length c = search needs
 
 returns : tie.Need-returns
 returns c =
-    let at-put-tree = c .before .before in let at-if1 = at-put-tree .before .before in let s = at-if1 .before .before .before .before .before in
+    let at-put-tree = c .before .before in let at-if1 = at-put-tree .before .before in let s = to-start (at-if1 .before) in
     let a = s .args in
     let f = at-put-tree .put-tree in
     let z = at-if1 .if1 .taken in
@@ -37,7 +41,7 @@ returns c =
 
 returns-2 : tie.Need-returns-2
 returns-2 c =
-    let start = c .before .before .before .before .before in
+    let start = to-start (c .before) in
     let a = start .args in
     (search needs, no-tree (getD (a .marks .now) (a .i) 0) (a .l) (a .w) (a .m) (a .t .now) (a .tree .now) (c .if1 .left), refl)
 

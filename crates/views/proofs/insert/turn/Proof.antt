@@ -5,15 +5,19 @@ use borrow.Author.Needs.{needs}
 use Rattle.views.proofs.insert.turn.Statement.{statement}
 use Rattle.views.proofs.insert.turn.Tie as tie
 
+-- the places further back that answers read
+abbrev to-start : tie.After-is-due-arg → tie.Start
+to-start c = c .before .before .before .before .before .before .before
+
 is-due-requires : tie.Need-is-due-requires
 is-due-requires c κs =
-    let s = c .before .before .before .before .before .before .before in
+    let s = to-start c in
     let a = s .args in
     omega (arith, depth (a .n) (a .gap) (a .up) (a .m) (a .i) (a .d) (a .tree .now) (a .marks .now) (a .t .now) (a .st .now) (s .pre .1 .0), s .pre .1 .0 .room)
 
 flush-tree-requires : tie.Need-flush-tree-requires
 flush-tree-requires c κs =
-    let at-if1 = c .before .before in let s = at-if1 .before .before .before .before .before .before .before .before .before in
+    let at-if1 = c .before .before in let s = to-start (at-if1 .before .before) in
     let a = s .args in
     let x = at-if1 .before .before .before in
     let y = at-if1 .before in
@@ -21,7 +25,7 @@ flush-tree-requires c κs =
 
 returns : tie.Need-returns
 returns c =
-    let at-flush-tree = c .before .before in let at-if1 = at-flush-tree .before .before .before in let s = at-if1 .before .before .before .before .before .before .before .before .before in
+    let at-flush-tree = c .before .before in let at-if1 = at-flush-tree .before .before .before in let s = to-start (at-if1 .before .before) in
     let a = s .args in
     let x = at-if1 .before .before .before in
     let y = at-if1 .before in
@@ -31,7 +35,7 @@ returns c =
 
 take-record-requires : tie.Need-take-record-requires
 take-record-requires c κs =
-    let at-if1 = c .before .before in let s = at-if1 .before .before .before .before .before .before .before .before .before in
+    let at-if1 = c .before .before in let s = to-start (at-if1 .before .before) in
     let a = s .args in
     let x = at-if1 .before .before .before in
     let y = at-if1 .before in
@@ -40,7 +44,7 @@ take-record-requires c κs =
 returns-2 : tie.Need-returns-2
 returns-2 c =
     let at-take-record = c .before .before .before .before in let at-if1 = at-take-record .before .before .before in
-    let s = at-if1 .before .before .before .before .before .before .before .before .before in
+    let s = to-start (at-if1 .before .before) in
     let a = s .args in
     let x = at-if1 .before .before .before in
     let y = at-if1 .before in

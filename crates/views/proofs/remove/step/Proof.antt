@@ -4,6 +4,10 @@ use borrow.Author.Needs.{needs}
 use Rattle.views.proofs.remove.step.Statement.{statement}
 use Rattle.views.proofs.remove.step.Tie as tie
 
+-- the places further back that answers read
+abbrev to-start : tie.After-shared-slice-known2 → tie.Start
+to-start c = c .before .before .before .before .before
+
 returns : tie.Need-returns
 returns c =
     let start = c .before .before .before .before in
@@ -13,14 +17,14 @@ returns c =
 
 returns-2 : tie.Need-returns-2
 returns-2 c =
-    let start = c .before .before .before .before .before .before in
+    let start = to-start (c .before) in
     let a = start .args in
     let r = step-marked (a .n) (a .i) (a .cut) (a .w) (a .t .now) (a .marks .now) (omega arith) (omega arith) (omega arith) (c .if2 .taken) (start .pre .4) in
     (search needs, r .0, r .1)
 
 returns-3 : tie.Need-returns-3
 returns-3 c =
-    let at-move-record = c .before .before in let start = at-move-record .before .before .before .before .before .before .before .before in
+    let at-move-record = c .before .before in let start = to-start (at-move-record .before .before .before) in
     let a = start .args in
     let m = at-move-record .move-record in
     let r = step-kept (a .n) (a .i) (a .cut) (a .w) (a .t .now) (a .marks .now) (omega arith) (omega arith) (m .last .0) (omega arith) (omega arith) (m .ensures .0) (m .ensures .1) (omega arith) (search needs)

@@ -18,6 +18,10 @@ Inv-loop t₀ marks s from to n i₀ t i =
 abbrev μ-loop : tie.MeasureT-loop
 μ-loop t₀ marks s from to n i₀ t i = n - i
 
+-- the places further back that answers read
+abbrev to-start : tie.At-loop Inv-loop μ-loop → tie.Start Inv-loop μ-loop
+to-start c = c .before .before .before .before
+
 loop-holds : tie.Need-loop-holds Inv-loop μ-loop
 loop-holds c =
     let a = c .before .before .before .args in
@@ -26,7 +30,7 @@ loop-holds c =
 loop-again : tie.Need-loop-again Inv-loop μ-loop
 loop-again c =
     let at-rename-one = c .before .before in let at-loop = at-rename-one .before .before .before in
-    let start = at-loop .before .before .before .before in
+    let start = to-start at-loop in
     let a = start .args in
     let l = at-loop .loop in
     let f = at-rename-one .rename-one in (
@@ -39,7 +43,7 @@ loop-again c =
 
 returns : tie.Need-returns Inv-loop μ-loop
 returns c =
-    let at-loop = c .before in let start = at-loop .before .before .before .before in
+    let at-loop = c .before in let start = to-start at-loop in
     let a = start .args in
     let l = at-loop .loop in
     let e : l .i ≡ a .n = omega arith in

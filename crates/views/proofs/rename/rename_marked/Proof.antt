@@ -12,14 +12,18 @@ use borrow.Author.Needs.{needs}
 use Rattle.views.proofs.rename.rename_marked.Statement.{statement}
 use Rattle.views.proofs.rename.rename_marked.Tie as tie
 
+-- the places further back that answers read
+abbrev to-start : tie.After-count-of-arg → tie.Start
+to-start c = c .before .before .before .before
+
 count-of-requires : tie.Need-count-of-requires
 count-of-requires c κs =
-    let start = c .before .before .before .before in
+    let start = to-start c in
     omega (arith, facts (start .args .t .now) (start .pre .0 .0) .head)
 
 rename-all-requires : tie.Need-rename-all-requires
 rename-all-requires c κs =
-    let at-count-of = c .before in let s = at-count-of .before .before .before .before .before in
+    let at-count-of = c .before in let s = to-start (at-count-of .before) in
     let f = facts (s .args .t .now) (s .pre .0 .0) in
     let e = at-count-of .count-of .ensures in
     (omega (arith, e, f .size), omega (arith, e, s .pre .0 .1), s .pre .1 .0, s .pre .1 .1, s .pre .1 .2)

@@ -9,9 +9,13 @@ use borrow.Author.Needs.{needs}
 use Rattle.views.proofs.rename.rename_one.Statement.{statement}
 use Rattle.views.proofs.rename.rename_one.Tie as tie
 
+-- the places further back that answers read
+abbrev to-start : tie.After-shared-slice-known3 → tie.Start
+to-start c = c .before .before .before .before
+
 returns : tie.Need-returns
 returns c =
-    let at-put-label = c .before .before in let at-if1 = at-put-label .before .before in let start = at-if1 .before .before .before .before .before in
+    let at-put-label = c .before .before in let at-if1 = at-put-label .before .before in let start = to-start (at-if1 .before) in
     let a = start .args in
     let e = at-put-label .put-label in
     let lab = take (a .to - a .from) (drop (a .from) (a .s .now)) in
@@ -24,7 +28,7 @@ returns c =
 
 returns-2 : tie.Need-returns-2
 returns-2 c =
-    let start = c .before .before .before .before .before in
+    let start = to-start (c .before) in
     let a = start .args in
     (old-label (getD (a .marks .now) (a .i) 0) (a .i) (a .t .now) (relabel (take (a .to - a .from) (drop (a .from) (a .s .now))) (take 32 (drop (4 + a .i * 32) (a .t .now)))) (c .if1 .left), refl)
 

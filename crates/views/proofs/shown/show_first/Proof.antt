@@ -12,20 +12,24 @@ Inv-loop table n rights shown₀ depth₀ k₀ i₀ shown depth k i = Showing ta
 abbrev μ-loop : tie.MeasureT-loop
 μ-loop table n rights shown₀ depth₀ k₀ i₀ shown depth k i = n - i
 
+-- the places further back that answers read
+abbrev to-start : tie.At-loop Inv-loop μ-loop → tie.Start Inv-loop μ-loop
+to-start c = c .before .before .before .before
+
 loop-holds : tie.Need-loop-holds Inv-loop μ-loop
 loop-holds c = (omega arith, omega arith, refl, refl, refl)
 
 loop-again : tie.Need-loop-again Inv-loop μ-loop
 loop-again c =
     let at-put = c .before .before .before in let at-number-of = at-put .before .before in let at-is-shown = at-number-of .before in
-    let at-loop = at-is-shown .before .before .before .before in let start = at-loop .before .before .before .before in
+    let at-loop = at-is-shown .before .before .before .before in let start = to-start at-loop in
     let a = start .args in
     let l = at-loop .loop in
     showing-more (a .table .now) (a .rights .now) (a .shown .now) (a .n) (l .shown) _ (l .depth) (l .k) (l .i) _ _ (at-number-of .number-of .result) (at-is-shown .is-shown .result) (omega arith) (omega arith) (omega arith) (l .inv) (at-is-shown .is-shown .ensures) (at-number-of .number-of .ensures) (at-put .put .ensures .0) (at-put .put .ensures .1) (c .depth-after .ensures)
 
 returns : tie.Need-returns Inv-loop μ-loop
 returns c =
-    let at-loop = c .before in let start = at-loop .before .before .before .before in
+    let at-loop = c .before in let start = to-start at-loop in
     let a = start .args in
     let l = at-loop .loop in
     showing-end (a .table .now) (a .rights .now) (a .shown .now) (a .n) (l .shown) (l .depth) (l .k) (l .i) (omega arith) (omega arith) (l .inv)
