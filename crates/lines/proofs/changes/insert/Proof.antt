@@ -14,14 +14,24 @@ use borrow.Author.Needs.{needs}
 use Rattle.lines.proofs.changes.insert.Statement.{statement}
 use Rattle.lines.proofs.changes.insert.Tie as tie
 
+-- the places further back that answers read
+abbrev to-count-of : tie.After-insert-done-arg3 → tie.After-count-of
+to-count-of c = c .before .before .before .before
+
+abbrev to-start-from-mark-change : tie.After-mark-change → tie.Start
+to-start-from-mark-change c = c .before .before .before .before .before .before .before .before .before .before .before
+
+abbrev to-start-from-slice-known2 : tie.After-slice-known2 → tie.Start
+to-start-from-slice-known2 c = c .before .before .before .before .before
+
 tree-refusal-requires : tie.Need-tree-refusal-requires
 tree-refusal-requires c κs =
-    let start = c .before .before .before .before .before in
+    let start = to-start-from-slice-known2 c in
     (omega (arith, store-held _ _ (start .pre .0) .size), start .pre .1)
 
 returns : tie.Need-returns
 returns c =
-    let at-tree-refusal = c .before in let start = at-tree-refusal .before .before .before .before .before .before in
+    let at-tree-refusal = c .before in let start = to-start-from-slice-known2 (at-tree-refusal .before) in
     let a = start .args in
     performs-refused _ _ _
     (first-front (treeChecks (a .state .now) (a .path .now) (a .m) (a .tree .now)) (insertChecks (a .place) (doneIn (changeAt (a .place)) (a .state .now) (a .table .now) (a .path .now)) (a .m) (a .tree .now) (a .table .now)) _ (at-tree-refusal .tree-refusal .ensures) (c .if1 .taken)) (c .if1 .taken)
@@ -29,27 +39,27 @@ returns c =
 mark-change-requires : tie.Need-mark-change-requires
 mark-change-requires c κs =
     let at-if1 = c .before .before .before in let at-tree-refusal = at-if1 .before in
-    let start = at-tree-refusal .before .before .before .before .before .before in
+    let start = to-start-from-slice-known2 (at-tree-refusal .before) in
     let a = start .args in
     let p = passed (treeChecks (a .state .now) (a .path .now) (a .m) (a .tree .now)) _ refl (at-tree-refusal .tree-refusal .ensures) (at-if1 .if1 .left) in
     (start .pre .0, (p .0, (p .1 .0, tt)), refl {a = 16384})
 
 count-of-requires : tie.Need-count-of-requires
 count-of-requires c κs =
-    let start = c .before .before .before .before .before .before .before .before .before .before .before .before .before in
+    let start = to-start-from-mark-change (c .before .before) in
     table-long _ (store-held _ _ (start .pre .0) .table)
 
 part-insert-done-end : tie.Need-part-insert-done-end
 part-insert-done-end c =
     let at-count-of = c .before .before in let at-mark-change = at-count-of .before .before .before in
-    let start = at-mark-change .before .before .before .before .before .before .before .before .before .before .before in
+    let start = to-start-from-mark-change at-mark-change in
     let a = start .args in
     done-reach _ (a .state .now) (a .table .now) (a .path .now) (replicate 16384 0) _ _ _ (at-mark-change .mark-change .ensures) (at-count-of .count-of .ensures)
 
 insert-done-requires : tie.Need-insert-done-requires
 insert-done-requires c κs =
-    let at-count-of = c .before .before .before .before in let at-mark-change = at-count-of .before .before .before in
-    let start = at-mark-change .before .before .before .before .before .before .before .before .before .before .before in
+    let at-count-of = to-count-of c in let at-mark-change = at-count-of .before .before .before in
+    let start = to-start-from-mark-change at-mark-change in
     let a = start .args in
     let g = start .pre in
     let k = store-held (a .state .now) (a .table .now) (g .0) in
@@ -57,10 +67,10 @@ insert-done-requires c κs =
 
 returns-2 : tie.Need-returns-2
 returns-2 c =
-    let at-insert-done = c .before .before .before .before in let at-count-of = at-insert-done .before .before .before .before .before in
+    let at-insert-done = c .before .before .before .before in let at-count-of = to-count-of (at-insert-done .before) in
     let at-mark-change = at-count-of .before .before .before in let at-change-at = at-mark-change .before .before in
     let at-if1 = at-change-at .before .before in let at-tree-refusal = at-if1 .before in
-    let start = at-tree-refusal .before .before .before .before .before .before in
+    let start = to-start-from-slice-known2 (at-tree-refusal .before) in
     let a = start .args in
     let s = a .state .now in
     let t = a .table .now in

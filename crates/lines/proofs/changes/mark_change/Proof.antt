@@ -27,6 +27,10 @@ empty = replicate 16384 0
 held : (c : tie.After-select-user) → RightsHeld (start c .args .state .now) (start c .args .table .now) empty (c .select-user .last .1 .1 .1 .1 .0)
 held c = all-held (start c .args .state .now) (start c .args .table .now) (start c .pre .0) _ _ (c .select-user .ensures .1)
 
+-- the places further back that answers read
+abbrev to-count-of : tie.After-marks3 → tie.After-count-of
+to-count-of c = c .before .before .before .before .before .before
+
 select-user-requires : tie.Need-select-user-requires
 select-user-requires c κs =
     let s = c .before .before .before .before .before .before .before in
@@ -58,14 +62,14 @@ part-mark-done-end-3 c =
 
 part-mark-done-end-4 : tie.Need-part-mark-done-end-4
 part-mark-done-end-4 c =
-    let at-select-user = at-selection (c .before .before .before .before .before .before) in
+    let at-select-user = at-selection ((to-count-of c)) in
     let s = start at-select-user in
     let r = at-select-user .select-user .ensures .0 in
     marks-long-enough (s .args .state .now) (s .args .table .now) (s .args .path .now) _ _ _ (s .pre .0) (r .size) (r .picked)
 
 mark-done-requires : tie.Need-mark-done-requires
 mark-done-requires c κs =
-    let at-count-of = c .before .before .before .before .before .before .before .before in
+    let at-count-of = to-count-of (c .before .before) in
     let at-select-user = at-selection at-count-of in
     let s = start at-select-user in
     let a = s .args in
@@ -74,7 +78,7 @@ mark-done-requires c κs =
 count-marks-requires : tie.Need-count-marks-requires
 count-marks-requires c κs =
     let at-mark-done = c .before .before .before in
-    let at-select-user = at-selection (at-mark-done .before .before .before .before .before .before .before .before .before) in
+    let at-select-user = at-selection ((to-count-of (at-mark-done .before .before .before))) in
     let s = start at-select-user in
     let r = at-select-user .select-user .ensures .0 in
     marks-long-enough (s .args .state .now) (s .args .table .now) (s .args .path .now) _ _ _ (s .pre .0) (r .size) (r .picked)
@@ -82,7 +86,7 @@ count-marks-requires c κs =
 returns : tie.Need-returns
 returns c =
     let at-mark-done = c .before .before .before .before in
-    let at-count-of = at-mark-done .before .before .before .before .before .before .before .before .before in
+    let at-count-of = to-count-of (at-mark-done .before .before .before) in
     let at-select-user = at-selection at-count-of in
     let s = start at-select-user in
     let a = s .args in

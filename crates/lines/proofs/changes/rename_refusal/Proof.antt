@@ -13,26 +13,30 @@ use borrow.Author.Needs.{needs}
 use Rattle.lines.proofs.changes.rename_refusal.Statement.{statement}
 use Rattle.lines.proofs.changes.rename_refusal.Tie as tie
 
+-- the places further back that answers read
+abbrev to-start : tie.After-shared-slice-known4 → tie.Start
+to-start c = c .before .before .before .before
+
 path-refusal-requires : tie.Need-path-refusal-requires
-path-refusal-requires c κs = omega (arith, store-held _ _ (c .before .before .before .before .pre) .size)
+path-refusal-requires c κs = omega (arith, store-held _ _ (to-start c .pre) .size)
 
 returns : tie.Need-returns
 returns c =
-    let at-path-refusal = c .before in let start = at-path-refusal .before .before .before .before .before in
+    let at-path-refusal = c .before in let start = to-start (at-path-refusal .before) in
     let a = start .args in
     first-front (onView (a .path .now) (a .state .now)) (check bannedLabel (sameLabel (a .label .now) restricted || policyWord (policyIn (a .state .now)) (a .label .now)) ∷ []) _ (at-path-refusal .path-refusal .ensures) (c .if1 .taken)
 
 returns-2 : tie.Need-returns-2
 returns-2 c =
     let at-is-barred = c .before in let at-if1 = at-is-barred .before in let at-path-refusal = at-if1 .before in
-    let start = at-path-refusal .before .before .before .before .before in
+    let start = to-start (at-path-refusal .before) in
     let p = passed (onView (start .args .path .now) (start .args .state .now)) _ refl (at-path-refusal .path-refusal .ensures) (at-if1 .if1 .left) in
     rw (p .0, p .1 .0, sym (at-is-barred .is-barred .ensures) ∙ c .if2 .taken)
 
 returns-3 : tie.Need-returns-3
 returns-3 c =
     let at-is-barred = c .before in let at-if1 = at-is-barred .before in let at-path-refusal = at-if1 .before in
-    let start = at-path-refusal .before .before .before .before .before in
+    let start = to-start (at-path-refusal .before) in
     let p = passed (onView (start .args .path .now) (start .args .state .now)) _ refl (at-path-refusal .path-refusal .ensures) (at-if1 .if1 .left) in
     rw (p .0, p .1 .0, sym (at-is-barred .is-barred .ensures) ∙ c .if2 .left)
 

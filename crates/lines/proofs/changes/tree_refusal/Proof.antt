@@ -6,23 +6,27 @@ use borrow.Author.Needs.{needs}
 use Rattle.lines.proofs.changes.tree_refusal.Statement.{statement}
 use Rattle.lines.proofs.changes.tree_refusal.Tie as tie
 
+-- the places further back that answers read
+abbrev to-start : tie.After-path-refusal → tie.Start
+to-start c = c .before .before .before .before
+
 returns : tie.Need-returns
 returns c =
-    let at-path-refusal = c .before in let start = at-path-refusal .before .before .before .before in
+    let at-path-refusal = c .before in let start = to-start at-path-refusal in
     let a = start .args in
     first-front (onView (a .path .now) (a .state .now)) (labelCheck (a .m) (a .tree .now) ∷ []) _ (at-path-refusal .path-refusal .ensures) (c .if1 .taken)
 
 returns-2 : tie.Need-returns-2
 returns-2 c =
     let at-tree-restricted = c .before in let at-if1 = at-tree-restricted .before in let at-path-refusal = at-if1 .before in
-    let start = at-path-refusal .before .before .before .before in
+    let start = to-start at-path-refusal in
     let p = passed (onView (start .args .path .now) (start .args .state .now)) _ refl (at-path-refusal .path-refusal .ensures) (at-if1 .if1 .left) in
     rw (p .0, p .1 .0, sym (at-tree-restricted .tree-restricted .ensures) ∙ c .if2 .taken)
 
 returns-3 : tie.Need-returns-3
 returns-3 c =
     let at-tree-restricted = c .before in let at-if1 = at-tree-restricted .before in let at-path-refusal = at-if1 .before in
-    let start = at-path-refusal .before .before .before .before in
+    let start = to-start at-path-refusal in
     let p = passed (onView (start .args .path .now) (start .args .state .now)) _ refl (at-path-refusal .path-refusal .ensures) (at-if1 .if1 .left) in
     rw (p .0, p .1 .0, sym (at-tree-restricted .tree-restricted .ensures) ∙ c .if2 .left)
 

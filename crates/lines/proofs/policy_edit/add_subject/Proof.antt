@@ -7,6 +7,10 @@ use borrow.Author.Needs.{needs}
 use Rattle.lines.proofs.policy_edit.add_subject.Statement.{statement}
 use Rattle.lines.proofs.policy_edit.add_subject.Tie as tie
 
+-- the places further back that answers read
+abbrev to-start : tie.After-wide → tie.Start
+to-start c = c .before .before .before .before
+
 slice-read-count : tie.Need-slice-read-count
 slice-read-count c =
     let start = c .before .before .before in
@@ -14,7 +18,7 @@ slice-read-count c =
 
 put-name-requires : tie.Need-put-name-requires
 put-name-requires c κs =
-    let at-wide = c .before in let start = at-wide .before .before .before .before in
+    let at-wide = c .before in let start = to-start at-wide in
     let g = policy-sound (start .args .policy .now) (start .pre .0) in
     (omega (arith, g .size, at-wide .wide .ensures), start .pre .2, start .pre .3)
 
@@ -25,7 +29,7 @@ slice-write-policy c =
 
 returns : tie.Need-returns
 returns c =
-    let at-put-name = c .before .before in let at-wide = at-put-name .before .before in let start = at-wide .before .before .before .before in
+    let at-put-name = c .before .before in let at-wide = at-put-name .before .before in let start = to-start at-wide in
     let a = start .args in
     let r = at-put-name .put-name in
     subject-written (a .policy .now) (r .last .0) (take (a .n) (drop (a .at) (a .s .now))) (at-wide .wide .result) (at-wide .wide .ensures) (r .ensures)

@@ -16,6 +16,10 @@ Inv-loop s at₀ at = Looking s at
 abbrev μ-loop : tie.MeasureT-loop
 μ-loop s at₀ at = length s - at
 
+-- the places further back that answers read
+abbrev to-end : tie.After-byte-is2 Inv-loop μ-loop → tie.After-end Inv-loop μ-loop
+to-end c = c .before .before .before .before
+
 loop-holds : tie.Need-loop-holds Inv-loop μ-loop
 loop-holds c = look-first (c .before .args .s .now) (c .before .pre)
 
@@ -51,7 +55,7 @@ returns-3 c =
 
 add-at : tie.Need-add-at Inv-loop μ-loop
 add-at c =
-    let at-byte-is2 = c .before in let at-end = at-byte-is2 .before .before .before .before in let at-read-step = at-end .before .before in
+    let at-byte-is2 = c .before in let at-end = to-end at-byte-is2 in let at-read-step = at-end .before .before in
     let at-loop = at-read-step .before .before in let start = at-loop .before .before in
     let s = start .args .s .now in
     let l = at-loop .loop in
@@ -64,7 +68,7 @@ add-at c =
 
 loop-less : tie.Need-loop-less Inv-loop μ-loop
 loop-less c =
-    let at-end = c .before .before .before .before .before in let at-read-step = at-end .before .before in let at-test = at-read-step .before in
+    let at-end = to-end (c .before) in let at-read-step = at-end .before .before in let at-test = at-read-step .before in
     let at-loop = at-test .before in let start = at-loop .before .before in
     let s = start .args .s .now in
     let l = at-loop .loop in

@@ -15,6 +15,10 @@ Inv-loop policy₀ at path n₀ i₀ policy n i = (i ≤ length path) × (length
 abbrev μ-loop : tie.MeasureT-loop
 μ-loop policy₀ at path n₀ i₀ policy n i = length path - i
 
+-- the places further back that answers read
+abbrev to-loop : tie.After-put-name-arg Inv-loop μ-loop → tie.At-loop Inv-loop μ-loop
+to-loop c = c .before .before .before .before .before .before .before
+
 loop-holds : tie.Need-loop-holds Inv-loop μ-loop
 loop-holds c =
     let a = c .before .before .args in
@@ -34,12 +38,12 @@ returns c =
 
 mul-put-name : tie.Need-mul-put-name Inv-loop μ-loop
 mul-put-name c =
-    let at-loop = c .before .before .before .before .before .before .before in
+    let at-loop = to-loop c in
     omega (arith, at-loop .loop .inv .2 .room)
 
 add-put-name : tie.Need-add-put-name Inv-loop μ-loop
 add-put-name c =
-    let at-loop = c .before .before .before .before .before .before .before in let start = at-loop .before .before .before in
+    let at-loop = to-loop c in let start = at-loop .before .before .before in
     omega (arith, at-loop .loop .inv .2 .room, start .pre .1)
 
 sub-put-name : tie.Need-sub-put-name Inv-loop μ-loop
@@ -75,7 +79,7 @@ put-name-requires c κs =
 
 add-n : tie.Need-add-n Inv-loop μ-loop
 add-n c =
-    let at-loop = c .before .before .before .before .before .before .before .before .before .before in
+    let at-loop = to-loop (c .before .before .before) in
     omega (arith, at-loop .loop .inv .2 .room)
 
 loop-less : tie.Need-loop-less Inv-loop μ-loop

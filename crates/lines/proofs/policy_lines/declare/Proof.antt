@@ -15,46 +15,53 @@ use borrow.Author.Needs.{needs}
 use Rattle.lines.proofs.policy_lines.declare.Statement.{statement}
 use Rattle.lines.proofs.policy_lines.declare.Tie as tie
 
+-- the places further back that answers read
+abbrev to-start-from-else2 : tie.Else2 → tie.Start
+to-start-from-else2 c = c .before .before .before .before .before .before .before .before .before .before .before .before .before .before
+
+abbrev to-start-from-slice-known2 : tie.After-slice-known2 → tie.Start
+to-start-from-slice-known2 c = c .before .before .before .before
+
 sub-subject-refusal : tie.Need-sub-subject-refusal
-sub-subject-refusal c = omega (arith, store-held _ _ (c .before .before .before .before .pre .0) .size)
+sub-subject-refusal c = omega (arith, store-held _ _ (to-start-from-slice-known2 c .pre .0) .size)
 
 part-subject-refusal-start : tie.Need-part-subject-refusal-start
 part-subject-refusal-start c =
-    let start = c .before .before .before .before .before in
+    let start = to-start-from-slice-known2 (c .before) in
     omega (arith, store-held _ _ (start .pre .0) .size)
 
 subject-refusal-requires : tie.Need-subject-refusal-requires
 subject-refusal-requires c κs =
-    let start = c .before .before .before .before .before .before in
+    let start = to-start-from-slice-known2 (c .before .before) in
     rw (rest-of (start .args .state .now) 8) (store-held _ _ (start .pre .0) .policy)
 
 returns : tie.Need-returns
 returns c =
-    let at-subject-refusal = c .before in let start = at-subject-refusal .before .before .before .before .before .before .before in
+    let at-subject-refusal = c .before in let start = to-start-from-slice-known2 (at-subject-refusal .before .before .before) in
     let a = start .args in
     performs-refused _ _ _ (at-subject-refusal .subject-refusal .ensures ∙ ap (λ p. firstRefusal (subjectChecks p (a .name .now))) (rest-of (a .state .now) 8)) (c .if1 .taken)
 
 returns-2 : tie.Need-returns-2
 returns-2 c =
     let at-area-refusal = c .before in let at-answer-ok = at-area-refusal .before .before .before in let at-if1 = at-answer-ok .before .before in
-    let at-subject-refusal = at-if1 .before in let start = at-subject-refusal .before .before .before .before .before .before .before in
+    let at-subject-refusal = at-if1 .before in let start = to-start-from-slice-known2 (at-subject-refusal .before .before .before) in
     let a = start .args in
     performs-short _ _ _ (passed (subjectChecks (policyBytes (a .state .now)) (a .name .now)) _ refl (at-subject-refusal .subject-refusal .ensures ∙ ap (λ p. firstRefusal (subjectChecks p (a .name .now))) (rest-of (a .state .now) 8)) (at-if1 .if1 .left)) (at-answer-ok .answer-ok .ensures) (at-area-refusal .area-refusal .ensures) (c .if2 .taken)
 
 sub-add-subject : tie.Need-sub-add-subject
 sub-add-subject c =
-    let start = c .before .before .before .before .before .before .before .before .before .before .before .before .before .before in
+    let start = to-start-from-else2 c in
     omega (arith, store-held _ _ (start .pre .0) .size)
 
 part-add-subject-start : tie.Need-part-add-subject-start
 part-add-subject-start c =
-    let start = c .before .before .before .before .before .before .before .before .before .before .before .before .before .before in
+    let start = to-start-from-else2 c in
     omega (arith, store-held _ _ (start .pre .0) .size)
 
 add-subject-requires : tie.Need-add-subject-requires
 add-subject-requires c κs =
     let at-if1 = c .before .before .before .before .before .before .before in let at-subject-refusal = at-if1 .before in
-    let start = at-subject-refusal .before .before .before .before .before .before .before in
+    let start = to-start-from-slice-known2 (at-subject-refusal .before .before .before) in
     let a = start .args in
     let s = a .state .now in
     rw (rest-of s 8)
@@ -64,7 +71,7 @@ returns-3 : tie.Need-returns-3
 returns-3 c =
     let at-add-subject = c .before .before in let at-if2 = at-add-subject .before .before in let at-area-refusal = at-if2 .before in
     let at-answer-ok = at-area-refusal .before .before .before in let at-if1 = at-answer-ok .before .before in
-    let at-subject-refusal = at-if1 .before in let start = at-subject-refusal .before .before .before .before .before .before .before in
+    let at-subject-refusal = at-if1 .before in let start = to-start-from-slice-known2 (at-subject-refusal .before .before .before) in
     let a = start .args in
     let s = a .state .now in
     let n = a .name .now in

@@ -15,56 +15,69 @@ use borrow.Author.Needs.{needs}
 use Rattle.lines.proofs.policy_lines.relate.Statement.{statement}
 use Rattle.lines.proofs.policy_lines.relate.Tie as tie
 
+-- the places further back that answers read
+abbrev to-start-from-else2 : tie.Else2 → tie.Start
+to-start-from-else2 c = c .before .before .before .before .before .before .before .before .before .before .before .before .before .before .before .before .before .before .before .before .before
+
+abbrev to-start-from-state3 : tie.After-state3 → tie.Start
+to-start-from-state3 c = c .before .before .before .before .before .before .before .before .before .before .before .before
+
+abbrev to-start-from-find-name : tie.After-find-name → tie.Start
+to-start-from-find-name c = c .before .before .before .before .before .before .before .before
+
+abbrev to-start-from-slice-known2 : tie.After-slice-known2 → tie.Start
+to-start-from-slice-known2 c = c .before .before .before .before .before
+
 sub-find-name : tie.Need-sub-find-name
 sub-find-name c =
-    let start = c .before .before .before .before .before in
+    let start = to-start-from-slice-known2 c in
     omega (arith, store-held _ _ (start .pre) .size)
 
 part-find-name-start : tie.Need-part-find-name-start
 part-find-name-start c =
-    let start = c .before .before .before .before .before .before in
+    let start = to-start-from-slice-known2 (c .before) in
     omega (arith, store-held _ _ (start .pre) .size)
 
 find-name-requires : tie.Need-find-name-requires
 find-name-requires c κs =
-    let start = c .before .before .before .before .before .before .before in
+    let start = to-start-from-slice-known2 (c .before .before) in
     rw (rest-of (start .args .state .now) 8) (store-held _ _ (start .pre) .policy)
 
 sub-find-name-2 : tie.Need-sub-find-name-2
 sub-find-name-2 c =
-    let start = c .before .before .before .before .before .before .before .before in
+    let start = to-start-from-find-name c in
     omega (arith, store-held _ _ (start .pre) .size)
 
 part-find-name-start-2 : tie.Need-part-find-name-start-2
 part-find-name-start-2 c =
-    let start = c .before .before .before .before .before .before .before .before .before in
+    let start = to-start-from-find-name (c .before) in
     omega (arith, store-held _ _ (start .pre) .size)
 
 find-name-requires-2 : tie.Need-find-name-requires-2
 find-name-requires-2 c κs =
-    let start = c .before .before .before .before .before .before .before .before .before .before in
+    let start = to-start-from-find-name (c .before .before) in
     rw (rest-of (start .args .state .now) 8) (store-held _ _ (start .pre) .policy)
 
 sub-isa-refusal : tie.Need-sub-isa-refusal
 sub-isa-refusal c =
-    let start = c .before .before .before .before .before .before .before .before .before .before .before in
+    let start = to-start-from-find-name (c .before .before .before) in
     omega (arith, store-held _ _ (start .pre) .size)
 
 part-isa-refusal-start : tie.Need-part-isa-refusal-start
 part-isa-refusal-start c =
-    let start = c .before .before .before .before .before .before .before .before .before .before .before .before in
+    let start = to-start-from-state3 c in
     omega (arith, store-held _ _ (start .pre) .size)
 
 isa-refusal-requires : tie.Need-isa-refusal-requires
 isa-refusal-requires c κs =
-    let start = c .before .before .before .before .before .before .before .before .before .before .before .before .before in
+    let start = to-start-from-state3 (c .before) in
     rw (rest-of (start .args .state .now) 8) (store-held _ _ (start .pre) .policy)
 
 returns : tie.Need-returns
 returns c =
     let at-isa-refusal = c .before in let at-find-name2 = at-isa-refusal .before .before .before in
     let at-find-name = at-find-name2 .before .before .before in
-    let start = at-find-name .before .before .before .before .before .before .before .before in
+    let start = to-start-from-find-name at-find-name in
     let a = start .args in
     let s = a .state .now in
     performs-refused _ _ _ (isa-number s (at-isa-refusal .isa-refusal .ensures) (found-part s (a .member .now) (at-find-name .find-name .ensures)) (found-part s (a .role .now) (at-find-name2 .find-name2 .ensures))) (c .if1 .taken)
@@ -74,19 +87,19 @@ returns-2 c =
     let at-area-refusal = c .before in let at-answer-ok = at-area-refusal .before .before .before in let at-if1 = at-answer-ok .before .before in
     let at-isa-refusal = at-if1 .before in let at-find-name2 = at-isa-refusal .before .before .before in
     let at-find-name = at-find-name2 .before .before .before in
-    let start = at-find-name .before .before .before .before .before .before .before .before in
+    let start = to-start-from-find-name at-find-name in
     let a = start .args in
     let s = a .state .now in
     performs-short _ _ _ (passed (isaChecks (policyBytes s) (subjectNamed (policyIn s) (a .member .now)) (subjectNamed (policyIn s) (a .role .now))) _ refl (isa-number s (at-isa-refusal .isa-refusal .ensures) (found-part s (a .member .now) (at-find-name .find-name .ensures)) (found-part s (a .role .now) (at-find-name2 .find-name2 .ensures))) (at-if1 .if1 .left)) (at-answer-ok .answer-ok .ensures) (at-area-refusal .area-refusal .ensures) (c .if2 .taken)
 
 sub-add-isa : tie.Need-sub-add-isa
 sub-add-isa c =
-    let start = c .before .before .before .before .before .before .before .before .before .before .before .before .before .before .before .before .before .before .before .before .before in
+    let start = to-start-from-else2 c in
     omega (arith, store-held _ _ (start .pre) .size)
 
 part-add-isa-start : tie.Need-part-add-isa-start
 part-add-isa-start c =
-    let start = c .before .before .before .before .before .before .before .before .before .before .before .before .before .before .before .before .before .before .before .before .before in
+    let start = to-start-from-else2 c in
     omega (arith, store-held _ _ (start .pre) .size)
 
 add-isa-requires : tie.Need-add-isa-requires
@@ -94,7 +107,7 @@ add-isa-requires c κs =
     let at-number-in = c .before in let at-if1 = at-number-in .before .before .before .before .before .before .before .before in
     let at-isa-refusal = at-if1 .before in let at-find-name2 = at-isa-refusal .before .before .before in
     let at-find-name = at-find-name2 .before .before .before in
-    let start = at-find-name .before .before .before .before .before .before .before .before in
+    let start = to-start-from-find-name at-find-name in
     let a = start .args in
     let s = a .state .now in
     let m = a .member .now in
@@ -116,7 +129,7 @@ returns-3 c =
     let at-if2 = at-number-in .before .before in let at-area-refusal = at-if2 .before in let at-answer-ok = at-area-refusal .before .before .before in
     let at-if1 = at-answer-ok .before .before in let at-isa-refusal = at-if1 .before in let at-find-name2 = at-isa-refusal .before .before .before in
     let at-find-name = at-find-name2 .before .before .before in
-    let start = at-find-name .before .before .before .before .before .before .before .before in
+    let start = to-start-from-find-name at-find-name in
     let a = start .args in
     let s = a .state .now in
     let m = a .member .now in

@@ -6,24 +6,34 @@ use Rattle.lines.proofs.UserViewLaws.{shown-long, shown-fits, shown-vie
 use Rattle.lines.proofs.queries.select_user.Statement.{statement}
 use Rattle.lines.proofs.queries.select_user.Tie as tie
 
+-- the places further back that answers read
+abbrev to-show-user : tie.After-shown2 → tie.After-show-user
+to-show-user c = c .before .before .before .before .before .before .before .before .before
+
+abbrev to-start-from-subjects : tie.After-subjects → tie.Start
+to-start-from-subjects c = c .before .before .before .before .before .before .before .before .before .before .before .before .before .before
+
+abbrev to-start-from-show-user : tie.After-show-user → tie.Start
+to-start-from-show-user c = c .before .before .before .before .before .before .before .before .before
+
 sub-select : tie.Need-sub-select
-sub-select c = omega (arith, store-held _ _ (c .before .before .before .before .before .before .before .before .before .before .before .before .before .before .pre .0) .size)
+sub-select c = omega (arith, store-held _ _ (to-start-from-subjects c .pre .0) .size)
 
 part-select-start : tie.Need-part-select-start
-part-select-start c = omega (arith, store-held _ _ (c .before .before .before .before .before .before .before .before .before .before .before .before .before .before .pre .0) .size)
+part-select-start c = omega (arith, store-held _ _ (to-start-from-subjects c .pre .0) .size)
 
 part-select-end-3 : tie.Need-part-select-end-3
 part-select-end-3 c =
-    let at-show-user = c .before .before .before .before .before .before .before .before .before in
-    let start = at-show-user .before .before .before .before .before .before .before .before .before in
+    let at-show-user = to-show-user c in
+    let start = to-start-from-show-user at-show-user in
     let a = start .args in
     let r = at-show-user .show-user .ensures in
     shown-long (a .state .now) (a .table .now) (start .pre .0) _ _ _ (r .1) (r .2)
 
 select-requires : tie.Need-select-requires
 select-requires c κs =
-    let at-show-user = c .before .before .before .before .before .before .before .before .before .before .before in
-    let start = at-show-user .before .before .before .before .before .before .before .before .before in
+    let at-show-user = to-show-user (c .before .before) in
+    let start = to-start-from-show-user at-show-user in
     let g = start .pre in
     let a = start .args in
     let r = at-show-user .show-user .ensures in
@@ -33,8 +43,8 @@ select-requires c κs =
 returns : tie.Need-returns
 returns c =
     let at-select = c .before .before in
-    let at-show-user = at-select .before .before .before .before .before .before .before .before .before .before .before .before in
-    let start = at-show-user .before .before .before .before .before .before .before .before .before in
+    let at-show-user = to-show-user (at-select .before .before .before) in
+    let start = to-start-from-show-user at-show-user in
     let g = start .pre in
     let a = start .args in
     let r = at-show-user .show-user .ensures in

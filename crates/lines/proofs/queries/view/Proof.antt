@@ -8,6 +8,16 @@ use borrow.Author.Needs.{needs}
 use Rattle.lines.proofs.queries.view.Statement.{statement}
 use Rattle.lines.proofs.queries.view.Tie as tie
 
+-- the places further back that answers read
+abbrev to-show-user : tie.After-answer-view-arg2 → tie.After-show-user
+to-show-user c = c .before .before .before .before .before
+
+abbrev to-start-from-show-user : tie.After-show-user → tie.Start
+to-start-from-show-user c = c .before .before .before .before .before .before .before .before
+
+abbrev to-start-from-view-refusal : tie.After-view-refusal → tie.Start
+to-start-from-view-refusal c = c .before .before .before .before
+
 view-refusal-requires : tie.Need-view-refusal-requires
 view-refusal-requires c κs = omega (arith, store-held _ _ (c .before .before .before .pre) .size)
 
@@ -16,36 +26,36 @@ returns c = performs-refused _ _ _ (c .before .view-refusal .ensures) (c .if1 .t
 
 show-user-requires : tie.Need-show-user-requires
 show-user-requires c κs =
-    let at-if1 = c .before .before in let at-view-refusal = at-if1 .before in let start = at-view-refusal .before .before .before .before in
+    let at-if1 = c .before .before in let at-view-refusal = at-if1 .before in let start = to-start-from-view-refusal at-view-refusal in
     let a = start .args in
     ((start .pre), (passed (viewChecks (a .state .now)) _ refl (at-view-refusal .view-refusal .ensures) (at-if1 .if1 .left)), record { reading = refl; seeing = refl }, refl {a = 16384}, refl {a = 16384})
 
 part-answer-view-end : tie.Need-part-answer-view-end
 part-answer-view-end c =
-    let at-show-user = c .before .before .before in let start = at-show-user .before .before .before .before .before .before .before .before in
+    let at-show-user = c .before .before .before in let start = to-start-from-show-user at-show-user in
     let a = start .args in
     shown-long (a .state .now) (a .table .now) (start .pre) _ _ _ (at-show-user .show-user .ensures .1) (at-show-user .show-user .ensures .2)
 
 answer-view-requires : tie.Need-answer-view-requires
 answer-view-requires c κs =
-    let at-show-user = c .before .before .before .before .before in
-    let start = at-show-user .before .before .before .before .before .before .before .before in
+    let at-show-user = to-show-user c in
+    let start = to-start-from-show-user at-show-user in
     let a = start .args in
     shown-fits (a .state .now) (a .table .now) (start .pre) _ _ _ (at-show-user .show-user .ensures .1) (at-show-user .show-user .ensures .2)
 
 returns-2 : tie.Need-returns-2
 returns-2 c =
     let at-area-refusal = c .before in let at-answer-view = at-area-refusal .before .before .before in
-    let at-show-user = at-answer-view .before .before .before .before .before .before in let at-if1 = at-show-user .before .before .before in
-    let at-view-refusal = at-if1 .before in let start = at-view-refusal .before .before .before .before in
+    let at-show-user = to-show-user (at-answer-view .before) in let at-if1 = at-show-user .before .before .before in
+    let at-view-refusal = at-if1 .before in let start = to-start-from-view-refusal at-view-refusal in
     let a = start .args in
     performs-short _ _ _ (passed (viewChecks (a .state .now)) _ refl (at-view-refusal .view-refusal .ensures) (at-if1 .if1 .left)) (rw (shown-view (a .state .now) (a .table .now) (start .pre) _ _ _ (at-show-user .show-user .ensures .1) (at-show-user .show-user .ensures .2)) at (at-answer-view .answer-view .ensures)) (at-area-refusal .area-refusal .ensures) (c .if2 .taken)
 
 returns-3 : tie.Need-returns-3
 returns-3 c =
     let at-area-refusal = c .before in let at-answer-view = at-area-refusal .before .before .before in
-    let at-show-user = at-answer-view .before .before .before .before .before .before in let at-if1 = at-show-user .before .before .before in
-    let at-view-refusal = at-if1 .before in let start = at-view-refusal .before .before .before .before in
+    let at-show-user = to-show-user (at-answer-view .before) in let at-if1 = at-show-user .before .before .before in
+    let at-view-refusal = at-if1 .before in let start = to-start-from-view-refusal at-view-refusal in
     let a = start .args in
     performs-done _ _ _ (passed (viewChecks (a .state .now)) _ refl (at-view-refusal .view-refusal .ensures) (at-if1 .if1 .left)) (rw (shown-view (a .state .now) (a .table .now) (start .pre) _ _ _ (at-show-user .show-user .ensures .1) (at-show-user .show-user .ensures .2)) at (at-answer-view .answer-view .ensures)) (at-area-refusal .area-refusal .ensures) (c .if2 .left) refl refl
 

@@ -14,23 +14,33 @@ use borrow.Author.Needs.{needs}
 use Rattle.lines.proofs.session.log_in.Statement.{statement}
 use Rattle.lines.proofs.session.log_in.Tie as tie
 
+-- the places further back that answers read
+abbrev to-else1 : tie.After-number-in → tie.Else1
+to-else1 c = c .before .before .before .before .before .before .before
+
+abbrev to-start-from-else2 : tie.Else2 → tie.Start
+to-start-from-else2 c = c .before .before .before .before .before .before .before .before .before .before .before .before .before .before .before
+
+abbrev to-start-from-slice-known2 : tie.After-slice-known2 → tie.Start
+to-start-from-slice-known2 c = c .before .before .before .before
+
 sub-find-name : tie.Need-sub-find-name
-sub-find-name c = omega (arith, store-held _ _ (c .before .before .before .before .pre) .size)
+sub-find-name c = omega (arith, store-held _ _ (to-start-from-slice-known2 c .pre) .size)
 
 part-find-name-start : tie.Need-part-find-name-start
 part-find-name-start c =
-    let start = c .before .before .before .before .before in
+    let start = to-start-from-slice-known2 (c .before) in
     omega (arith, store-held _ _ (start .pre) .size)
 
 find-name-requires : tie.Need-find-name-requires
 find-name-requires c κs =
-    let start = c .before .before .before .before .before .before in
+    let start = to-start-from-slice-known2 (c .before .before) in
     rw (rest-of (start .args .state .now) 8) (store-held _ _ (start .pre) .policy)
 
 returns : tie.Need-returns
 returns c =
     let at-user-refusal = c .before in let at-find-name = at-user-refusal .before in
-    let start = at-find-name .before .before .before .before .before .before .before in
+    let start = to-start-from-slice-known2 (at-find-name .before .before .before) in
     let a = start .args in
     performs-refused _ _ _ (at-user-refusal .user-refusal .ensures ∙ ap (λ x. firstRefusal (userChecks x)) (found-part (a .state .now) (a .name .now) (at-find-name .find-name .ensures))) (c .if1 .taken)
 
@@ -38,19 +48,19 @@ returns-2 : tie.Need-returns-2
 returns-2 c =
     let at-area-refusal = c .before in let at-answer-ok = at-area-refusal .before .before .before in let at-if1 = at-answer-ok .before .before in
     let at-user-refusal = at-if1 .before in let at-find-name = at-user-refusal .before in
-    let start = at-find-name .before .before .before .before .before .before .before in
+    let start = to-start-from-slice-known2 (at-find-name .before .before .before) in
     let a = start .args in
     performs-short _ _ _ (passed (userChecks (subjectNamed (policyIn (a .state .now)) (a .name .now))) _ refl (at-user-refusal .user-refusal .ensures ∙ ap (λ x. firstRefusal (userChecks x)) (found-part (a .state .now) (a .name .now) (at-find-name .find-name .ensures))) (at-if1 .if1 .left)) (at-answer-ok .answer-ok .ensures) (at-area-refusal .area-refusal .ensures) (c .if2 .taken)
 
 slice-write-state : tie.Need-slice-write-state
 slice-write-state c =
-    let start = c .before .before .before .before .before .before .before .before .before .before .before .before .before .before .before in
+    let start = to-start-from-else2 c in
     omega (arith, store-held _ _ (start .pre) .size)
 
 add-state : tie.Need-add-state
 add-state c =
-    let at-if1 = c .before .before .before .before .before .before .before in let at-user-refusal = at-if1 .before in
-    let at-find-name = at-user-refusal .before in let start = at-find-name .before .before .before .before .before .before .before in
+    let at-if1 = to-else1 c in let at-user-refusal = at-if1 .before in
+    let at-find-name = at-user-refusal .before in let start = to-start-from-slice-known2 (at-find-name .before .before .before) in
     let a = start .args in
     let s = a .state .now in
     let n = a .name .now in
@@ -59,8 +69,8 @@ add-state c =
 
 cast-state : tie.Need-cast-state
 cast-state c =
-    let at-if1 = c .before .before .before .before .before .before .before in let at-user-refusal = at-if1 .before in
-    let at-find-name = at-user-refusal .before in let start = at-find-name .before .before .before .before .before .before .before in
+    let at-if1 = to-else1 c in let at-user-refusal = at-if1 .before in
+    let at-find-name = at-user-refusal .before in let start = to-start-from-slice-known2 (at-find-name .before .before .before) in
     let a = start .args in
     let s = a .state .now in
     let n = a .name .now in
@@ -69,14 +79,14 @@ cast-state c =
 
 slice-write-state-2 : tie.Need-slice-write-state-2
 slice-write-state-2 c =
-    let start = c .before .before .before .before .before .before .before .before .before .before .before .before .before .before .before .before in
+    let start = to-start-from-else2 (c .before) in
     simp length-set (omega (arith, store-held _ _ (start .pre) .size))
 
 returns-3 : tie.Need-returns-3
 returns-3 c =
     let at-if2 = c .before in let at-area-refusal = at-if2 .before in let at-answer-ok = at-area-refusal .before .before .before in
     let at-if1 = at-answer-ok .before .before in let at-user-refusal = at-if1 .before in let at-find-name = at-user-refusal .before in
-    let start = at-find-name .before .before .before .before .before .before .before in
+    let start = to-start-from-slice-known2 (at-find-name .before .before .before) in
     let a = start .args in
     let s = a .state .now in
     let f = found-part s (a .name .now) (at-find-name .find-name .ensures) in

@@ -14,23 +14,27 @@ use borrow.Author.Needs.{needs}
 use Rattle.lines.proofs.tree_lines.child.Statement.{statement}
 use Rattle.lines.proofs.tree_lines.child.Tie as tie
 
+-- the places further back that answers read
+abbrev to-start : tie.After-marks → tie.Start
+to-start c = c .before .before .before .before .before .before
+
 child-refusal-requires : tie.Need-child-refusal-requires
 child-refusal-requires c κs =
-    let start = c .before .before .before .before .before .before in
+    let start = to-start c in
     let g = start .pre in
     let h = store-held _ _ (g .0) .table in
     (h, table-few _ h, g .1, g .2)
 
 returns : tie.Need-returns
 returns c =
-    let at-child-refusal = c .before in let start = at-child-refusal .before .before .before .before .before .before .before in
+    let at-child-refusal = c .before in let start = to-start (at-child-refusal .before) in
     let a = start .args in
     performs-refused _ _ _ (at-child-refusal .child-refusal .ensures ∙ ap (λ cs. firstRefusal (labelCheck (a .m) (a .tree .now) ∷ cs)) (root-checks (a .m) (a .tree .now) (a .table .now))) (c .if1 .taken)
 
 returns-2 : tie.Need-returns-2
 returns-2 c =
     let at-area-refusal = c .before in let at-answer-ok = at-area-refusal .before .before .before in let at-if1 = at-answer-ok .before .before in
-    let at-child-refusal = at-if1 .before in let start = at-child-refusal .before .before .before .before .before .before .before in
+    let at-child-refusal = at-if1 .before in let start = to-start (at-child-refusal .before) in
     let a = start .args in
     let x = a .tree .now in
     performs-short _ _ _ (passed (labelCheck (a .m) x ∷ insertChecks Append rootAlone (a .m) x (a .table .now)) _ refl (at-child-refusal .child-refusal .ensures ∙ ap (λ cs. firstRefusal (labelCheck (a .m) x ∷ cs)) (root-checks (a .m) x (a .table .now))) (at-if1 .if1 .left)) (at-answer-ok .answer-ok .ensures) (at-area-refusal .area-refusal .ensures) (c .if2 .taken)
@@ -38,7 +42,7 @@ returns-2 c =
 insert-marked-requires : tie.Need-insert-marked-requires
 insert-marked-requires c κs =
     let at-if1 = c .before .before .before .before .before .before .before .before in let at-child-refusal = at-if1 .before in
-    let start = at-child-refusal .before .before .before .before .before .before .before in
+    let start = to-start (at-child-refusal .before) in
     let a = start .args in
     let g = start .pre in
     let t = a .table .now in
@@ -61,7 +65,7 @@ returns-3 : tie.Need-returns-3
 returns-3 c =
     let at-insert-marked = c .before .before in let at-if2 = at-insert-marked .before .before .before in let at-area-refusal = at-if2 .before in
     let at-answer-ok = at-area-refusal .before .before .before in let at-if1 = at-answer-ok .before .before in
-    let at-child-refusal = at-if1 .before in let start = at-child-refusal .before .before .before .before .before .before .before in
+    let at-child-refusal = at-if1 .before in let start = to-start (at-child-refusal .before) in
     let a = start .args in
     let t = a .table .now in
     let x = a .tree .now in

@@ -13,9 +13,13 @@ use borrow.Author.Needs.{needs}
 use Rattle.lines.proofs.tree_lines.root.Statement.{statement}
 use Rattle.lines.proofs.tree_lines.root.Tie as tie
 
+-- the places further back that answers read
+abbrev to-start : tie.After-root-refusal-arg → tie.Start
+to-start c = c .before .before .before .before .before
+
 root-refusal-requires : tie.Need-root-refusal-requires
 root-refusal-requires c κs =
-    let start = c .before .before .before .before .before in
+    let start = to-start c in
     let a = start .args in
     let g = start .pre in
     (store-held (a .state .now) (a .table .now) (g .0) .table, no-records (a .state .now) (a .table .now) (g .0) (g .1))
@@ -26,14 +30,14 @@ returns c = performs-refused _ _ _ (c .before .root-refusal .ensures) (c .if1 .t
 returns-2 : tie.Need-returns-2
 returns-2 c =
     let at-area-refusal = c .before in let at-answer-ok = at-area-refusal .before .before .before in let at-if1 = at-answer-ok .before .before in
-    let at-root-refusal = at-if1 .before in let start = at-root-refusal .before .before .before .before .before .before in
+    let at-root-refusal = at-if1 .before in let start = to-start (at-root-refusal .before) in
     let a = start .args in
     performs-short _ _ _ (passed (rootChecks (a .table .now) (a .label .now)) _ refl (at-root-refusal .root-refusal .ensures) (at-if1 .if1 .left)) (at-answer-ok .answer-ok .ensures) (at-area-refusal .area-refusal .ensures) (c .if2 .taken)
 
 put-node-requires : tie.Need-put-node-requires
 put-node-requires c κs =
     let at-if1 = c .before .before .before .before .before .before .before in let at-root-refusal = at-if1 .before in
-    let start = at-root-refusal .before .before .before .before .before .before in
+    let start = to-start (at-root-refusal .before) in
     let a = start .args in
     let g = start .pre in
     let t = a .table .now in
@@ -43,7 +47,7 @@ put-node-requires c κs =
 put-count-requires : tie.Need-put-count-requires
 put-count-requires c κs =
     let at-if1 = c .before .before .before .before .before .before .before .before .before .before .before in let at-root-refusal = at-if1 .before in
-    let start = at-root-refusal .before .before .before .before .before .before in
+    let start = to-start (at-root-refusal .before) in
     let a = start .args in
     let g = start .pre in
     let t = a .table .now in
@@ -60,7 +64,7 @@ returns-3 c =
     let at-put-count = c .before .before in let at-put-node = at-put-count .before .before .before .before in
     let at-if2 = at-put-node .before .before in let at-area-refusal = at-if2 .before in let at-answer-ok = at-area-refusal .before .before .before in
     let at-if1 = at-answer-ok .before .before in let at-root-refusal = at-if1 .before in
-    let start = at-root-refusal .before .before .before .before .before .before in
+    let start = to-start (at-root-refusal .before) in
     let a = start .args in
     let g = start .pre in
     let s = a .state .now in
