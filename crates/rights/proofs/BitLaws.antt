@@ -154,5 +154,5 @@ module _ (a j : ℕ) (e : bitAt a j ≡ true) where
       ap (λ (k : ℕ). bitAt k i) z ∙ bit-test (set (bits a) j false) i ∙ get-clear (bits a) i j ∙ ap (λ (b : Bool). b && not (eqb i j)) (get-bits a i)
 
 -- a bit by a shift
-pub one-shl : (j : ℕ) → j ≤ 63 → 1 * 2 ^ j % 2 ^ 64 ≡ 2 ^ j
-one-shl j h = ap (λ (k : ℕ). k % 2 ^ 64) (one-mul (2 ^ j)) ∙ mod-eq-of-lt (pow-lt {i = j} {j = 64} (omega arith))
+pub one-shl : (w j : ℕ) → j < w → 1 * 2 ^ j % 2 ^ w ≡ 2 ^ j
+one-shl w j h = ap (λ (k : ℕ). k % 2 ^ w) (one-mul (2 ^ j)) ∙ mod-eq-of-lt (pow-lt {i = j} {j = w} (omega arith))

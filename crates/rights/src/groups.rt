@@ -2,17 +2,14 @@
 // node moves all of them by a few operations. Which steps its label passes stands in the row of the label's number.
 use crate::bytes::wide;
 use crate::limits::COUNT_BYTES;
-use crate::limits::DELETE;
-use crate::limits::INSERT;
 use crate::limits::LABEL_AT;
-use crate::limits::POSITION;
-use crate::limits::READ;
 use crate::limits::RECORD_BYTES;
+use crate::limits::RIGHTS;
 use crate::limits::RULE_BYTES;
 use crate::limits::RULES_AT;
 use crate::limits::STEPS_AT;
 use crate::limits::SUBJECTS_AT;
-use crate::limits::UPDATE;
+use crate::limits::WORDS_MAX;
 use crate::nodes::wide_number;
 use crate::rights::holds_right;
 use crate::vocabulary::number_of;
@@ -22,7 +19,7 @@ ghost use mathlib.Core.Bool.{Bool, true, cond, not};
 ghost use Prim.Native.Nat.{ℕ, suc, _+_, _-_, _*_, _/_, _%_, _^_, _≤_, _<_};
 ghost use lib.Bits.{bitOr};
 ghost use lib.Dec.{eqb};
-ghost use lib.ListN.{length, getD};
+ghost use lib.ListN.{length, getD, replicate};
 ghost use Rattle.rights.specs.Path.{isDescendant};
 ghost use Rattle.rights.specs.Labels.{sameLabel};
 ghost use Rattle.rights.specs.How.Roles.{nameAmong};
@@ -41,6 +38,14 @@ fn one_at(j: usize) -> u64
     ensures { λ r. ⌜ r ≡ 2 ^ j ⌝ }
 {
     1 << j
+}
+
+// The bit of right k.
+fn right_bit(k: usize) -> u8
+    requires { ⌜ k < 5 ⌝ }
+    ensures { λ r. ⌜ r ≡ 2 ^ k ⌝ }
+{
+    1 << k
 }
 
 // m, with bit j where `on`.
@@ -304,19 +309,7 @@ fn with_ruling(
     g
 }
 
-// Clears the first n rows.
-fn clear_rows(rows: &mut [u64], n: usize)
-    requires { ⌜ n ≤ length (now rows) ⌝ }
-    ensures { λ _. ⌜ Each n (now (rows .entry)) (now (rows .exit)) (λ (i x : ℕ). 0) ⌝ }
-{
-    let mut i = 0;
-    while i < n {
-        rows[i] = 0;
-        i += 1;
-    }
-}
-
-// The rules from `from` to `to` in numbers.
+// The rules from `from` to `to` in numbers, with rows that are zero before.
 fn make_group(
     policy: &[u8],
     own: &[u8],
@@ -329,12 +322,11 @@ fn make_group(
     rows: &mut [u64],
 ) -> Group
     requires { ⌜ Ready (now policy) (now own) (now words) n × (from ≤ to) × (to ≤ ruleCount (now policy)) × (bitOk right ≡ true)
-        × (length (laid (rulingAt (now policy) (now own) (now roles) right) from (to - from)) ≤ 63) × (length (now rows) ≡ 2113) ⌝ }
+        × (length (laid (rulingAt (now policy) (now own) (now roles) right) from (to - from)) ≤ 63) × (now rows ≡ replicate 2113 0) ⌝ }
     ensures { λ r. ⌜ Grouped (listedNumber (now (policy .entry)) (now (words .entry)) n)
         (rulingAt (now (policy .entry)) (now (own .entry)) (now (roles .entry)) right) right from (to - from) (r .deep) (r .every) (r .start) (r .yes)
         (r .noes) (r .used) (now (rows .exit)) ⌝ }
 {
-    clear_rows(rows, n + 1);
     let mut g = Group {
         deep: 0,
         every: 0,
@@ -395,17 +387,17 @@ fn try_group(
     t: &[u8],
     n: usize,
     numbers: &[u16],
-    rows: &mut [u64],
     out: &mut [u8],
 )
     requires { ⌜ Ready (now policy) (now own) (now words) count × (from ≤ to) × (to ≤ ruleCount (now policy)) × (bitOk right ≡ true)
-        × (length (laid (rulingAt (now policy) (now own) (now roles) right) from (to - from)) ≤ 63) × (length (now rows) ≡ 2113)
+        × (length (laid (rulingAt (now policy) (now own) (now roles) right) from (to - from)) ≤ 63)
         × Numbered (now policy) (now words) count (now t) n (now numbers) × (n ≤ length (now out)) ⌝ }
-    ensures { λ _. ⌜ (length (now (rows .exit)) ≡ 2113) × Each n (now (out .entry)) (now (out .exit))
+    ensures { λ _. ⌜ Each n (now (out .entry)) (now (out .exit))
         (λ (i x : ℕ). ruled (rulingAt (now (policy .entry)) (now (own .entry)) (now (roles .entry)) right) right (chainOf (now (t .entry)) i) from
         (to - from) x) ⌝ }
 {
-    let g = make_group(policy, own, words, count, roles, right, from, to, rows);
+    let mut rows = [0u64; WORDS_MAX + 1];
+    let g = make_group(policy, own, words, count, roles, right, from, to, &mut rows);
     if g.used == 0 {
         return;
     }
@@ -505,12 +497,11 @@ fn try_right(
     t: &[u8],
     n: usize,
     numbers: &[u16],
-    rows: &mut [u64],
     out: &mut [u8],
 )
-    requires { ⌜ Ready (now policy) (now own) (now words) count × (bitOk right ≡ true) × (length (now rows) ≡ 2113)
+    requires { ⌜ Ready (now policy) (now own) (now words) count × (bitOk right ≡ true)
         × Numbered (now policy) (now words) count (now t) n (now numbers) × (n ≤ length (now out)) ⌝ }
-    ensures { λ _. ⌜ (length (now (rows .exit)) ≡ 2113) × Each n (now (out .entry)) (now (out .exit))
+    ensures { λ _. ⌜ Each n (now (out .entry)) (now (out .exit))
         (λ (i x : ℕ). ruled (rulingAt (now (policy .entry)) (now (own .entry)) (now (roles .entry)) right) right (chainOf (now (t .entry)) i) 0
         (ruleCount (now (policy .entry))) x) ⌝ }
 {
@@ -531,7 +522,6 @@ fn try_right(
             t,
             n,
             numbers,
-            rows,
             out,
         );
         k = to;
@@ -550,29 +540,16 @@ fn try_asked(
     t: &[u8],
     n: usize,
     numbers: &[u16],
-    rows: &mut [u64],
     out: &mut [u8],
 )
-    requires { ⌜ Ready (now policy) (now own) (now words) count × (bitOk right ≡ true) × (length (now rows) ≡ 2113)
+    requires { ⌜ Ready (now policy) (now own) (now words) count × (bitOk right ≡ true)
         × Numbered (now policy) (now words) count (now t) n (now numbers) × (n ≤ length (now out)) ⌝ }
-    ensures { λ _. ⌜ (length (now (rows .exit)) ≡ 2113) × Each n (now (out .entry)) (now (out .exit))
+    ensures { λ _. ⌜ Each n (now (out .entry)) (now (out .exit))
         (λ (i x : ℕ). cond (eqb (asked / right % 2) 1) (byRight (now (policy .entry)) (now (own .entry)) (now (roles .entry))
         (chainOf (now (t .entry)) i) right x) x) ⌝ }
 {
     if holds_right(asked, right) {
-        try_right(
-            policy,
-            own,
-            words,
-            count,
-            roles,
-            right,
-            t,
-            n,
-            numbers,
-            rows,
-            out,
-        );
+        try_right(policy, own, words, count, roles, right, t, n, numbers, out);
     }
 }
 
@@ -587,82 +564,29 @@ pub fn try_rights(
     t: &[u8],
     n: usize,
     numbers: &[u16],
-    rows: &mut [u64],
     out: &mut [u8],
 )
-    requires { ⌜ Ready (now policy) (now own) (now words) count × (length (now rows) ≡ 2113)
-        × Numbered (now policy) (now words) count (now t) n (now numbers) × (n ≤ length (now out)) ⌝ }
+    requires { ⌜ Ready (now policy) (now own) (now words) count × Numbered (now policy) (now words) count (now t) n (now numbers)
+        × (n ≤ length (now out)) ⌝ }
     ensures { λ _. ⌜ Each n (now (out .entry)) (now (out .exit))
         (λ (i x : ℕ). byFive (now (policy .entry)) (now (own .entry)) (now (roles .entry)) (chainOf (now (t .entry)) i) asked x) ⌝ }
 {
-    try_asked(
-        asked,
-        policy,
-        own,
-        words,
-        count,
-        roles,
-        POSITION,
-        t,
-        n,
-        numbers,
-        rows,
-        out,
-    );
-    try_asked(
-        asked,
-        policy,
-        own,
-        words,
-        count,
-        roles,
-        READ,
-        t,
-        n,
-        numbers,
-        rows,
-        out,
-    );
-    try_asked(
-        asked,
-        policy,
-        own,
-        words,
-        count,
-        roles,
-        INSERT,
-        t,
-        n,
-        numbers,
-        rows,
-        out,
-    );
-    try_asked(
-        asked,
-        policy,
-        own,
-        words,
-        count,
-        roles,
-        UPDATE,
-        t,
-        n,
-        numbers,
-        rows,
-        out,
-    );
-    try_asked(
-        asked,
-        policy,
-        own,
-        words,
-        count,
-        roles,
-        DELETE,
-        t,
-        n,
-        numbers,
-        rows,
-        out,
-    );
+    let mut k = 0;
+    while k < RIGHTS {
+        let right = right_bit(k);
+        try_asked(
+            asked,
+            policy,
+            own,
+            words,
+            count,
+            roles,
+            right,
+            t,
+            n,
+            numbers,
+            out,
+        );
+        k += 1;
+    }
 }

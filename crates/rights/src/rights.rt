@@ -56,7 +56,6 @@ pub fn asked_on(
     let count = sort_words(policy, own, &mut words);
     let mut numbers = [0u16; RECORDS_MAX];
     number_nodes(policy, &words, count, table, n, &mut numbers);
-    let mut rows = [0u64; WORDS_MAX + 1];
     clear_rights(out, n);
     try_rights(
         asked,
@@ -68,7 +67,6 @@ pub fn asked_on(
         table,
         n,
         &numbers,
-        &mut rows,
         out,
     );
 }

@@ -94,6 +94,12 @@ abbrev pub byFive : List ℕ → List ℕ → List ℕ → List (List ℕ) → �
 byFive p own roles c asked x =
     let by = byAsked p own roles c asked in by delete (by update (by insert (by read (by position x))))
 
+-- all rules of the first k rights: right j has the bit 2 ^ j
+unfoldable pub byFirst : List ℕ → List ℕ → List ℕ → List (List ℕ) → ℕ → ℕ → ℕ → ℕ
+byFirst p own roles c asked zero x = x
+byFirst p own roles c asked (suc k) x =
+    let y = byFirst p own roles c asked k x in cond (eqb (asked / 2 ^ k % 2) 1) (byRight p own roles c (2 ^ k) y) y
+
 -- the later rule has the higher bit: the higher of the two numbers wins
 abbrev pub settled : ℕ → ℕ → ℕ → ℕ → ℕ
 settled b y n x = cond (ltb n y) (ruledSet x b true) (cond (ltb y n) (ruledSet x b false) x)

@@ -1,7 +1,8 @@
 -- The group holds the rules from `from` up to k in numbers; a rule more keeps what it holds and adds its own bits above.
 use Prim.Native.Nat.{suc, _+_, _-_, _≤_}
-use mathlib.Core.Path.{_≡_, sym, _∙_}
+use mathlib.Core.Path.{_≡_, refl, sym, ap, _∙_}
 use native.Mathlib.Omega.{arith}
+use lib.ListN.{length, getD-replicate}
 use Rattle.rights.specs.PolicyBytes.{stepCount, stepsAt}
 use Rattle.rights.specs.How.Roles.{nameAmong}
 use Rattle.rights.specs.How.Vocabulary.{listedWord, listedNumber}
@@ -21,29 +22,18 @@ Inv-loop policy own words n roles right from to rows₀ g₀ k₀ rows g k =
 abbrev μ-loop : tie.MeasureT-loop
 μ-loop policy own words n roles right from to rows₀ g₀ k₀ rows g k = to - k
 
-add-clear-rows : tie.Need-add-clear-rows Inv-loop μ-loop
-add-clear-rows c =
-    let start-2 = c .before .before .before .before .before in
-    omega (arith, start-2 .pre .0 .sorted .words .few)
-
-clear-rows-requires : tie.Need-clear-rows-requires Inv-loop μ-loop
-clear-rows-requires c κs =
-    let start-2 = c .before .before .before .before .before in
-    omega (arith, start-2 .pre .0 .sorted .words .few, start-2 .pre .5)
-
 loop-holds : tie.Need-loop-holds Inv-loop μ-loop
 loop-holds c =
-    let at-clear-rows = c .before .before in let start-2 = at-clear-rows .before .before .before .before .before .before in
+    let start-2 = c .before .before .before .before in
     let a = start-2 .args in
     let g = start-2 .pre in
     let p = a .policy .now in
-    let r = at-clear-rows .clear-rows .ensures in
     let z : a .from - a .from ≡ 0 = omega arith in
-    (omega arith, omega arith, rw z (group-none (listedNumber p (a .words .now) (a .n)) (rulingAt p (a .own .now) (a .roles .now) (a .right)) (a .right) (a .from) _ (r .long ∙ g .5) (λ x. r .at _ (omega (arith, number-low (listedWord p (a .words .now)) (a .n) x)))))
+    (omega arith, omega arith, rw (z, g .5) (group-none (listedNumber p (a .words .now) (a .n)) (rulingAt p (a .own .now) (a .roles .now) (a .right)) (a .right) (a .from) _ refl (λ x. getD-replicate 2113 (listedNumber p (a .words .now) (a .n) x) 0 0 (omega (arith, g .0 .sorted .words .few, number-low (listedWord p (a .words .now)) (a .n) x)))))
 
 with-ruling-requires : tie.Need-with-ruling-requires Inv-loop μ-loop
 with-ruling-requires c κs =
-    let at-loop = c .before .before in let start-2 = at-loop .before .before .before .before .before .before .before .before .before in
+    let at-loop = c .before .before in let start-2 = at-loop .before .before .before .before .before in
     let a = start-2 .args in
     let g = start-2 .pre in
     let l = at-loop .loop in
@@ -52,33 +42,27 @@ with-ruling-requires c κs =
     (g .0, omega arith, g .3, omega (arith, l .inv .2 .used-is, size-more q (a .from) (l .k) (stepCount p (l .k)) (l .inv .0) (length-steps (nameAmong p (a .own .now)) p (stepsAt (l .k)) (stepCount p (l .k)) 0), size-within q (a .from) (l .k + 1) (a .to) (omega arith) (omega arith), g .4), l .inv .2 .packed .long)
 
 add-k : tie.Need-add-k Inv-loop μ-loop
-add-k c =
-    let start-2 = c .before .before .before .before .before .before .before .before .before .before .before .before .before .before in
-    omega (arith, start-2 .pre .0 .sound .rules)
+add-k c = omega (arith, c .before .before .before .before .before .before .before .before .before .before .pre .0 .sound .rules)
 
 loop-again : tie.Need-loop-again Inv-loop μ-loop
 loop-again c =
     let at-with-ruling = c .before .before in let at-loop = at-with-ruling .before .before .before in
-    let start-2 = at-loop .before .before .before .before .before .before .before .before .before in
-    let a = start-2 .args in
+    let a = at-loop .before .before .before .before .before .args in
     let l = at-loop .loop in
     let y : suc (l .k - a .from) ≡ l .k + 1 - a .from = omega arith in
     (omega arith, omega arith, rw y at (at-with-ruling .with-ruling .ensures .0 (a .from) (l .k - a .from) (omega arith) (l .inv .2)))
 
 same-length : tie.Need-same-length Inv-loop μ-loop
-same-length c =
-    let at-loop = c .before in let start-2 = at-loop .before .before .before .before .before .before .before .before .before in
-    at-loop .loop .inv .2 .packed .long ∙ sym (start-2 .pre .5)
+same-length c = let at-loop = c .before in at-loop .loop .inv .2 .packed .long ∙ sym (ap length (at-loop .before .before .before .before .before .pre .5))
 
 returns : tie.Need-returns Inv-loop μ-loop
 returns c =
-    let at-loop = c .before in let start-2 = at-loop .before .before .before .before .before .before .before .before .before in
+    let at-loop = c .before in
     let l = at-loop .loop in
-    let e : l .k ≡ start-2 .args .to = omega arith in
+    let e : l .k ≡ at-loop .before .before .before .before .before .args .to = omega arith in
     rw e at (l .inv .2)
 
 pub make-group-spec : {M : Type 1} → statement M
 make-group-spec =
     tie.close
-    (tie.spec Inv-loop μ-loop add-clear-rows clear-rows-requires loop-holds with-ruling-requires add-k (λ c. omega arith)
-    loop-again same-length returns)
+    (tie.spec Inv-loop μ-loop loop-holds with-ruling-requires add-k (λ c. omega arith) loop-again same-length returns)

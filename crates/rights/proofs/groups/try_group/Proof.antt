@@ -18,7 +18,7 @@ use Rattle.rights.proofs.groups.try_group.Statement.{statement}
 use Rattle.rights.proofs.groups.try_group.Tie as tie
 
 abbrev Inv-loop : tie.InvT-loop
-Inv-loop policy own words count roles right from to t n numbers rows out₀ deep every yes' noes st₀ i₀ out st i =
+Inv-loop policy own words count roles right from to t n numbers out₀ rows deep every yes' noes st₀ i₀ out st i =
     (i ≤ n)
     × (length out ≡ length out₀)
     × (drop i out ≡ drop i out₀)
@@ -27,138 +27,127 @@ Inv-loop policy own words count roles right from to t n numbers rows out₀ deep
     × Levels (laid (rulingAt policy own roles right) from (to - from)) (firsts (rulingAt policy own roles right) from (to - from)) st (chainTo t i)
 
 abbrev μ-loop : tie.MeasureT-loop
-μ-loop policy own words count roles right from to t n numbers rows out₀ deep every yes' noes st₀ i₀ out st i = n - i
+μ-loop policy own words count roles right from to t n numbers out₀ rows deep every yes' noes st₀ i₀ out st i = n - i
 
 make-group-requires : tie.Need-make-group-requires Inv-loop μ-loop
-make-group-requires c κs =
-    let start = c .before .before .before .before .before .before .before .before in
-    let g = start .pre in
-    (g .0, g .1, g .2, g .3, g .4, g .5)
-
-same-length : tie.Need-same-length Inv-loop μ-loop
-same-length c =
-    let at-make-group = c .before .before .before .before in
-    let start = at-make-group .before .before .before .before .before .before .before .before .before in
-    at-make-group .make-group .ensures .packed .long ∙ sym (start .pre .5)
+make-group-requires c κs = let g = c .before .before .before .before .before .before .before .pre in (g .0, g .1, g .2, g .3, g .4, refl)
 
 returns : tie.Need-returns Inv-loop μ-loop
 returns c =
-    let at-make-group = c .before .before .before .before in
-    let start = at-make-group .before .before .before .before .before .before .before .before .before in
-    let a = start .args in
+    let at-make-group = c .before .before .before in
+    let a = at-make-group .before .before .before .before .before .before .before .before .args in
     let q = rulingAt (a .policy .now) (a .own .now) (a .roles .now) (a .right) in
-    let made = at-make-group .make-group .ensures in
-    let z = sym (made .used-is) ∙ c .if1 .taken in
-    (made .packed .long, record { long = refl; at = λ i h. ruled-none q (a .from) (a .right) (chainOf (a .t .now) i) (a .to - a .from) (getD (a .out .now) i 0) z; rest = refl })
+    let z = sym (at-make-group .make-group .ensures .used-is) ∙ c .if1 .taken in
+    record { long = refl; at = λ i h. ruled-none q (a .from) (a .right) (chainOf (a .t .now) i) (a .to - a .from) (getD (a .out .now) i 0) z; rest = refl }
 
 loop-holds : tie.Need-loop-holds Inv-loop μ-loop
 loop-holds c =
-    let at-make-group = c .before .before .before .before in
-    let start = at-make-group .before .before .before .before .before .before .before .before .before in
+    let at-make-group = c .before .before .before in
+    let start = at-make-group .before .before .before .before .before .before .before .before in
     let a = start .args in
     let q = rulingAt (a .policy .now) (a .own .now) (a .roles .now) (a .right) in
     (omega arith, refl, refl, (λ j h. absurd (omega arith)), refl, levels-start (laid q (a .from) (a .to - a .from)) (firsts q (a .from) (a .to - a .from)) _ (a .t .now) (at-make-group .make-group .ensures .start-is))
 
 mul-wide : tie.Need-mul-wide Inv-loop μ-loop
 mul-wide c =
-    let start = c .before .before .before .before .before .before .before .before .before .before .before .before .before .before .before in
-    omega (arith, start .pre .6 .few)
+    let start = c .before .before .before .before .before .before .before .before .before .before .before .before .before in
+    omega (arith, start .pre .5 .few)
 
 add-wide : tie.Need-add-wide Inv-loop μ-loop
 add-wide c =
-    let start = c .before .before .before .before .before .before .before .before .before .before .before .before .before .before .before in
-    omega (arith, start .pre .6 .few)
+    let start = c .before .before .before .before .before .before .before .before .before .before .before .before .before in
+    omega (arith, start .pre .5 .few)
 
 shared-slice-read-wide : tie.Need-shared-slice-read-wide Inv-loop μ-loop
 shared-slice-read-wide c =
-    let start = c .before .before .before .before .before .before .before .before .before .before .before .before .before .before .before .before in
-    omega (arith, start .pre .6 .room)
+    let start = c .before .before .before .before .before .before .before .before .before .before .before .before .before .before in
+    omega (arith, start .pre .5 .room)
 
 mul-wide-number : tie.Need-mul-wide-number Inv-loop μ-loop
 mul-wide-number c =
-    let start = c .before .before .before .before .before .before .before .before .before .before .before .before .before .before .before .before .before in
-    omega (arith, start .pre .6 .few)
+    let start = c .before .before .before .before .before .before .before .before .before .before .before .before .before .before .before in
+    omega (arith, start .pre .5 .few)
 
 shared-slice-read-wide-number : tie.Need-shared-slice-read-wide-number Inv-loop μ-loop
 shared-slice-read-wide-number c =
-    let start = c .before .before .before .before .before .before .before .before .before .before .before .before .before .before .before .before .before .before in
-    omega (arith, start .pre .6 .long)
+    let start = c .before .before .before .before .before .before .before .before .before .before .before .before .before .before .before .before in
+    omega (arith, start .pre .5 .long)
 
 mul-next-states : tie.Need-mul-next-states Inv-loop μ-loop
 mul-next-states c =
     let at-test = c .before .before .before .before in let at-loop = at-test .before in
-    let at-make-group = at-loop .before .before .before .before .before in
-    let start = at-make-group .before .before .before .before .before .before .before .before .before in
+    let at-make-group = at-loop .before .before .before .before in
+    let start = at-make-group .before .before .before .before .before .before .before .before in
     let a = start .args in
     let g = start .pre in
     let i = at-loop .loop .i in
-    omega (arith, c .wide-number .ensures, g .6 .at i (at-test .loop-test .taken), number-low (listedWord (a .policy .now) (a .words .now)) (a .count) (label (recordAt (a .t .now) i)), g .0 .sorted .words .few, at-make-group .make-group .ensures .packed .long)
-
-slice-read-next-states : tie.Need-slice-read-next-states Inv-loop μ-loop
-slice-read-next-states c =
-    let at-wide-number = c .before in let at-test = at-wide-number .before .before .before .before in let at-loop = at-test .before in
-    let at-make-group = at-loop .before .before .before .before .before in
-    let start = at-make-group .before .before .before .before .before .before .before .before .before in
-    let a = start .args in
-    let g = start .pre in
-    let i = at-loop .loop .i in
-    omega (arith, at-wide-number .wide-number .ensures, g .6 .at i (at-test .loop-test .taken), number-low (listedWord (a .policy .now) (a .words .now)) (a .count) (label (recordAt (a .t .now) i)), g .0 .sorted .words .few, at-make-group .make-group .ensures .packed .long)
-
-mul-next-states-2 : tie.Need-mul-next-states-2 Inv-loop μ-loop
-mul-next-states-2 c =
-    let at-wide = c .before .before .before in let at-test = at-wide .before .before in let at-loop = at-test .before in
-    let start = at-loop .before .before .before .before .before .before .before .before .before .before .before .before .before .before in
-    let a = start .args in
-    omega (arith, at-wide .wide .ensures, low-byte (a .t .now) (a .n) (at-loop .loop .i) (start .pre .6 .records) (at-test .loop-test .taken))
+    omega (arith, c .wide-number .ensures, g .5 .at i (at-test .loop-test .taken), number-low (listedWord (a .policy .now) (a .words .now)) (a .count) (label (recordAt (a .t .now) i)), g .0 .sorted .words .few, at-make-group .make-group .ensures .packed .long)
 
 array-read-next-states : tie.Need-array-read-next-states Inv-loop μ-loop
 array-read-next-states c =
-    let at-wide = c .before .before .before in let at-test = at-wide .before .before in let at-loop = at-test .before in
-    let start = at-loop .before .before .before .before .before .before .before .before .before .before .before .before .before .before in
+    let at-test = c .before .before .before .before in let at-loop = at-test .before in
+    let at-make-group = at-loop .before .before .before .before in
+    let start = at-make-group .before .before .before .before .before .before .before .before in
     let a = start .args in
-    omega (arith, at-wide .wide .ensures, low-byte (a .t .now) (a .n) (at-loop .loop .i) (start .pre .6 .records) (at-test .loop-test .taken))
+    let g = start .pre in
+    let i = at-loop .loop .i in
+    omega (arith, c .wide-number .ensures, g .5 .at i (at-test .loop-test .taken), number-low (listedWord (a .policy .now) (a .words .now)) (a .count) (label (recordAt (a .t .now) i)), g .0 .sorted .words .few, at-make-group .make-group .ensures .packed .long)
+
+mul-next-states-2 : tie.Need-mul-next-states-2 Inv-loop μ-loop
+mul-next-states-2 c =
+    let at-wide = c .before .before in let at-test = at-wide .before .before in let at-loop = at-test .before in
+    let start = at-loop .before .before .before .before .before .before .before .before .before .before .before .before in
+    let a = start .args in
+    omega (arith, at-wide .wide .ensures, low-byte (a .t .now) (a .n) (at-loop .loop .i) (start .pre .5 .records) (at-test .loop-test .taken))
+
+array-read-next-states-2 : tie.Need-array-read-next-states-2 Inv-loop μ-loop
+array-read-next-states-2 c =
+    let at-wide = c .before .before in let at-test = at-wide .before .before in let at-loop = at-test .before in
+    let start = at-loop .before .before .before .before .before .before .before .before .before .before .before .before in
+    let a = start .args in
+    omega (arith, at-wide .wide .ensures, low-byte (a .t .now) (a .n) (at-loop .loop .i) (start .pre .5 .records) (at-test .loop-test .taken))
 
 add-st : tie.Need-add-st Inv-loop μ-loop
 add-st c =
-    let at-wide = c .before .before .before .before in let at-test = at-wide .before .before in let at-loop = at-test .before in
-    let start = at-loop .before .before .before .before .before .before .before .before .before .before .before .before .before .before in
+    let at-wide = c .before .before .before in let at-test = at-wide .before .before in let at-loop = at-test .before in
+    let start = at-loop .before .before .before .before .before .before .before .before .before .before .before .before in
     let a = start .args in
-    omega (arith, at-wide .wide .ensures, low-byte (a .t .now) (a .n) (at-loop .loop .i) (start .pre .6 .records) (at-test .loop-test .taken))
+    omega (arith, at-wide .wide .ensures, low-byte (a .t .now) (a .n) (at-loop .loop .i) (start .pre .5 .records) (at-test .loop-test .taken))
 
 mul-st : tie.Need-mul-st Inv-loop μ-loop
 mul-st c =
-    let at-wide = c .before .before .before .before in let at-test = at-wide .before .before in let at-loop = at-test .before in
-    let start = at-loop .before .before .before .before .before .before .before .before .before .before .before .before .before .before in
+    let at-wide = c .before .before .before in let at-test = at-wide .before .before in let at-loop = at-test .before in
+    let start = at-loop .before .before .before .before .before .before .before .before .before .before .before .before in
     let a = start .args in
-    omega (arith, at-wide .wide .ensures, low-byte (a .t .now) (a .n) (at-loop .loop .i) (start .pre .6 .records) (at-test .loop-test .taken))
+    omega (arith, at-wide .wide .ensures, low-byte (a .t .now) (a .n) (at-loop .loop .i) (start .pre .5 .records) (at-test .loop-test .taken))
 
 array-write-st-2 : tie.Need-array-write-st-2 Inv-loop μ-loop
 array-write-st-2 c =
-    let at-wide = c .before .before .before .before in let at-test = at-wide .before .before in let at-loop = at-test .before in
-    let start = at-loop .before .before .before .before .before .before .before .before .before .before .before .before .before .before in
+    let at-wide = c .before .before .before in let at-test = at-wide .before .before in let at-loop = at-test .before in
+    let start = at-loop .before .before .before .before .before .before .before .before .before .before .before .before in
     let a = start .args in
-    omega (arith, at-wide .wide .ensures, low-byte (a .t .now) (a .n) (at-loop .loop .i) (start .pre .6 .records) (at-test .loop-test .taken))
+    omega (arith, at-wide .wide .ensures, low-byte (a .t .now) (a .n) (at-loop .loop .i) (start .pre .5 .records) (at-test .loop-test .taken))
 
 slice-read-settle : tie.Need-slice-read-settle Inv-loop μ-loop
 slice-read-settle c =
-    let start = c .before .before .before .before .before .before .before .before .before .before .before .before .before .before .before .before .before .before .before .before .before .before in
-    omega (arith, start .pre .7)
+    let start = c .before .before .before .before .before .before .before .before .before .before .before .before .before .before .before .before .before .before .before in
+    omega (arith, start .pre .6)
 
 slice-write-out : tie.Need-slice-write-out Inv-loop μ-loop
 slice-write-out c =
-    let start = c .before .before .before .before .before .before .before .before .before .before .before .before .before .before .before .before .before .before .before .before .before .before .before in
-    omega (arith, start .pre .7)
+    let start = c .before .before .before .before .before .before .before .before .before .before .before .before .before .before .before .before .before .before .before .before in
+    omega (arith, start .pre .6)
 
 add-i : tie.Need-add-i Inv-loop μ-loop
 add-i c =
-    let start = c .before .before .before .before .before .before .before .before .before .before .before .before .before .before .before .before .before .before .before .before .before .before .before in
-    omega (arith, start .pre .6 .few)
+    let start = c .before .before .before .before .before .before .before .before .before .before .before .before .before .before .before .before .before .before .before .before in
+    omega (arith, start .pre .5 .few)
 
 loop-again : tie.Need-loop-again Inv-loop μ-loop
 loop-again c =
-    let at-next-states = c .before .before in let at-wide-number = at-next-states .before .before in let at-wide = at-wide-number .before .before in
-    let at-test = at-wide .before .before in let at-loop = at-test .before in let at-make-group = at-loop .before .before .before .before .before in
-    let start = at-make-group .before .before .before .before .before .before .before .before .before in
+    let at-next-states = c .before .before in let at-wide-number = at-next-states .before in let at-wide = at-wide-number .before .before in
+    let at-test = at-wide .before .before in let at-loop = at-test .before in let at-make-group = at-loop .before .before .before .before in
+    let start = at-make-group .before .before .before .before .before .before .before .before in
     let a = start .args in
     let g = start .pre in
     let l = at-loop .loop in
@@ -171,8 +160,8 @@ loop-again c =
     let s = firsts q (a .from) (a .to - a .from) in
     let m = at-next-states .next-states .result in
     let x = label (recordAt t (l .i)) in
-    let w = chain-step ss s t (l .i) (at-wide .wide .result) m (l .st) (at-wide .wide .ensures) (fit t (a .n) (l .i) (g .6 .records) h) (low-level t (a .n) (l .i) (g .6 .records) h) (l .inv .4) (l .inv .5)
-    (λ b e. at-next-states .next-states .ensures (listedNumber p (a .words .now) (a .count)) ss b _ x (made .packed) (g .4) (row-at (made .packed) (at-wide-number .wide-number .result) x (at-wide-number .wide-number .ensures ∙ g .6 .at (l .i) h)) e) in
+    let w = chain-step ss s t (l .i) (at-wide .wide .result) m (l .st) (at-wide .wide .ensures) (fit t (a .n) (l .i) (g .5 .records) h) (low-level t (a .n) (l .i) (g .5 .records) h) (l .inv .4) (l .inv .5)
+    (λ b e. at-next-states .next-states .ensures (listedNumber p (a .words .now) (a .count)) ss b _ x (made .packed) (g .4) (row-at (made .packed) (at-wide-number .wide-number .result) x (at-wide-number .wide-number .ensures ∙ g .5 .at (l .i) h)) e) in
     let v = c .settle .ensures .0 ∙ sym (made .says m (getD (l .out) (l .i) 0) (chainOf t (l .i)) (c .settle .ensures .1) (agree q (a .from) (a .to - a .from) m (chainOf t (l .i)) (w .0))) in (
       omega arith,
       simp length-set (l .inv .1),
@@ -182,28 +171,20 @@ loop-again c =
       rw add-one (w .1),
     )
 
-same-length-2 : tie.Need-same-length-2 Inv-loop μ-loop
-same-length-2 c =
-    let at-make-group = c .before .before .before .before .before .before in
-    let start = at-make-group .before .before .before .before .before .before .before .before .before in
-    at-make-group .make-group .ensures .packed .long ∙ sym (start .pre .5)
-
-same-length-3 : tie.Need-same-length-3 Inv-loop μ-loop
-same-length-3 c = c .before .loop .inv .1
+same-length : tie.Need-same-length Inv-loop μ-loop
+same-length c = c .before .loop .inv .1
 
 returns-2 : tie.Need-returns-2 Inv-loop μ-loop
 returns-2 c =
-    let at-loop = c .before in let at-make-group = at-loop .before .before .before .before .before in
-    let start = at-make-group .before .before .before .before .before .before .before .before .before in
+    let at-loop = c .before in
     let l = at-loop .loop in
-    let e : l .i ≡ start .args .n = omega arith in
-    (at-make-group .make-group .ensures .packed .long, record { long = l .inv .1; at = rw e at (l .inv .3); rest = rw e at (l .inv .2) })
+    let e : l .i ≡ at-loop .before .before .before .before .before .before .before .before .before .before .before .before .args .n = omega arith in
+    record { long = l .inv .1; at = rw e at (l .inv .3); rest = rw e at (l .inv .2) }
 
 pub try-group-spec : {M : Type 1} → statement M
 try-group-spec =
     tie.close
-    (tie.spec Inv-loop μ-loop make-group-requires same-length returns (λ c. omega arith) loop-holds mul-wide add-wide
+    (tie.spec Inv-loop μ-loop (λ c. refl) make-group-requires returns (λ c. omega arith) loop-holds mul-wide add-wide
     shared-slice-read-wide (λ c κs. tt) mul-wide-number shared-slice-read-wide-number (λ c κs. tt) mul-next-states
-    slice-read-next-states mul-next-states-2 array-read-next-states (λ c κs. tt) add-st mul-st array-write-st-2
-    slice-read-settle (λ c κs. tt) slice-write-out add-i (λ c. omega arith) loop-again same-length-2 same-length-3
-    returns-2)
+    array-read-next-states mul-next-states-2 array-read-next-states-2 (λ c κs. tt) add-st mul-st array-write-st-2
+    slice-read-settle (λ c κs. tt) slice-write-out add-i (λ c. omega arith) loop-again same-length returns-2)

@@ -1,80 +1,52 @@
-use mathlib.Core.Path.{refl, sym, _∙_}
+-- The first k rights have been tried on every node, each on what those before it left.
+use Prim.Native.Nat.{ℕ, _-_, _^_, _≤_, _<_}
+use mathlib.Core.Bool.{true}
+use mathlib.Core.Path.{_≡_, refl, sym}
+use native.Mathlib.Numerals.{add-one}
 use native.Mathlib.Omega.{arith}
 use Rattle.rights.specs.PolicyCheck.{bitOk}
+use Rattle.rights.specs.How.Automaton.{chainOf, Each}
+use Rattle.rights.specs.How.Groups.{byFirst}
 use Rattle.rights.proofs.Eaches.{each-then}
+use Rattle.rights.proofs.Ranges.{on-range}
 use Rattle.rights.proofs.groups.try_rights.Statement.{statement}
 use Rattle.rights.proofs.groups.try_rights.Tie as tie
 
-try-asked-requires : tie.Need-try-asked-requires
+abbrev Inv-loop : tie.InvT-loop
+Inv-loop asked policy own words count roles t n numbers out₀ k₀ out k = (k ≤ 5) × Each n out₀ out (λ (i x : ℕ). byFirst policy own roles (chainOf t i) asked k x)
+
+abbrev μ-loop : tie.MeasureT-loop
+μ-loop asked policy own words count roles t n numbers out₀ k₀ out k = 5 - k
+
+loop-holds : tie.Need-loop-holds Inv-loop μ-loop
+unfolding byFirst
+loop-holds c = (omega arith, record { long = refl; at = λ i h. refl; rest = refl })
+
+right-ok : (k : ℕ) → k < 5 → bitOk (2 ^ k) ≡ true
+unfolding bitOk
+right-ok k h = sym (on-range (λ j. bitOk (2 ^ j)) true 0 5 tt k (omega arith) h)
+
+try-asked-requires : tie.Need-try-asked-requires Inv-loop μ-loop
 try-asked-requires c κs =
-    let start = c .before .before .before .before .before .before .before .before .before in
-    let g = start .pre in
-    (g .0, unfold bitOk in refl, g .1, g .2, g .3)
+    let at-right-bit = c .before in let at-test = at-right-bit .before in let at-loop = at-test .before in
+    let g = at-loop .before .before .before .before .before .before .before .pre in
+    (g .0, rw (at-right-bit .right-bit .ensures) (right-ok (at-loop .loop .k) (at-test .loop-test .taken)), g .1, omega (arith, g .2, at-loop .loop .inv .1 .long))
 
-try-asked-requires-2 : tie.Need-try-asked-requires-2
-try-asked-requires-2 c κs =
-    let at-try-asked = c .before .before .before .before .before .before in
-    let start = at-try-asked .before .before .before .before .before .before .before .before .before .before in
-    let g = start .pre in
-    (g .0, unfold bitOk in refl, at-try-asked .try-asked .ensures .0, g .2, omega (arith, g .3, at-try-asked .try-asked .ensures .1 .long))
+loop-again : tie.Need-loop-again Inv-loop μ-loop
+unfolding byFirst
+loop-again c =
+    let at-try-asked = c .before .before in let at-right-bit = at-try-asked .before .before in let at-loop = at-right-bit .before .before in
+    (omega arith, rw add-one (each-then (at-loop .before .before .before .before .before .before .before .args .n) _ _ _ _ _ (at-loop .loop .inv .1) (rw (at-right-bit .right-bit .ensures) at (at-try-asked .try-asked .ensures))))
 
-try-asked-requires-3 : tie.Need-try-asked-requires-3
-try-asked-requires-3 c κs =
-    let at-try-asked2 = c .before .before .before .before .before .before in
-    let at-try-asked = at-try-asked2 .before .before .before .before .before .before .before in
-    let start = at-try-asked .before .before .before .before .before .before .before .before .before .before in
-    let g = start .pre in
-    (g .0, unfold bitOk in refl, at-try-asked2 .try-asked2 .ensures .0, g .2, omega (arith, g .3, at-try-asked .try-asked .ensures .1 .long, at-try-asked2 .try-asked2 .ensures .1 .long))
-
-try-asked-requires-4 : tie.Need-try-asked-requires-4
-try-asked-requires-4 c κs =
-    let at-try-asked3 = c .before .before .before .before .before .before in
-    let at-try-asked2 = at-try-asked3 .before .before .before .before .before .before .before in
-    let at-try-asked = at-try-asked2 .before .before .before .before .before .before .before in
-    let start = at-try-asked .before .before .before .before .before .before .before .before .before .before in
-    let g = start .pre in
-    (g .0, unfold bitOk in refl, at-try-asked3 .try-asked3 .ensures .0, g .2, omega (arith, g .3, at-try-asked .try-asked .ensures .1 .long, at-try-asked2 .try-asked2 .ensures .1 .long, at-try-asked3 .try-asked3 .ensures .1 .long))
-
-try-asked-requires-5 : tie.Need-try-asked-requires-5
-try-asked-requires-5 c κs =
-    let at-try-asked4 = c .before .before .before .before .before .before in
-    let at-try-asked3 = at-try-asked4 .before .before .before .before .before .before .before in
-    let at-try-asked2 = at-try-asked3 .before .before .before .before .before .before .before in
-    let at-try-asked = at-try-asked2 .before .before .before .before .before .before .before in
-    let start = at-try-asked .before .before .before .before .before .before .before .before .before .before in
-    let g = start .pre in
-    (g .0, unfold bitOk in refl, at-try-asked4 .try-asked4 .ensures .0, g .2, omega (arith, g .3, at-try-asked .try-asked .ensures .1 .long, at-try-asked2 .try-asked2 .ensures .1 .long, at-try-asked3 .try-asked3 .ensures .1 .long, at-try-asked4 .try-asked4 .ensures .1 .long))
-
-same-length : tie.Need-same-length
-same-length c =
-    let at-try-asked5 = c .before .before .before .before in
-    let start = at-try-asked5 .before .before .before .before .before .before .before .before .before .before .before .before .before .before .before .before .before .before .before .before .before .before .before .before .before .before .before .before .before .before .before .before .before .before .before .before .before .before in
-    at-try-asked5 .try-asked5 .ensures .0 ∙ sym (start .pre .1)
-
-same-length-2 : tie.Need-same-length-2
-same-length-2 c =
-    let at-try-asked5 = c .before .before .before .before in
-    let at-try-asked4 = at-try-asked5 .before .before .before .before .before .before .before in
-    let at-try-asked3 = at-try-asked4 .before .before .before .before .before .before .before in
-    let at-try-asked2 = at-try-asked3 .before .before .before .before .before .before .before in
-    let at-try-asked = at-try-asked2 .before .before .before .before .before .before .before in
-    let start = at-try-asked .before .before .before .before .before .before .before .before .before .before in
-    let a = start .args in
-    (each-then (a .n) _ _ _ _ _ (each-then (a .n) _ _ _ _ _ (each-then (a .n) _ _ _ _ _ (each-then (a .n) _ _ _ _ _ (at-try-asked .try-asked .ensures .1) (at-try-asked2 .try-asked2 .ensures .1)) (at-try-asked3 .try-asked3 .ensures .1)) (at-try-asked4 .try-asked4 .ensures .1)) (at-try-asked5 .try-asked5 .ensures .1)) .long
-
-returns : tie.Need-returns
+returns : tie.Need-returns Inv-loop μ-loop
+unfolding byFirst
 returns c =
-    let at-try-asked5 = c .before .before .before .before in
-    let at-try-asked4 = at-try-asked5 .before .before .before .before .before .before .before in
-    let at-try-asked3 = at-try-asked4 .before .before .before .before .before .before .before in
-    let at-try-asked2 = at-try-asked3 .before .before .before .before .before .before .before in
-    let at-try-asked = at-try-asked2 .before .before .before .before .before .before .before in
-    let start = at-try-asked .before .before .before .before .before .before .before .before .before .before in
-    let a = start .args in
-    each-then (a .n) _ _ _ _ _ (each-then (a .n) _ _ _ _ _ (each-then (a .n) _ _ _ _ _ (each-then (a .n) _ _ _ _ _ (at-try-asked .try-asked .ensures .1) (at-try-asked2 .try-asked2 .ensures .1)) (at-try-asked3 .try-asked3 .ensures .1)) (at-try-asked4 .try-asked4 .ensures .1)) (at-try-asked5 .try-asked5 .ensures .1)
+    let l = c .before .loop in
+    let e : l .k ≡ 5 = omega arith in
+    rw e at (l .inv .1)
 
 pub try-rights-spec : {M : Type 1} → statement M
 try-rights-spec =
     tie.close
-    (tie.spec try-asked-requires try-asked-requires-2 try-asked-requires-3 try-asked-requires-4 try-asked-requires-5
-    same-length same-length-2 returns)
+    (tie.spec Inv-loop μ-loop loop-holds (λ c κs. c .loop-test .taken) try-asked-requires (λ c. omega arith) (λ c. omega arith)
+    loop-again (λ c. c .before .loop .inv .1 .long) returns)

@@ -27,7 +27,7 @@ number-nodes-requires c κs =
 
 try-rights-requires : tie.Need-try-rights-requires
 try-rights-requires c κs =
-    let at-clear-rights = c .before .before .before .before .before .before in let at-number-nodes = at-clear-rights .before .before .before in
+    let at-clear-rights = c .before .before .before .before .before in let at-number-nodes = at-clear-rights .before .before .before in
     let at-sort-words = at-number-nodes .before .before .before .before in let at-count-of = at-sort-words .before .before in
     let g = at-count-of .before .before .before .before .before .pre in
     let e = at-count-of .count-of .ensures in
@@ -35,14 +35,13 @@ try-rights-requires c κs =
     let few = table-few _ (g .3) in
     let b = at-number-nodes .number-nodes .ensures in (
       record { sound = sound; subjects = own-sound (g .2) sound; sorted = at-sort-words .sort-words .ensures },
-      refl,
       record { few = rw e few; room = rw e (table-room _ (g .3)); records = rw e (table-records _ (g .3)); long = omega (arith, b .long, e, few); at = b .at },
       omega (arith, e, g .4, at-clear-rights .clear-rights .ensures .long),
     )
 
 returns : tie.Need-returns
 returns c =
-    let at-try-rights = c .before .before .before in let at-clear-rights = at-try-rights .before .before .before .before .before .before .before in
+    let at-try-rights = c .before .before in let at-clear-rights = at-try-rights .before .before .before .before .before .before in
     let at-count-of = at-clear-rights .before .before .before .before .before .before .before .before .before in
     let start = at-count-of .before .before .before .before .before in
     let a = start .args in
@@ -55,5 +54,5 @@ pub asked-on-spec : {M : Type 1} → statement M
 asked-on-spec =
     tie.close
     (tie.spec count-of-requires (λ c. search needs) sort-words-requires (λ c. search needs) (λ c. search needs)
-    number-nodes-requires (λ c κs. search needs) (λ c. search needs) (λ c. search needs) (λ c. search needs)
-    try-rights-requires (λ c. search needs) returns)
+    number-nodes-requires (λ c κs. search needs) (λ c. search needs) (λ c. search needs) try-rights-requires
+    (λ c. search needs) returns)
