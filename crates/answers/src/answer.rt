@@ -379,8 +379,8 @@ pub fn answer_query(table: &[u8], shown: &[u16], marks: &[u8], area: &mut [u8]) 
 // Writes the answer to `find`, whose hits are marked.
 pub fn answer_find(table: &[u8], shown: &[u16], marks: &[u8], area: &mut [u8]) -> usize
     requires { ⌜ (Fits (now table) (now shown)) × (length (now shown) ≤ length (now marks)) ⌝ }
-    ensures { λ r. ⌜ Answered (findText (chosen (marksOf (now (marks .entry))) (viewOf (now (table .entry)) (now (shown .entry))))) (now (area .entry))
-        (now (area .exit)) r ⌝ }
+    ensures { λ r. ⌜ Answered (findText (chosen (marksOf (now (marks .entry))) (viewOf (now (table .entry)) (now (shown .entry)))))
+        (now (area .entry)) (now (area .exit)) r ⌝ }
 {
     let mut scratch = [0u8; 1];
     let need = put_found(&mut scratch, table, shown, marks);

@@ -33,7 +33,6 @@ _onTo_ xs (are es) = are (xs ++ es)
 _onTo_ xs none = none
 
 infixr 20 _onTo_
-
 -- `)` ends the line
 abbrev pub closesLine : List ℕ → ℕ → Bool
 closesLine s at = eqb (byteAt s at) 41 && leb (length s) (at + 1)

@@ -195,7 +195,8 @@ fn insert_done(
     requires { ⌜ (1 ≤ length (now state)) × (tableOk (now table) ≡ true) × (count (now table) ≤ length (now done)) × (m * 32 ≤ length (now tree))
         × (m ≤ recordsMax) ⌝ }
     ensures { λ r. ⌜ Performs (insertAt place (marksOf (now (done .entry))) m (now (tree .entry))
-        (doneText selected (markCount (take (count (now (table .entry))) (marksOf (now (done .entry)))))) (stage (now (state .entry))) (now (table .entry)))
+        (doneText selected (markCount (take (count (now (table .entry))) (marksOf (now (done .entry)))))) (stage (now (state .entry)))
+        (now (table .entry)))
         (now (state .entry)) (now (table .entry)) (now (area .entry)) r (now (state .entry)) (now (table .exit)) (now (area .exit)) ⌝ }
 {
     let down = insert_refusal(table, done, tree, m, place);

@@ -160,8 +160,8 @@ pub fn select_user(
 // Answers what is asked of the marked ones of the shown nodes.
 fn answer_ask(ask: Ask, table: &[u8], shown: &[u16], marks: &[u8], area: &mut [u8]) -> usize
     requires { ⌜ (Fits (now table) (now shown)) × (length (now shown) ≤ length (now marks)) ⌝ }
-    ensures { λ r. ⌜ Answered (answerTo chosen ask (marksOf (now (marks .entry))) (viewOf (now (table .entry)) (now (shown .entry)))) (now (area .entry))
-        (now (area .exit)) r ⌝ }
+    ensures { λ r. ⌜ Answered (answerTo chosen ask (marksOf (now (marks .entry))) (viewOf (now (table .entry)) (now (shown .entry))))
+        (now (area .entry)) (now (area .exit)) r ⌝ }
 {
     match ask {
         Ask::Query => answer_query(table, shown, marks, area),

@@ -72,8 +72,8 @@ fn is_deep(policy: &[u8], step: usize) -> bool
 
 // Sets bit j in the row of the label of the record at byte `at`.
 fn note_label(policy: &[u8], words: &[u32], n: usize, at: usize, j: usize, rows: &mut [u64])
-    requires { ⌜ Words (now policy) (now words) n × Text (now policy) at × (0 < listedNumber (now policy) (now words) n (label (recAt (now policy) at)))
-        × (j ≤ 63) × (length (now rows) ≡ 2113) ⌝ }
+    requires { ⌜ Words (now policy) (now words) n × Text (now policy) at ×
+        (0 < listedNumber (now policy) (now words) n (label (recAt (now policy) at))) × (j ≤ 63) × (length (now rows) ≡ 2113) ⌝ }
     ensures { λ _. ⌜ Noted (listedNumber (now (policy .entry)) (now (words .entry)) n) (now (rows .entry)) (now (rows .exit)) j
         (λ (x : List ℕ). sameLabel x (label (recAt (now (policy .entry)) at))) ⌝ }
 {
@@ -243,8 +243,8 @@ fn with_rule(
 ) -> Group
     requires { ⌜ Ready (now policy) (now own) (now words) n × (k < ruleCount (now policy)) × (g .used + stepCount (now policy) k ≤ 62)
         × (length (now rows) ≡ 2113) ⌝ }
-    ensures { λ r. ⌜ ((ss : List Step) → length ss ≡ g .used → Packed (listedNumber (now (policy .entry)) (now (words .entry)) n) ss (g .deep) (g .every)
-        (now (rows .entry)) → Packed (listedNumber (now (policy .entry)) (now (words .entry)) n)
+    ensures { λ r. ⌜ ((ss : List Step) → length ss ≡ g .used → Packed (listedNumber (now (policy .entry)) (now (words .entry)) n) ss (g .deep)
+        (g .every) (now (rows .entry)) → Packed (listedNumber (now (policy .entry)) (now (words .entry)) n)
         (ss ++ rulePath (now (policy .entry)) (now (own .entry)) k) (r .deep) (r .every) (now (rows .exit)))
         × (r .start ≡ bitOr (g .start) (2 ^ g .used)) × (r .yes ≡ cond (accepts (now (policy .entry)) k)
         (bitOr (g .yes) (2 ^ (g .used + stepCount (now (policy .entry)) k))) (g .yes))

@@ -104,8 +104,8 @@ fn flush_tree(
     requires { ⌜ (0 < d) × (d ≤ length (now st)) × (4 + (w + m) * 32 ≤ length (now t)) × (m * 32 ≤ length (now tree)) ⌝ }
     requires { ⌜ (getD (now st) (d - 1) 0 < 12) × (up ≤ 1) × (Shallow up m (now tree) (getD (now st) (d - 1) 0)) ⌝ }
     ensures { λ r. ⌜ (r .i ≡ i) × (r .w ≡ w + m) × (r .d ≡ d - 1)
-        × (chunks (w + m) (drop 4 (now (t .exit))) ≡ chunks w (drop 4 (now (t .entry))) ++ raise (up + getD (now (st .entry)) (d - 1) 0) (chunks m (now (tree .entry))))
-        × (drop (4 + (w + m) * 32) (now (t .exit)) ≡ drop (4 + (w + m) * 32) (now (t .entry))) ⌝ }
+        × (chunks (w + m) (drop 4 (now (t .exit))) ≡ chunks w (drop 4 (now (t .entry))) ++ raise (up + getD (now (st .entry)) (d - 1) 0)
+        (chunks m (now (tree .entry)))) × (drop (4 + (w + m) * 32) (now (t .exit)) ≡ drop (4 + (w + m) * 32) (now (t .entry))) ⌝ }
 {
     let k = st[d - 1];
     put_tree(t, w, tree, m, up + k);
@@ -312,7 +312,8 @@ pub fn insert_marked(t: &mut [u8], marks: &[u8], tree: &[u8], m: usize, place: P
     requires { ⌜ (tableOk (now t) ≡ true) × (count (now t) ≤ length (now marks)) × (m * 32 ≤ length (now tree)) ⌝ }
     requires { ⌜ (tooDeep (lower place + deepest (chunks m (now tree))) (marksOf (now marks)) (records (now t)) ≡ false)
         × (hasRoom (now t) (marksOf (now marks)) m ≡ true) ⌝ }
-    ensures { λ _. ⌜ now (t .exit) ≡ changed (now (t .entry)) (placed place m (now (tree .entry)) (marksOf (now (marks .entry))) (records (now (t .entry)))) ⌝ }
+    ensures { λ _. ⌜ now (t .exit) ≡ changed (now (t .entry)) (placed place m (now (tree .entry)) (marksOf (now (marks .entry)))
+        (records (now (t .entry)))) ⌝ }
 {
     let n = count_of(t);
     let k = count_marks(marks, n);

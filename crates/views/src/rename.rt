@@ -18,7 +18,8 @@ ghost use Rattle.views.specs.Change.{chunks, relabel, renamed, changed};
 fn rename_one(t: &mut [u8], marks: &[u8], s: &[u8], from: usize, to: usize, i: usize)
     requires { ⌜ (4 + i * 32 + 32 ≤ length (now t)) × (i < length (now marks)) × (from ≤ to) × (to ≤ from + labelMax) × (to ≤ length (now s)) ⌝ }
     ensures { λ _. ⌜ (take (4 + i * 32 + 32) (now (t .exit)) ≡ take (4 + i * 32) (now (t .entry))
-        ++ cond (not (eqb (getD (now (marks .entry)) i 0) 0)) (relabel (take (to - from) (drop from (now (s .entry)))) (take 32 (drop (4 + i * 32) (now (t .entry))))) (take 32 (drop (4 + i * 32) (now (t .entry)))))
+        ++ cond (not (eqb (getD (now (marks .entry)) i 0) 0)) (relabel (take (to - from) (drop from (now (s .entry))))
+        (take 32 (drop (4 + i * 32) (now (t .entry))))) (take 32 (drop (4 + i * 32) (now (t .entry)))))
         × (drop (4 + i * 32 + 32) (now (t .exit)) ≡ drop (4 + i * 32 + 32) (now (t .entry))) ⌝ }
 {
     if marks[i] != 0 {
