@@ -143,21 +143,6 @@ fn add_step(policy: &[u8], words: &mut [u32], n: usize, at: usize) -> usize
     add_word(policy, words, n, at)
 }
 
-// Adds the labels that the count steps at byte b name.
-fn add_path(policy: &[u8], b: usize, count: usize, words: &mut [u32], n: usize) -> usize
-    requires { ⌜ Steps (now policy) b count × Words (now policy) (now words) n × (n + count ≤ 2112) × (b + 512 < 4294967296) ⌝ }
-    ensures { λ r. ⌜ Added (now (policy .entry)) (now (words .entry)) n (now (words .exit)) r
-        (λ (x : List ℕ). some (uses false x) (stepsFrom (now (policy .entry)) b count 0)) × (r ≤ n + count) ⌝ }
-{
-    let mut next = n;
-    let mut j = 0;
-    while j < count {
-        next = add_step(policy, words, next, b + j * RECORD_BYTES);
-        j += 1;
-    }
-    next
-}
-
 // Adds the labels that rule k names.
 fn add_rule(policy: &[u8], k: usize, words: &mut [u32], n: usize) -> usize
     requires { ⌜ Sound (now policy) × (k < ruleCount (now policy)) × Words (now policy) (now words) n × (n + 16 ≤ 2112) ⌝ }
@@ -165,8 +150,15 @@ fn add_rule(policy: &[u8], k: usize, words: &mut [u32], n: usize) -> usize
         (λ (x : List ℕ). some (uses false x) (storedPath (now (policy .entry)) k)) × (r ≤ n + 16) ⌝ }
 {
     let a = RULES_AT + k * RULE_BYTES;
+    let b = a + STEPS_AT;
     let count = wide(policy[a + 3]);
-    add_path(policy, a + STEPS_AT, count, words, n)
+    let mut next = n;
+    let mut j = 0;
+    while j < count {
+        next = add_step(policy, words, next, b + j * RECORD_BYTES);
+        j += 1;
+    }
+    next
 }
 
 // Adds the labels that the rules name.
