@@ -3,7 +3,7 @@
 use Prim.Native.Nat.{ℕ, suc, _+_, _<_, min}
 use mathlib.Core.Path.{_≡_, refl, ap, ap₂, sym, _∙_, subst}
 use mathlib.Core.Bool.{Bool, true, false, cond, _&&_, _||_}
-use mathlib.Core.List.{List, [], _∷_, append-nil}
+use mathlib.Core.List.{List, [], _∷_}
 use native.Mathlib.Omega.{arith}
 use lib.Dec.{ltb}
 use lib.ListN.{getD, length, drop}
@@ -12,7 +12,7 @@ use Rattle.rights.specs.Policy.{Policy, read, policyWord}
 use Rattle.rights.specs.Isa.{passesOwn}
 use Rattle.rights.specs.Rights.{holds, rightsOn}
 use Rattle.rights.specs.XPath.{xpathSelection}
-use Rattle.rights.specs.Table.{records, level, count, tableOk}
+use Rattle.rights.specs.Table.{records, level, tableOk}
 use Rattle.rights.proofs.Lists.{byCase}
 use Rattle.views.proofs.Relabelled.{level-relabel, label-relabel}
 use Rattle.views.specs.Change.{remove, insertBehind, insertInFront, rename, chunks, raise, relabel, placed, removed, renamed, tooDeep}
@@ -29,7 +29,7 @@ use Rattle.views.proofs.NestedLaws.{done-from}
 use Rattle.views.proofs.RecordBytes.{above-raise}
 use Rattle.answers.specs.Answer.{doneText}
 use Rattle.lines.specs.State.{userOf, policyIn}
-use Rattle.lines.specs.UserView.{rightsIn, viewIn, marksIn, selectedIn, doneIn}
+use Rattle.lines.specs.UserView.{rightsIn, viewIn, marksIn, doneIn}
 use Rattle.lines.specs.Work.{countText}
 use Rattle.guarantee.specs.Alike.{SamePolicy, UserIs}
 use Rattle.guarantee.proofs.SamePolicy.{same-own, same-word, same-rights-on}

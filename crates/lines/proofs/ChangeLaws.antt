@@ -1,5 +1,5 @@
 -- The six changes: what is decided before anything changes, and what the table becomes. Assumes nothing.
-use Prim.Native.Nat.{ℕ, zero, suc, _-_, _≤_}
+use Prim.Native.Nat.{ℕ, _-_, _≤_}
 use mathlib.Core.Bool.{Bool, true, false, _||_}
 use mathlib.Core.Path.{_≡_, refl, sym, ap, _∙_}
 use mathlib.Core.List.{List, [], _++_, map, append-nil}
@@ -13,7 +13,7 @@ use Rattle.rights.specs.PolicyBytes.{policyOf}
 use Rattle.rights.specs.PolicyCheck.{policyOk}
 use Rattle.rights.specs.Table.{count, records, tableOk}
 use Rattle.rights.proofs.Facts.{table-few}
-use Rattle.rights.proofs.Lists.{byCase, rest-of}
+use Rattle.rights.proofs.Lists.{rest-of}
 use Rattle.views.specs.Change.{changed, renamed, removed}
 use Rattle.views.specs.Done.{doneMarks}
 use Rattle.views.specs.How.Numbers.{shownByNumbers, byNumbers, DoneBy, shownNumbers}

@@ -5,7 +5,7 @@ use mathlib.Core.List.{List, [], _∷_, _++_, append-assoc}
 use native.Mathlib.Omega.{arith}
 use lib.ListN.{length}
 use Rattle.rights.specs.Nodes.{Node}
-use Rattle.rights.specs.Tree.{Tree, tree, Trees, none, more, writeTree, nodesOf}
+use Rattle.rights.specs.Tree.{Tree, Trees, none, more, writeTree, nodesOf}
 use Rattle.forms.specs.declared.form.Form.the-variants.{Child}
 use Rattle.forms.specs.declared.layout.Word.the-variants as word
 use Rattle.forms.specs.TreeText.{GoodTree, GoodTrees}

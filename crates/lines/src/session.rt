@@ -10,7 +10,6 @@ use crate::refusals::area_refusal;
 use answers::answer::answer_ok;
 ghost use mathlib.Core.Path.{_≡_};
 ghost use mathlib.Core.Bool.{true};
-ghost use lib.ListN.{length};
 ghost use Rattle.lines.specs.State.{storeOk};
 ghost use Rattle.lines.specs.Refusal.{firstRefusal};
 ghost use Rattle.lines.specs.Effect.{Performs};

@@ -20,10 +20,10 @@ ghost use lib.ListN.{length, getD};
 ghost use Rattle.rights.specs.Table.{recAt, recordAt, recordsFrom, recordsOk, label};
 ghost use Rattle.rights.specs.Labels.{sameLabel};
 ghost use Rattle.rights.specs.Policy.{some, uses};
-ghost use Rattle.rights.specs.PolicyBytes.{ruleCount, stepOf, stepsFrom, storedPath};
+ghost use Rattle.rights.specs.PolicyBytes.{ruleCount, stepOf, storedPath};
 ghost use Rattle.rights.specs.How.Places.{Text};
 ghost use Rattle.rights.specs.How.Roles.{Subjects, nameAmong};
-ghost use Rattle.rights.specs.How.Automaton.{Each, Steps, Sound};
+ghost use Rattle.rights.specs.How.Automaton.{Each, Sound};
 ghost use Rattle.rights.specs.How.Vocabulary.{labelOrder, listedWord, listedNumber, named, Words, Stands, Inserted, Added, Sorted};
 
 // Where a label stands among the words: at one that it is, or missing before one.

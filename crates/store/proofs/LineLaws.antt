@@ -23,9 +23,9 @@ use Rattle.forms.specs.TreeText.{GoodTree, GoodTrees, GoodLabel}
 use Rattle.forms.specs.Form.{readForm, treeIn}
 use Rattle.answers.specs.AnswerChoice.{Choice}
 use Rattle.lines.specs.State.{stage, storeOk}
-use Rattle.lines.specs.Outcome.{Outcome, refusal, Made}
-use Rattle.lines.specs.Refusal.{checked, Passed, firstRefusal}
-use Rattle.lines.specs.Effect.{Work, guarded, performed, Performs}
+use Rattle.lines.specs.Outcome.{refusal, Made}
+use Rattle.lines.specs.Refusal.{Passed, firstRefusal}
+use Rattle.lines.specs.Effect.{Work, guarded, Performs}
 use Rattle.lines.specs.declared.line.Answer.{Answer}
 use Rattle.lines.specs.declared.line.Answer.the-variants.{Refused}
 use Rattle.lines.proofs.OutcomeLaws.{made-at}

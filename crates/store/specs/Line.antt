@@ -1,6 +1,6 @@
 -- One line of any form: `step` (document 01, "Lines", "Who can be turned down"). "13 is tested first, then 1 to 12 rising."
 use Prim.Native.Nat.{ℕ, _-_}
-use mathlib.Core.Bool.{Bool, true, false, cond, not, _&&_, Bool·beq}
+use mathlib.Core.Bool.{Bool, true, cond, not, _&&_, Bool·beq}
 use mathlib.Core.List.{List, [], _∷_, _++_}
 use lib.Dec.{leb, ltb, eqb}
 use lib.ListN.{take, drop}

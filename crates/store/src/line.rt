@@ -44,7 +44,7 @@ ghost use Rattle.lines.specs.State.{stage, storeOk};
 ghost use Rattle.lines.specs.Outcome.{Made};
 ghost use Rattle.lines.specs.Refusal.{firstRefusal};
 ghost use Rattle.lines.specs.Effect.{Performs};
-ghost use Rattle.store.specs.Line.{stageOf, inStage, isNoForm, bytesOf, acceptByte, workOf, textChecks, formChecks, step};
+ghost use Rattle.store.specs.Line.{stageOf, inStage, bytesOf, acceptByte, workOf, textChecks, formChecks, step};
 
 // What is no form belongs to no stage.
 const NO_STAGE: u8 = 5;

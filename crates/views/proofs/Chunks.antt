@@ -4,11 +4,11 @@ use mathlib.Core.Path.{_≡_, refl, sym, ap, _∙_}
 use mathlib.Core.Bool.{not}
 use mathlib.Core.List.{List, [], _∷_, _++_}
 use native.Mathlib.Omega.{arith}
-use native.Mathlib.Nat.{zero-add, suc-add, add-zero}
+use native.Mathlib.Nat.{add-zero}
 use native.Mathlib.Numerals.{add-one}
 use lib.Dec.{eqb}
 use lib.ListN.{length, getD, take, drop, replicate}
-use lib.Seq.{take-nil, take-take, drop-drop, take-add, getD-take, getD-drop, length-take-le, take-at, drop-at, drop-append-le, drop-cons}
+use lib.Seq.{take-take, drop-drop, take-add, getD-take, getD-drop, length-take-le, take-at, drop-at, drop-append-le, drop-cons}
 use Rattle.rights.specs.Table.{count, level, records, recordsFrom}
 use Rattle.views.specs.Change.{chunks, le4, join, changed}
 use Rattle.rights.specs.Marks.{marksOf}

@@ -2,12 +2,12 @@
 use Prim.Native.Nat.{ℕ, zero, suc, _+_, _%_, _≤_, _<_}
 use mathlib.Core.Bool.{Bool, true, false}
 use mathlib.Core.Path.{_≡_, refl, sym, ap, _∙_}
-use mathlib.Core.List.{List, [], _∷_, _++_, map}
+use mathlib.Core.List.{List, [], _∷_, map}
 use native.Mathlib.Omega.{arith}
 use borrow.Author.Tests.{eq-eqb, ne-eqb}
 use lib.ListN.{length, take, drop, getD}
-use Rattle.rights.specs.Marks.{markCount, eachFrom, keep}
-use Rattle.rights.specs.Table.{recordsFrom, records, count, tableOk}
+use Rattle.rights.specs.Marks.{markCount, keep}
+use Rattle.rights.specs.Table.{records, count, tableOk}
 use Rattle.views.specs.Shown.{Stored, storedFrom, stored, storedLevel, granted, shownAfter, shown}
 use Rattle.views.specs.Nodes.{All}
 use Rattle.views.specs.How.Numbers.{shownNumber, shownNumbers, isNext, shownByNumbers, byNumbers}

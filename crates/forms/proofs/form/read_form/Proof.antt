@@ -1,6 +1,5 @@
 -- The word, the parts of its shape, the tree, and the form that they make.
 use mathlib.Core.Path.{refl, sym, _∙_}
-use mathlib.Core.List.{[]}
 use native.Mathlib.Omega.{arith}
 use Rattle.rights.proofs.PathLaws.{past}
 use Rattle.forms.specs.How.Codes.{endBy, LaidOut}

@@ -22,9 +22,13 @@ Inv-loop policy own words n roles right from to rows₀ g₀ k₀ rows g k =
 abbrev μ-loop : tie.MeasureT-loop
 μ-loop policy own words n roles right from to rows₀ g₀ k₀ rows g k = to - k
 
+-- the places further back that answers read
+abbrev to-start : tie.After-slice-known Inv-loop μ-loop → tie.Start Inv-loop μ-loop
+to-start c = c .before .before .before .before
+
 loop-holds : tie.Need-loop-holds Inv-loop μ-loop
 loop-holds c =
-    let start-2 = c .before .before .before .before in
+    let start-2 = to-start c in
     let a = start-2 .args in
     let g = start-2 .pre in
     let p = a .policy .now in
@@ -33,7 +37,7 @@ loop-holds c =
 
 with-ruling-requires : tie.Need-with-ruling-requires Inv-loop μ-loop
 with-ruling-requires c κs =
-    let at-loop = c .before .before in let start-2 = at-loop .before .before .before .before .before in
+    let at-loop = c .before .before in let start-2 = to-start (at-loop .before) in
     let a = start-2 .args in
     let g = start-2 .pre in
     let l = at-loop .loop in
@@ -47,19 +51,19 @@ add-k c = omega (arith, c .before .before .before .before .before .before .befor
 loop-again : tie.Need-loop-again Inv-loop μ-loop
 loop-again c =
     let at-with-ruling = c .before .before in let at-loop = at-with-ruling .before .before .before in
-    let a = at-loop .before .before .before .before .before .args in
+    let a = to-start (at-loop .before) .args in
     let l = at-loop .loop in
     let y : suc (l .k - a .from) ≡ l .k + 1 - a .from = omega arith in
     (omega arith, omega arith, rw y at (at-with-ruling .with-ruling .ensures .0 (a .from) (l .k - a .from) (omega arith) (l .inv .2)))
 
 same-length : tie.Need-same-length Inv-loop μ-loop
-same-length c = let at-loop = c .before in at-loop .loop .inv .2 .packed .long ∙ sym (ap length (at-loop .before .before .before .before .before .pre .5))
+same-length c = let at-loop = c .before in at-loop .loop .inv .2 .packed .long ∙ sym (ap length (to-start (at-loop .before) .pre .5))
 
 returns : tie.Need-returns Inv-loop μ-loop
 returns c =
     let at-loop = c .before in
     let l = at-loop .loop in
-    let e : l .k ≡ at-loop .before .before .before .before .before .args .to = omega arith in
+    let e : l .k ≡ to-start (at-loop .before) .args .to = omega arith in
     rw e at (l .inv .2)
 
 pub make-group-spec : {M : Type 1} → statement M

@@ -5,17 +5,21 @@ use Rattle.rights.proofs.PackedLaws.{noted-label}
 use Rattle.rights.proofs.groups.note_label.Statement.{statement}
 use Rattle.rights.proofs.groups.note_label.Tie as tie
 
+-- the places further back that answers read
+abbrev to-start : tie.After-number-of → tie.Start
+to-start c = c .before .before .before .before
+
 mul-rows : tie.Need-mul-rows
-mul-rows c = omega (arith, c .number-of .ensures .1, c .before .before .before .before .pre .0 .few)
+mul-rows c = omega (arith, c .number-of .ensures .1, to-start c .pre .0 .few)
 
 slice-read-rows : tie.Need-slice-read-rows
 slice-read-rows c =
-    let at-number-of = c .before in let start = at-number-of .before .before .before .before in
+    let at-number-of = c .before in let start = to-start at-number-of in
     omega (arith, at-number-of .number-of .ensures .1, start .pre .0 .few, start .pre .4)
 
 returns : tie.Need-returns
 returns c =
-    let at-number-of = c .before .before in let start = at-number-of .before .before .before .before in
+    let at-number-of = c .before .before in let start = to-start at-number-of in
     let a = start .args in
     let g = start .pre in
     let h = at-number-of .number-of .result in

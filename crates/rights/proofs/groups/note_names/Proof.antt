@@ -18,27 +18,31 @@ Inv-loop policy own words n j rows₀ i₀ rows i =
 abbrev μ-loop : tie.MeasureT-loop
 μ-loop policy own words n j rows₀ i₀ rows i = length own - i
 
+-- the places further back that answers read
+abbrev to-start : tie.After-slice-known Inv-loop μ-loop → tie.Start Inv-loop μ-loop
+to-start c = c .before .before .before .before
+
 loop-holds : tie.Need-loop-holds Inv-loop μ-loop
 loop-holds c =
-    let a = c .before .before .before .before .args in
+    let a = to-start c .args in
     (omega arith, noted-none (listedNumber (a .policy .now) (a .words .now) (a .n)) (a .rows .now) (a .j) _ (names-none (a .policy .now) (a .own .now)))
 
 mul-note-label : tie.Need-mul-note-label Inv-loop μ-loop
 mul-note-label c =
-    let at-test = c .before .before in let at-loop = at-test .before in let start = at-loop .before .before .before .before .before in
+    let at-test = c .before .before in let at-loop = at-test .before in let start = to-start (at-loop .before) in
     let g = start .pre .0 in
     omega (arith, c .wide .ensures, g .sound .subjects, g .subjects .at (at-loop .loop .i) (at-test .loop-test .taken) .declared)
 
 add-note-label : tie.Need-add-note-label Inv-loop μ-loop
 add-note-label c =
-    let at-test = c .before .before in let at-loop = at-test .before in let start = at-loop .before .before .before .before .before in
+    let at-test = c .before .before in let at-loop = at-test .before in let start = to-start (at-loop .before) in
     let g = start .pre .0 in
     omega (arith, c .wide .ensures, g .sound .subjects, g .subjects .at (at-loop .loop .i) (at-test .loop-test .taken) .declared)
 
 note-label-requires : tie.Need-note-label-requires Inv-loop μ-loop
 note-label-requires c κs =
     let at-wide = c .before in let at-test = at-wide .before .before in let at-loop = at-test .before in
-    let start = at-loop .before .before .before .before .before in
+    let start = to-start (at-loop .before) in
     let a = start .args in
     let g = start .pre in
     let l = at-loop .loop in
@@ -48,7 +52,7 @@ note-label-requires c κs =
 loop-again : tie.Need-loop-again Inv-loop μ-loop
 loop-again c =
     let at-note-label = c .before .before in let at-wide = at-note-label .before .before in let at-test = at-wide .before .before in
-    let at-loop = at-test .before in let start = at-loop .before .before .before .before .before in
+    let at-loop = at-test .before in let start = to-start (at-loop .before) in
     let a = start .args in
     let l = at-loop .loop in
     let p = a .policy .now in
@@ -59,7 +63,7 @@ same-length c = c .before .loop .inv .1 .long
 
 returns : tie.Need-returns Inv-loop μ-loop
 returns c =
-    let at-loop = c .before in let start = at-loop .before .before .before .before .before in
+    let at-loop = c .before in let start = to-start (at-loop .before) in
     let a = start .args in
     let l = at-loop .loop in
     noted-alike (listedNumber (a .policy .now) (a .words .now) (a .n)) (a .rows .now) (a .j) (l .rows) _ _ (λ x. names-all (a .policy .now) (a .own .now) (l .i) x (omega arith)) (l .inv .1)

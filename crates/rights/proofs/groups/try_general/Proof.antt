@@ -8,14 +8,18 @@ use Rattle.rights.proofs.GroupLaws.{general-at, above-zero}
 use Rattle.rights.proofs.groups.try_general.Statement.{statement}
 use Rattle.rights.proofs.groups.try_general.Tie as tie
 
+-- the places further back that answers read
+abbrev to-start : tie.After-slice-known → tie.Start
+to-start c = c .before .before .before
+
 returns : tie.Need-returns
 returns c =
-    let a = c .before .before .before .before .args in
+    let a = to-start (c .before) .args in
     λ own. record { long = refl; at = λ i h. ruled-zero (rulingAt (a .policy .now) own (a .roles .now) (a .right)) (a .right) (chainOf (a .t .now) i) 0 (a .k) _ (c .if1 .taken); rest = refl }
 
 returns-2 : tie.Need-returns-2
 returns-2 c =
-    let at-rule-all = c .before .before in let at-if1 = at-rule-all .before .before .before in let start = at-if1 .before .before .before .before in
+    let at-rule-all = c .before .before in let at-if1 = at-rule-all .before .before .before in let start = to-start (at-if1 .before) in
     let a = start .args in
     let g = start .pre in
     let r = at-rule-all .rule-all .ensures in

@@ -29,13 +29,29 @@ Inv-loop policy own words count roles right from to t n numbers out₀ rows deep
 abbrev μ-loop : tie.MeasureT-loop
 μ-loop policy own words count roles right from to t n numbers out₀ rows deep every yes' noes st₀ i₀ out st i = n - i
 
+-- the places further back that answers read
+abbrev to-start-from-slice-known2 : tie.After-slice-known2 Inv-loop μ-loop → tie.Start Inv-loop μ-loop
+to-start-from-slice-known2 c = c .before .before .before .before .before .before .before .before .before .before .before .before .before .before .before .before .before .before .before
+
+abbrev to-in-loop : tie.After-wide-number Inv-loop μ-loop → tie.In-loop Inv-loop μ-loop
+to-in-loop c = c .before .before .before .before
+
+abbrev to-start-from-loop : tie.At-loop Inv-loop μ-loop → tie.Start Inv-loop μ-loop
+to-start-from-loop c = c .before .before .before .before .before .before .before .before .before .before .before .before
+
+abbrev to-make-group : tie.At-loop Inv-loop μ-loop → tie.After-make-group Inv-loop μ-loop
+to-make-group c = c .before .before .before .before
+
+abbrev to-start-from-rows : tie.After-rows Inv-loop μ-loop → tie.Start Inv-loop μ-loop
+to-start-from-rows c = c .before .before .before .before .before .before .before
+
 make-group-requires : tie.Need-make-group-requires Inv-loop μ-loop
-make-group-requires c κs = let g = c .before .before .before .before .before .before .before .pre in (g .0, g .1, g .2, g .3, g .4, refl)
+make-group-requires c κs = let g = to-start-from-rows c .pre in (g .0, g .1, g .2, g .3, g .4, refl)
 
 returns : tie.Need-returns Inv-loop μ-loop
 returns c =
     let at-make-group = c .before .before .before in
-    let a = at-make-group .before .before .before .before .before .before .before .before .args in
+    let a = to-start-from-rows (at-make-group .before) .args in
     let q = rulingAt (a .policy .now) (a .own .now) (a .roles .now) (a .right) in
     let z = sym (at-make-group .make-group .ensures .used-is) ∙ c .if1 .taken in
     record { long = refl; at = λ i h. ruled-none q (a .from) (a .right) (chainOf (a .t .now) i) (a .to - a .from) (getD (a .out .now) i 0) z; rest = refl }
@@ -43,29 +59,29 @@ returns c =
 loop-holds : tie.Need-loop-holds Inv-loop μ-loop
 loop-holds c =
     let at-make-group = c .before .before .before in
-    let start = at-make-group .before .before .before .before .before .before .before .before in
+    let start = to-start-from-rows (at-make-group .before) in
     let a = start .args in
     let q = rulingAt (a .policy .now) (a .own .now) (a .roles .now) (a .right) in
     (omega arith, refl, refl, (λ j h. absurd (omega arith)), refl, levels-start (laid q (a .from) (a .to - a .from)) (firsts q (a .from) (a .to - a .from)) _ (a .t .now) (at-make-group .make-group .ensures .start-is))
 
 mul-wide : tie.Need-mul-wide Inv-loop μ-loop
 mul-wide c =
-    let start = c .before .before .before .before .before .before .before .before .before .before .before .before .before in
+    let start = to-start-from-loop (c .before) in
     omega (arith, start .pre .5 .few)
 
 add-wide : tie.Need-add-wide Inv-loop μ-loop
 add-wide c =
-    let start = c .before .before .before .before .before .before .before .before .before .before .before .before .before in
+    let start = to-start-from-loop (c .before) in
     omega (arith, start .pre .5 .few)
 
 shared-slice-read-wide : tie.Need-shared-slice-read-wide Inv-loop μ-loop
 shared-slice-read-wide c =
-    let start = c .before .before .before .before .before .before .before .before .before .before .before .before .before .before in
+    let start = to-start-from-loop (c .before .before) in
     omega (arith, start .pre .5 .room)
 
 mul-wide-number : tie.Need-mul-wide-number Inv-loop μ-loop
 mul-wide-number c =
-    let start = c .before .before .before .before .before .before .before .before .before .before .before .before .before .before .before in
+    let start = to-start-from-loop (c .before .before .before) in
     omega (arith, start .pre .5 .few)
 
 shared-slice-read-wide-number : tie.Need-shared-slice-read-wide-number Inv-loop μ-loop
@@ -75,9 +91,9 @@ shared-slice-read-wide-number c =
 
 mul-next-states : tie.Need-mul-next-states Inv-loop μ-loop
 mul-next-states c =
-    let at-test = c .before .before .before .before in let at-loop = at-test .before in
-    let at-make-group = at-loop .before .before .before .before in
-    let start = at-make-group .before .before .before .before .before .before .before .before in
+    let at-test = to-in-loop c in let at-loop = at-test .before in
+    let at-make-group = to-make-group at-loop in
+    let start = to-start-from-rows (at-make-group .before) in
     let a = start .args in
     let g = start .pre in
     let i = at-loop .loop .i in
@@ -85,9 +101,9 @@ mul-next-states c =
 
 array-read-next-states : tie.Need-array-read-next-states Inv-loop μ-loop
 array-read-next-states c =
-    let at-test = c .before .before .before .before in let at-loop = at-test .before in
-    let at-make-group = at-loop .before .before .before .before in
-    let start = at-make-group .before .before .before .before .before .before .before .before in
+    let at-test = to-in-loop c in let at-loop = at-test .before in
+    let at-make-group = to-make-group at-loop in
+    let start = to-start-from-rows (at-make-group .before) in
     let a = start .args in
     let g = start .pre in
     let i = at-loop .loop .i in
@@ -96,58 +112,58 @@ array-read-next-states c =
 mul-next-states-2 : tie.Need-mul-next-states-2 Inv-loop μ-loop
 mul-next-states-2 c =
     let at-wide = c .before .before in let at-test = at-wide .before .before in let at-loop = at-test .before in
-    let start = at-loop .before .before .before .before .before .before .before .before .before .before .before .before in
+    let start = to-start-from-loop at-loop in
     let a = start .args in
     omega (arith, at-wide .wide .ensures, low-byte (a .t .now) (a .n) (at-loop .loop .i) (start .pre .5 .records) (at-test .loop-test .taken))
 
 array-read-next-states-2 : tie.Need-array-read-next-states-2 Inv-loop μ-loop
 array-read-next-states-2 c =
     let at-wide = c .before .before in let at-test = at-wide .before .before in let at-loop = at-test .before in
-    let start = at-loop .before .before .before .before .before .before .before .before .before .before .before .before in
+    let start = to-start-from-loop at-loop in
     let a = start .args in
     omega (arith, at-wide .wide .ensures, low-byte (a .t .now) (a .n) (at-loop .loop .i) (start .pre .5 .records) (at-test .loop-test .taken))
 
 add-st : tie.Need-add-st Inv-loop μ-loop
 add-st c =
     let at-wide = c .before .before .before in let at-test = at-wide .before .before in let at-loop = at-test .before in
-    let start = at-loop .before .before .before .before .before .before .before .before .before .before .before .before in
+    let start = to-start-from-loop at-loop in
     let a = start .args in
     omega (arith, at-wide .wide .ensures, low-byte (a .t .now) (a .n) (at-loop .loop .i) (start .pre .5 .records) (at-test .loop-test .taken))
 
 mul-st : tie.Need-mul-st Inv-loop μ-loop
 mul-st c =
     let at-wide = c .before .before .before in let at-test = at-wide .before .before in let at-loop = at-test .before in
-    let start = at-loop .before .before .before .before .before .before .before .before .before .before .before .before in
+    let start = to-start-from-loop at-loop in
     let a = start .args in
     omega (arith, at-wide .wide .ensures, low-byte (a .t .now) (a .n) (at-loop .loop .i) (start .pre .5 .records) (at-test .loop-test .taken))
 
 array-write-st-2 : tie.Need-array-write-st-2 Inv-loop μ-loop
 array-write-st-2 c =
     let at-wide = c .before .before .before in let at-test = at-wide .before .before in let at-loop = at-test .before in
-    let start = at-loop .before .before .before .before .before .before .before .before .before .before .before .before in
+    let start = to-start-from-loop at-loop in
     let a = start .args in
     omega (arith, at-wide .wide .ensures, low-byte (a .t .now) (a .n) (at-loop .loop .i) (start .pre .5 .records) (at-test .loop-test .taken))
 
 slice-read-settle : tie.Need-slice-read-settle Inv-loop μ-loop
 slice-read-settle c =
-    let start = c .before .before .before .before .before .before .before .before .before .before .before .before .before .before .before .before .before .before .before in
+    let start = to-start-from-slice-known2 c in
     omega (arith, start .pre .6)
 
 slice-write-out : tie.Need-slice-write-out Inv-loop μ-loop
 slice-write-out c =
-    let start = c .before .before .before .before .before .before .before .before .before .before .before .before .before .before .before .before .before .before .before .before in
+    let start = to-start-from-slice-known2 (c .before) in
     omega (arith, start .pre .6)
 
 add-i : tie.Need-add-i Inv-loop μ-loop
 add-i c =
-    let start = c .before .before .before .before .before .before .before .before .before .before .before .before .before .before .before .before .before .before .before .before in
+    let start = to-start-from-slice-known2 (c .before) in
     omega (arith, start .pre .5 .few)
 
 loop-again : tie.Need-loop-again Inv-loop μ-loop
 loop-again c =
     let at-next-states = c .before .before in let at-wide-number = at-next-states .before in let at-wide = at-wide-number .before .before in
-    let at-test = at-wide .before .before in let at-loop = at-test .before in let at-make-group = at-loop .before .before .before .before in
-    let start = at-make-group .before .before .before .before .before .before .before .before in
+    let at-test = at-wide .before .before in let at-loop = at-test .before in let at-make-group = to-make-group at-loop in
+    let start = to-start-from-rows (at-make-group .before) in
     let a = start .args in
     let g = start .pre in
     let l = at-loop .loop in
@@ -178,7 +194,7 @@ returns-2 : tie.Need-returns-2 Inv-loop μ-loop
 returns-2 c =
     let at-loop = c .before in
     let l = at-loop .loop in
-    let e : l .i ≡ at-loop .before .before .before .before .before .before .before .before .before .before .before .before .args .n = omega arith in
+    let e : l .i ≡ to-start-from-loop at-loop .args .n = omega arith in
     record { long = l .inv .1; at = rw e at (l .inv .3); rest = rw e at (l .inv .2) }
 
 pub try-group-spec : {M : Type 1} → statement M

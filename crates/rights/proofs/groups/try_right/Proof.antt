@@ -1,8 +1,7 @@
 -- The rules before k have been tried on every node, in groups; each group goes on with what those before it left.
 use Prim.Native.Nat.{ℕ, _-_, _≤_}
-use mathlib.Core.Path.{_≡_, refl, sym, _∙_, ap}
+use mathlib.Core.Path.{_≡_, refl, _∙_, ap}
 use native.Mathlib.Omega.{arith}
-use lib.ListN.{length}
 use Rattle.rights.specs.How.Groups.{rulingAt, ruled}
 use Rattle.rights.specs.How.Automaton.{chainOf, Each}
 use Rattle.rights.specs.PolicyBytes.{ruleCount}
@@ -18,6 +17,13 @@ Inv-loop policy own words count roles right t n numbers out₀ rules k₀ out k 
 abbrev μ-loop : tie.MeasureT-loop
 μ-loop policy own words count roles right t n numbers out₀ rules k₀ out k = rules - k
 
+-- the places further back that answers read
+abbrev to-general-end : tie.After-slice-known2 Inv-loop μ-loop → tie.After-general-end Inv-loop μ-loop
+to-general-end c = c .before .before .before .before
+
+abbrev to-start : tie.After-wide Inv-loop μ-loop → tie.Start Inv-loop μ-loop
+to-start c = c .before .before .before .before .before .before .before .before
+
 shared-slice-read-wide : tie.Need-shared-slice-read-wide Inv-loop μ-loop
 shared-slice-read-wide c =
     let start = c .before .before .before .before .before .before .before in
@@ -25,21 +31,21 @@ shared-slice-read-wide c =
 
 general-end-requires : tie.Need-general-end-requires Inv-loop μ-loop
 general-end-requires c κs =
-    let start = c .before .before .before .before .before .before .before .before in
+    let start = to-start c in
     (start .pre .0 .sound, c .wide .ensures)
 
 try-general-requires : tie.Need-try-general-requires Inv-loop μ-loop
 try-general-requires c κs =
     let at-general-end = c .before in let at-wide = at-general-end .before in
-    let start = at-wide .before .before .before .before .before .before .before .before in
+    let start = to-start at-wide in
     let g = start .pre in
     let e = at-general-end .general-end .ensures in
     (g .0 .sound, g .1, omega (arith, e .0, at-wide .wide .ensures), e .1, g .3)
 
 loop-holds : tie.Need-loop-holds Inv-loop μ-loop
 loop-holds c =
-    let at-general-end = c .before .before .before .before in
-    let start = at-general-end .before .before .before .before .before .before .before .before .before in
+    let at-general-end = to-general-end c in
+    let start = to-start (at-general-end .before) in
     let a = start .args in
     let q = rulingAt (a .policy .now) (a .own .now) (a .roles .now) (a .right) in
     let k = at-general-end .general-end .result in
@@ -48,14 +54,14 @@ loop-holds c =
 group-end-requires : tie.Need-group-end-requires Inv-loop μ-loop
 group-end-requires c κs =
     let at-wide = c .before .before .before .before .before .before .before in
-    let start = at-wide .before .before .before .before .before .before .before .before in
+    let start = to-start at-wide in
     (start .pre .0 .sound, at-wide .wide .ensures, omega arith)
 
 try-group-requires : tie.Need-try-group-requires Inv-loop μ-loop
 try-group-requires c κs =
     let at-group-end = c .before in let at-loop = at-group-end .before .before in let at-try-general = at-loop .before .before .before in
     let at-wide = at-try-general .before .before .before in
-    let start = at-wide .before .before .before .before .before .before .before .before in
+    let start = to-start at-wide in
     let own = start .args .own .now in
     let g = start .pre in
     let l = at-loop .loop in
@@ -70,8 +76,8 @@ loop-less c =
 loop-again : tie.Need-loop-again Inv-loop μ-loop
 loop-again c =
     let at-try-group = c .before .before in let at-group-end = at-try-group .before .before in
-    let at-loop = at-group-end .before .before in let at-general-end = at-loop .before .before .before .before .before in
-    let start = at-general-end .before .before .before .before .before .before .before .before .before in
+    let at-loop = at-group-end .before .before in let at-general-end = to-general-end (at-loop .before) in
+    let start = to-start (at-general-end .before) in
     let a = start .args in
     let l = at-loop .loop in
     let from = at-general-end .general-end .result in
@@ -91,13 +97,13 @@ loop-again c =
 same-length : tie.Need-same-length Inv-loop μ-loop
 same-length c =
     let at-loop = c .before in let at-try-general = at-loop .before .before .before in
-    let start = at-try-general .before .before .before .before .before .before .before .before .before .before .before in
+    let start = to-start (at-try-general .before .before .before) in
     at-loop .loop .inv .2 .long ∙ (at-try-general .try-general .ensures (start .args .own .now)) .long
 
 returns : tie.Need-returns Inv-loop μ-loop
 returns c =
     let at-loop = c .before in let at-try-general = at-loop .before .before .before in let at-general-end = at-try-general .before .before in
-    let at-wide = at-general-end .before in let start = at-wide .before .before .before .before .before .before .before .before in
+    let at-wide = at-general-end .before in let start = to-start at-wide in
     let a = start .args in
     let l = at-loop .loop in
     let from = at-general-end .general-end .result in

@@ -18,6 +18,10 @@ Inv-loop asked policy own words count roles t n numbers out₀ k₀ out k = (k �
 abbrev μ-loop : tie.MeasureT-loop
 μ-loop asked policy own words count roles t n numbers out₀ k₀ out k = 5 - k
 
+-- the places further back that answers read
+abbrev to-start : tie.At-loop Inv-loop μ-loop → tie.Start Inv-loop μ-loop
+to-start c = c .before .before .before .before .before .before .before
+
 loop-holds : tie.Need-loop-holds Inv-loop μ-loop
 unfolding byFirst
 loop-holds c = (omega arith, record { long = refl; at = λ i h. refl; rest = refl })
@@ -29,14 +33,14 @@ right-ok k h = sym (on-range (λ j. bitOk (2 ^ j)) true 0 5 tt k (omega arith) h
 try-asked-requires : tie.Need-try-asked-requires Inv-loop μ-loop
 try-asked-requires c κs =
     let at-right-bit = c .before in let at-test = at-right-bit .before in let at-loop = at-test .before in
-    let g = at-loop .before .before .before .before .before .before .before .pre in
+    let g = to-start at-loop .pre in
     (g .0, rw (at-right-bit .right-bit .ensures) (right-ok (at-loop .loop .k) (at-test .loop-test .taken)), g .1, omega (arith, g .2, at-loop .loop .inv .1 .long))
 
 loop-again : tie.Need-loop-again Inv-loop μ-loop
 unfolding byFirst
 loop-again c =
     let at-try-asked = c .before .before in let at-right-bit = at-try-asked .before .before in let at-loop = at-right-bit .before .before in
-    (omega arith, rw add-one (each-then (at-loop .before .before .before .before .before .before .before .args .n) _ _ _ _ _ (at-loop .loop .inv .1) (rw (at-right-bit .right-bit .ensures) at (at-try-asked .try-asked .ensures))))
+    (omega arith, rw add-one (each-then (to-start at-loop .args .n) _ _ _ _ _ (at-loop .loop .inv .1) (rw (at-right-bit .right-bit .ensures) at (at-try-asked .try-asked .ensures))))
 
 returns : tie.Need-returns Inv-loop μ-loop
 unfolding byFirst

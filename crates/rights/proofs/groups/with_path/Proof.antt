@@ -22,22 +22,26 @@ Inv-loop policy own words n b count used rows₀ m₀ j₀ rows m j =
 abbrev μ-loop : tie.MeasureT-loop
 μ-loop policy own words n b count used rows₀ m₀ j₀ rows m j = count - j
 
+-- the places further back that answers read
+abbrev to-start : tie.After-slice-known Inv-loop μ-loop → tie.Start Inv-loop μ-loop
+to-start c = c .before .before .before .before
+
 loop-holds : tie.Need-loop-holds Inv-loop μ-loop
-loop-holds c = (omega arith, c .before .before .before .before .pre .4, λ ss e k. unfold stepsFor in rw (append-nil ss) k)
+loop-holds c = (omega arith, to-start c .pre .4, λ ss e k. unfold stepsFor in rw (append-nil ss) k)
 
 mul-with-step : tie.Need-mul-with-step Inv-loop μ-loop
 mul-with-step c =
-    let start = c .before .before .before .before .before .before in
+    let start = to-start (c .before .before) in
     omega (arith, start .pre .1 .few)
 
 add-with-step : tie.Need-add-with-step Inv-loop μ-loop
 add-with-step c =
-    let at-loop = c .before in let start = at-loop .before .before .before .before .before in
+    let at-loop = c .before in let start = to-start (at-loop .before) in
     omega (arith, start .pre .1 .texts (at-loop .loop .j) (c .loop-test .taken) .room)
 
 with-step-requires : tie.Need-with-step-requires Inv-loop μ-loop
 with-step-requires c κs =
-    let at-test = c .before in let at-loop = at-test .before in let start = at-loop .before .before .before .before .before in
+    let at-test = c .before in let at-loop = at-test .before in let start = to-start (at-loop .before) in
     let g = start .pre in
     let l = at-loop .loop in
     let h = at-test .loop-test .taken in
@@ -46,7 +50,7 @@ with-step-requires c κs =
 loop-again : tie.Need-loop-again Inv-loop μ-loop
 loop-again c =
     let at-with-step = c .before .before in let at-loop = at-with-step .before .before .before in
-    let start = at-loop .before .before .before .before .before in
+    let start = to-start (at-loop .before) in
     let a = start .args in
     let l = at-loop .loop in
     let r = at-with-step .with-step .ensures in
@@ -59,12 +63,12 @@ loop-again c =
 
 same-length : tie.Need-same-length Inv-loop μ-loop
 same-length c =
-    let at-loop = c .before in let start = at-loop .before .before .before .before .before in
+    let at-loop = c .before in let start = to-start (at-loop .before) in
     at-loop .loop .inv .1 ∙ sym (start .pre .4)
 
 returns : tie.Need-returns Inv-loop μ-loop
 returns c =
-    let at-loop = c .before in let start = at-loop .before .before .before .before .before in
+    let at-loop = c .before in let start = to-start (at-loop .before) in
     let l = at-loop .loop in
     let z : l .j ≡ start .args .count = omega arith in
     ((λ ss e k. rw z at (l .inv .2 ss e k)), l .inv .1)

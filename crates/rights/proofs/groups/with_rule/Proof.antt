@@ -12,9 +12,13 @@ use Rattle.rights.proofs.GroupLaws.{not-not}
 use Rattle.rights.proofs.groups.with_rule.Statement.{statement}
 use Rattle.rights.proofs.groups.with_rule.Tie as tie
 
+-- the places further back that answers read
+abbrev to-start : tie.After-wide → tie.Start
+to-start c = c .before .before .before .before .before .before
+
 with-path-requires : tie.Need-with-path-requires
 with-path-requires c κs =
-    let at-wide = c .before in let start-2 = at-wide .before .before .before .before .before .before in
+    let at-wide = c .before in let start-2 = to-start at-wide in
     let a = start-2 .args in
     let g = start-2 .pre in
     rw (at-wide .wide .ensures) (g .0, g .0 .sound .paths (a .k) (g .1), (λ j h. sorted-step (a .policy .now) (a .own .now) (a .words .now) (a .n) (g .0 .sorted) (a .k) j (g .1) h), g .2, g .3)
@@ -23,7 +27,7 @@ returns : tie.Need-returns
 returns c =
     let at-one-at = c .before in let at-mark-if2 = at-one-at .before in let at-mark-if = at-mark-if2 .before .before in
     let at-with-path = at-mark-if .before .before .before .before in let at-wide = at-with-path .before .before in
-    let start-2 = at-wide .before .before .before .before .before .before in
+    let start-2 = to-start at-wide in
     let a = start-2 .args in
     let g = a .g in
     let p = a .policy .now in

@@ -8,12 +8,16 @@ use Rattle.rights.proofs.GroupLaws.{ruling-added, group-skip}
 use Rattle.rights.proofs.groups.with_ruling.Statement.{statement}
 use Rattle.rights.proofs.groups.with_ruling.Tie as tie
 
+-- the places further back that answers read
+abbrev to-start : tie.After-counts → tie.Start
+to-start c = c .before .before .before .before .before
+
 counts-requires : tie.Need-counts-requires
 counts-requires c κs = search needs
 
 with-rule-requires : tie.Need-with-rule-requires
 with-rule-requires c κs =
-    let at-if1 = c .before in let at-counts = at-if1 .before in let start = at-counts .before .before .before .before .before in
+    let at-if1 = c .before in let at-counts = at-if1 .before in let start = to-start at-counts in
     let g = start .pre in
     (g .0, g .1, omega (arith, rw (sym (at-counts .counts .ensures) ∙ at-if1 .if1 .taken) at (g .3)), g .4)
 
@@ -23,7 +27,7 @@ same-length c = search needs
 returns : tie.Need-returns
 returns c =
     let at-with-rule = c .before .before in let at-if1 = at-with-rule .before .before in let at-counts = at-if1 .before in
-    let start = at-counts .before .before .before .before .before in
+    let start = to-start at-counts in
     let a = start .args in
     let r = at-with-rule .with-rule .ensures in (
       (λ i size z g. ruling-added (listedNumber (a .policy .now) (a .words .now) (a .n)) (a .policy .now) (a .own .now) (a .roles .now) (a .right) (start .pre .2) i size (a .k) z (sym (at-counts .counts .ensures) ∙ at-if1 .if1 .taken) _ _ _ _ _ _ _ _ _ _ _ _ _ _ g (r .0) (r .1) (r .2) (r .3) (r .4)),
@@ -32,7 +36,7 @@ returns c =
 
 returns-2 : tie.Need-returns-2
 returns-2 c =
-    let at-counts = c .before in let start = at-counts .before .before .before .before .before in
+    let at-counts = c .before in let start = to-start at-counts in
     let a = start .args in
     let q = rulingAt (a .policy .now) (a .own .now) (a .roles .now) (a .right) in (
       (λ i size z g. group-skip (listedNumber (a .policy .now) (a .words .now) (a .n)) q (a .right) i size _ _ _ _ _ _ _ g (ap (λ (m : ℕ). q m .on) z ∙ sym (at-counts .counts .ensures) ∙ c .if1 .left)),

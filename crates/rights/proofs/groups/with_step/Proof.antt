@@ -10,10 +10,14 @@ use Rattle.rights.proofs.PackedLaws.{packed-every, packed-noted, step-d
 use Rattle.rights.proofs.groups.with_step.Statement.{statement}
 use Rattle.rights.proofs.groups.with_step.Tie as tie
 
+-- the places further back that answers read
+abbrev to-start : tie.After-is-deep → tie.Start
+to-start c = c .before .before .before .before .before
+
 returns : tie.Need-returns
 returns c =
     let at-one-at = c .before in let at-if1 = at-one-at .before in let at-mark-if = at-if1 .before .before in let at-is-deep = at-mark-if .before in
-    let start = at-is-deep .before .before .before .before .before in
+    let start = to-start at-is-deep in
     let a = start .args in
     let g = start .pre in
     let p = a .policy .now in
@@ -30,7 +34,7 @@ returns-2 : tie.Need-returns-2
 returns-2 c =
     let at-note-names = c .before .before in let at-if2 = at-note-names .before .before in let at-if1 = at-if2 .before in
     let at-mark-if = at-if1 .before .before in let at-is-deep = at-mark-if .before in
-    let start = at-is-deep .before .before .before .before .before in
+    let start = to-start at-is-deep in
     let a = start .args in
     let g = start .pre in
     let p = a .policy .now in
@@ -46,7 +50,7 @@ returns-2 c =
 
 note-label-requires : tie.Need-note-label-requires
 note-label-requires c κs =
-    let at-if2 = c .before in let at-if1 = at-if2 .before in let start = at-if1 .before .before .before .before .before .before .before .before in
+    let at-if2 = c .before in let at-if1 = at-if2 .before in let start = to-start (at-if1 .before .before .before) in
     let a = start .args in
     let g = start .pre in
     let first = text-first (a .policy .now) (a .step) (g .1) in
@@ -56,7 +60,7 @@ returns-3 : tie.Need-returns-3
 returns-3 c =
     let at-note-label = c .before .before in let at-if2 = at-note-label .before .before in let at-if1 = at-if2 .before in
     let at-mark-if = at-if1 .before .before in let at-is-deep = at-mark-if .before in
-    let start = at-is-deep .before .before .before .before .before in
+    let start = to-start at-is-deep in
     let a = start .args in
     let g = start .pre in
     let p = a .policy .now in

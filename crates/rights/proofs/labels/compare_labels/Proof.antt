@@ -15,23 +15,33 @@ Inv-loop a i m b j n k₀ k = (k ≤ m) × (m ≡ n) × (labelOrder (take m (dro
 abbrev μ-loop : tie.MeasureT-loop
 μ-loop a i m b j n k₀ k = m - k
 
+-- the places further back that answers read
+abbrev to-start-from-fold-byte2 : tie.After-fold-byte2 Inv-loop μ-loop → tie.Start Inv-loop μ-loop
+to-start-from-fold-byte2 c = c .before .before .before .before .before .before .before .before .before .before
+
+abbrev to-loop : tie.After-fold-byte2 Inv-loop μ-loop → tie.At-loop Inv-loop μ-loop
+to-loop c = c .before .before .before .before .before
+
+abbrev to-start-from-else1 : tie.Else1 Inv-loop μ-loop → tie.Start Inv-loop μ-loop
+to-start-from-else1 c = c .before .before .before
+
 returns : tie.Need-returns Inv-loop μ-loop
 returns c = let a = c .before .before .before .args in sym (longer (a .a .now) (a .b .now) (a .i) (a .j) (a .m) (a .n) (omega arith) (omega arith) (omega arith))
 
 returns-2 : tie.Need-returns-2 Inv-loop μ-loop
-returns-2 c = let a = c .before .before .before .before .args in sym (shorter (a .a .now) (a .b .now) (a .i) (a .j) (a .m) (a .n) (omega arith) (omega arith) (omega arith))
+returns-2 c = let a = to-start-from-else1 (c .before) .args in sym (shorter (a .a .now) (a .b .now) (a .i) (a .j) (a .m) (a .n) (omega arith) (omega arith) (omega arith))
 
 loop-holds : tie.Need-loop-holds Inv-loop μ-loop
 loop-holds c =
-    let a = c .before .before .before .before .args in
+    let a = to-start-from-else1 (c .before) .args in
     let e : a .m ≡ a .n = omega arith in
     (omega arith, e, level-with (a .a .now) (a .b .now) (a .i) (a .j) (a .m) (a .n) (omega arith) (omega arith) e)
 
 returns-3 : tie.Need-returns-3 Inv-loop μ-loop
 returns-3 c =
     let read = c .before .before in
-    let l = read .before .before .before .before .before .loop in
-    let a = read .before .before .before .before .before .before .before .before .before .before .args in
+    let l = to-loop read .loop in
+    let a = to-start-from-fold-byte2 read .args in
     c .byte-order .ensures
     ∙ sym (l .inv .2 ∙ rest-stop (a .a .now) (a .b .now) (a .i) (a .j) (a .n) (l .k) _ _ (omega arith) (omega arith) (omega arith)
     (read .before .before .fold-byte .ensures) (read .fold-byte2 .ensures) (c .before .if3 .taken))
@@ -39,8 +49,8 @@ returns-3 c =
 loop-again : tie.Need-loop-again Inv-loop μ-loop
 loop-again c =
     let read = c .before in
-    let l = read .before .before .before .before .before .loop in
-    let a = read .before .before .before .before .before .before .before .before .before .before .args in (
+    let l = to-loop read .loop in
+    let a = to-start-from-fold-byte2 read .args in (
       omega arith,
       l .inv .1,
       l .inv .2 ∙ rest-next (a .a .now) (a .b .now) (a .i) (a .j) (a .n) (l .k) _ _ (omega arith) (omega arith) (omega arith)
@@ -49,7 +59,7 @@ loop-again c =
 
 returns-4 : tie.Need-returns-4 Inv-loop μ-loop
 returns-4 c =
-    let at-loop = c .before in let start = at-loop .before .before .before .before .before in
+    let at-loop = c .before in let start = to-start-from-else1 (at-loop .before .before) in
     let a = start .args in
     let l = at-loop .loop in
     sym (l .inv .2 ∙ rest-none (a .a .now) (a .b .now) (a .i) (a .j) (a .n) (l .k) (omega arith))

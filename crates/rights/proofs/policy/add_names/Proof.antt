@@ -19,29 +19,33 @@ Inv-loop policy words₀ n count next₀ u₀ words next u =
 abbrev μ-loop : tie.MeasureT-loop
 μ-loop policy words₀ n count next₀ u₀ words next u = count - u
 
+-- the places further back that answers read
+abbrev to-start : tie.After-wide Inv-loop μ-loop → tie.Start Inv-loop μ-loop
+to-start c = c .before .before .before .before
+
 shared-slice-read-wide : tie.Need-shared-slice-read-wide Inv-loop μ-loop
 shared-slice-read-wide c = omega (arith, c .before .before .before .pre .0 .size)
 
 loop-holds : tie.Need-loop-holds Inv-loop μ-loop
 loop-holds c =
-    let start = c .before .before .before .before in
+    let start = to-start c in
     let a = start .args in
     let g = start .pre in
     (omega arith, omega arith, added-none (a .policy .now) (a .words .now) (a .n) _ (g .1) (λ x. unfold some namesFrom in refl))
 
 mul-add-word : tie.Need-mul-add-word Inv-loop μ-loop
 mul-add-word c =
-    let at-wide = c .before .before .before in let start = at-wide .before .before .before .before in
+    let at-wide = c .before .before .before in let start = to-start at-wide in
     omega (arith, at-wide .wide .ensures, start .pre .0 .subjects)
 
 add-add-word : tie.Need-add-add-word Inv-loop μ-loop
 add-add-word c =
-    let at-wide = c .before .before .before in let start = at-wide .before .before .before .before in
+    let at-wide = c .before .before .before in let start = to-start at-wide in
     omega (arith, at-wide .wide .ensures, start .pre .0 .subjects)
 
 add-word-requires : tie.Need-add-word-requires Inv-loop μ-loop
 add-word-requires c κs =
-    let at-loop = c .before .before in let at-wide = at-loop .before in let start = at-wide .before .before .before .before in
+    let at-loop = c .before .before in let at-wide = at-loop .before in let start = to-start at-wide in
     let g = start .pre in
     let l = at-loop .loop in
     let w = at-wide .wide .ensures in
@@ -50,7 +54,7 @@ add-word-requires c κs =
 loop-again : tie.Need-loop-again Inv-loop μ-loop
 loop-again c =
     let at-add-word = c .before .before in let at-loop = at-add-word .before .before .before in
-    let start = at-loop .before .before .before .before .before in
+    let start = to-start (at-loop .before) in
     let a = start .args in
     let l = at-loop .loop in
     let r = at-add-word .add-word .ensures in
@@ -62,12 +66,12 @@ loop-again c =
 
 same-length : tie.Need-same-length Inv-loop μ-loop
 same-length c =
-    let at-loop = c .before in let start = at-loop .before .before .before .before .before in
+    let at-loop = c .before in let start = to-start (at-loop .before) in
     at-loop .loop .inv .2 .words .long ∙ sym (start .pre .1 .long)
 
 returns : tie.Need-returns Inv-loop μ-loop
 returns c =
-    let at-loop = c .before in let at-wide = at-loop .before in let start = at-wide .before .before .before .before in
+    let at-loop = c .before in let at-wide = at-loop .before in let start = to-start at-wide in
     let l = at-loop .loop in
     let e : l .u ≡ subjectCount (start .args .policy .now) = omega (arith, at-wide .wide .ensures) in
     rw e at (l .inv .2)

@@ -13,6 +13,13 @@ use Rattle.rights.proofs.VocabularyLaws.{words-none, none-word}
 use Rattle.rights.proofs.policy.sort_policy_words.Statement.{statement}
 use Rattle.rights.proofs.policy.sort_policy_words.Tie as tie
 
+-- the places further back that answers read
+abbrev to-add-rules : tie.After-rules-use → tie.After-add-rules
+to-add-rules c = c .before .before .before
+
+abbrev to-start : tie.After-add-rules → tie.Start
+to-start c = c .before .before .before .before
+
 add-rules-requires : tie.Need-add-rules-requires
 add-rules-requires c κs =
     let start = c .before .before .before in
@@ -20,12 +27,12 @@ add-rules-requires c κs =
 
 rules-use-requires : tie.Need-rules-use-requires
 rules-use-requires c κs =
-    let start = c .before .before .before .before .before .before in
+    let start = to-start (c .before .before) in
     (policy-sound _ (start .pre .0), omega arith)
 
 add-names-requires : tie.Need-add-names-requires
 add-names-requires c κs =
-    let at-add-rules = c .before .before .before .before .before in let start = at-add-rules .before .before .before .before in
+    let at-add-rules = to-add-rules (c .before .before) in let start = to-start at-add-rules in
     let r = at-add-rules .add-rules .ensures in
     (policy-sound _ (start .pre .0), r .0 .words, omega (arith, r .1))
 
@@ -38,7 +45,7 @@ same-length c =
 returns : tie.Need-returns
 returns c =
     let at-add-names = c .before .before in let at-if1 = at-add-names .before .before in let at-rules-use = at-if1 .before in
-    let at-add-rules = at-rules-use .before .before .before in let start = at-add-rules .before .before .before .before in
+    let at-add-rules = at-rules-use .before .before .before in let start = to-start at-add-rules in
     let a = start .args in
     let p = a .policy .now in
     let named-all = at-add-rules .add-rules .ensures .0 in
@@ -52,13 +59,13 @@ returns c =
 
 same-length-2 : tie.Need-same-length-2
 same-length-2 c =
-    let at-add-rules = c .before .before .before .before in let start = at-add-rules .before .before .before .before in
+    let at-add-rules = to-add-rules (c .before) in let start = to-start at-add-rules in
     at-add-rules .add-rules .ensures .0 .words .long ∙ sym (start .pre .1)
 
 returns-2 : tie.Need-returns-2
 returns-2 c =
     let at-rules-use = c .before in let at-add-rules = at-rules-use .before .before .before in
-    let start = at-add-rules .before .before .before .before in
+    let start = to-start at-add-rules in
     let a = start .args in
     let p = a .policy .now in
     let all = at-add-rules .add-rules .ensures .0 in

@@ -17,6 +17,10 @@ Inv-loop policy own words₀ n next₀ i₀ words next i =
 abbrev μ-loop : tie.MeasureT-loop
 μ-loop policy own words₀ n next₀ i₀ words next i = length own - i
 
+-- the places further back that answers read
+abbrev to-start : tie.At-loop Inv-loop μ-loop → tie.Start Inv-loop μ-loop
+to-start c = c .before .before .before .before
+
 loop-holds : tie.Need-loop-holds Inv-loop μ-loop
 loop-holds c =
     let start = c .before .before .before in
@@ -27,21 +31,21 @@ loop-holds c =
 mul-add-word : tie.Need-mul-add-word Inv-loop μ-loop
 mul-add-word c =
     let at-wide = c .before in let at-test = at-wide .before .before in let at-loop = at-test .before in
-    let start = at-loop .before .before .before .before in
+    let start = to-start at-loop in
     let g = start .pre in
     omega (arith, at-wide .wide .ensures, g .0 .subjects, g .1 .at (at-loop .loop .i) (at-test .loop-test .taken) .declared)
 
 add-add-word : tie.Need-add-add-word Inv-loop μ-loop
 add-add-word c =
     let at-wide = c .before in let at-test = at-wide .before .before in let at-loop = at-test .before in
-    let start = at-loop .before .before .before .before in
+    let start = to-start at-loop in
     let g = start .pre in
     omega (arith, at-wide .wide .ensures, g .0 .subjects, g .1 .at (at-loop .loop .i) (at-test .loop-test .taken) .declared)
 
 add-word-requires : tie.Need-add-word-requires Inv-loop μ-loop
 add-word-requires c κs =
     let at-wide = c .before in let at-test = at-wide .before .before in let at-loop = at-test .before in
-    let start = at-loop .before .before .before .before in
+    let start = to-start at-loop in
     let g = start .pre in
     let l = at-loop .loop in
     let s = g .1 .at (l .i) (at-test .loop-test .taken) in
@@ -50,7 +54,7 @@ add-word-requires c κs =
 loop-again : tie.Need-loop-again Inv-loop μ-loop
 loop-again c =
     let at-add-word = c .before .before in let at-wide = at-add-word .before .before in let at-test = at-wide .before .before in
-    let at-loop = at-test .before in let start = at-loop .before .before .before .before in
+    let at-loop = at-test .before in let start = to-start at-loop in
     let a = start .args in
     let l = at-loop .loop in
     let r = rw (at-wide .wide .ensures) at (at-add-word .add-word .ensures) in
@@ -62,12 +66,12 @@ loop-again c =
 
 same-length : tie.Need-same-length Inv-loop μ-loop
 same-length c =
-    let at-loop = c .before in let start = at-loop .before .before .before .before in
+    let at-loop = c .before in let start = to-start at-loop in
     at-loop .loop .inv .2 .words .long ∙ sym (start .pre .2 .long)
 
 returns : tie.Need-returns Inv-loop μ-loop
 returns c =
-    let at-loop = c .before in let start = at-loop .before .before .before .before in
+    let at-loop = c .before in let start = to-start at-loop in
     let l = at-loop .loop in
     let a = start .args in
     let g = start .pre in

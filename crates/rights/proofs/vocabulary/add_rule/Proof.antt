@@ -20,25 +20,29 @@ Inv-loop policy k words₀ n a b count next₀ j₀ words next j =
 abbrev μ-loop : tie.MeasureT-loop
 μ-loop policy k words₀ n a b count next₀ j₀ words next j = count - j
 
+-- the places further back that answers read
+abbrev to-start : tie.After-wide Inv-loop μ-loop → tie.Start Inv-loop μ-loop
+to-start c = c .before .before .before .before
+
 loop-holds : tie.Need-loop-holds Inv-loop μ-loop
 loop-holds c =
-    let start = c .before .before .before .before in
+    let start = to-start c in
     let a = start .args in
     (omega arith, omega arith, added-none (a .policy .now) (a .words .now) (a .n) _ (start .pre .2) (λ x. unfold some stepsFrom in refl))
 
 mul-add-step : tie.Need-mul-add-step Inv-loop μ-loop
 mul-add-step c =
-    let g = c .before .before .before .before .before .before .before .pre in
+    let g = to-start (c .before .before .before) .pre in
     omega (arith, c .before .before .before .wide .ensures, g .0 .paths _ (g .1) .few)
 
 add-add-step : tie.Need-add-add-step Inv-loop μ-loop
 add-add-step c =
-    let g = c .before .before .before .before .before .before .before .pre in
+    let g = to-start (c .before .before .before) .pre in
     omega (arith, c .before .before .before .wide .ensures, g .0 .paths _ (g .1) .few, g .0 .rules)
 
 add-step-requires : tie.Need-add-step-requires Inv-loop μ-loop
 add-step-requires c κs =
-    let at-loop = c .before .before in let at-wide = at-loop .before in let g = at-wide .before .before .before .before .pre in
+    let at-loop = c .before .before in let at-wide = at-loop .before in let g = to-start at-wide .pre in
     let l = at-loop .loop in
     let w = at-wide .wide .ensures in
     let path = g .0 .paths _ (g .1) in
@@ -46,7 +50,7 @@ add-step-requires c κs =
 
 loop-again : tie.Need-loop-again Inv-loop μ-loop
 loop-again c =
-    let at-add-step = c .before .before in let at-loop = at-add-step .before .before .before in let a = at-loop .before .before .before .before .before .args in
+    let at-add-step = c .before .before in let at-loop = at-add-step .before .before .before in let a = to-start (at-loop .before) .args in
     let l = at-loop .loop in
     let r = at-add-step .add-step .ensures in
     let p = a .policy .now in (
@@ -56,11 +60,11 @@ loop-again c =
     )
 
 same-length : tie.Need-same-length Inv-loop μ-loop
-same-length c = let at-loop = c .before in at-loop .loop .inv .2 .words .long ∙ sym (at-loop .before .before .before .before .before .pre .2 .long)
+same-length c = let at-loop = c .before in at-loop .loop .inv .2 .words .long ∙ sym (to-start (at-loop .before) .pre .2 .long)
 
 returns : tie.Need-returns Inv-loop μ-loop
 returns c =
-    let at-loop = c .before in let at-wide = at-loop .before in let start = at-wide .before .before .before .before in
+    let at-loop = c .before in let at-wide = at-loop .before in let start = to-start at-wide in
     let g = start .pre in
     let a = start .args in
     let l = at-loop .loop in

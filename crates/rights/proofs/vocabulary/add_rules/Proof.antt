@@ -19,19 +19,23 @@ Inv-loop policy words₀ n count next₀ k₀ words next k =
 abbrev μ-loop : tie.MeasureT-loop
 μ-loop policy words₀ n count next₀ k₀ words next k = count - k
 
+-- the places further back that answers read
+abbrev to-start : tie.After-wide Inv-loop μ-loop → tie.Start Inv-loop μ-loop
+to-start c = c .before .before .before .before
+
 shared-slice-read-wide : tie.Need-shared-slice-read-wide Inv-loop μ-loop
 shared-slice-read-wide c = omega (arith, c .before .before .before .pre .0 .size)
 
 loop-holds : tie.Need-loop-holds Inv-loop μ-loop
 loop-holds c =
-    let start = c .before .before .before .before in
+    let start = to-start c in
     let a = start .args in
     let g = start .pre in
     (omega arith, omega arith, added-none (a .policy .now) (a .words .now) (a .n) _ (g .1) (λ x. unfold some rulesFrom in refl))
 
 add-rule-requires : tie.Need-add-rule-requires Inv-loop μ-loop
 add-rule-requires c κs =
-    let at-loop = c .before .before in let at-wide = at-loop .before in let start = at-wide .before .before .before .before in
+    let at-loop = c .before .before in let at-wide = at-loop .before in let start = to-start at-wide in
     let g = start .pre in
     let l = at-loop .loop in
     (g .0, omega (arith, at-wide .wide .ensures), l .inv .2 .words, omega (arith, at-wide .wide .ensures, g .0 .rules, g .2, l .inv .1))
@@ -39,7 +43,7 @@ add-rule-requires c κs =
 loop-again : tie.Need-loop-again Inv-loop μ-loop
 loop-again c =
     let at-add-rule = c .before .before in let at-loop = at-add-rule .before .before .before in
-    let start = at-loop .before .before .before .before .before in
+    let start = to-start (at-loop .before) in
     let a = start .args in
     let l = at-loop .loop in
     let r = at-add-rule .add-rule .ensures in
@@ -51,12 +55,12 @@ loop-again c =
 
 same-length : tie.Need-same-length Inv-loop μ-loop
 same-length c =
-    let at-loop = c .before in let start = at-loop .before .before .before .before .before in
+    let at-loop = c .before in let start = to-start (at-loop .before) in
     at-loop .loop .inv .2 .words .long ∙ sym (start .pre .1 .long)
 
 returns : tie.Need-returns Inv-loop μ-loop
 returns c =
-    let at-loop = c .before in let at-wide = at-loop .before in let start = at-wide .before .before .before .before in
+    let at-loop = c .before in let at-wide = at-loop .before in let start = to-start at-wide in
     let l = at-loop .loop in
     let e : l .k ≡ ruleCount (start .args .policy .now) = omega (arith, at-wide .wide .ensures) in
     (rw e at (l .inv .2), omega (arith, at-wide .wide .ensures, start .pre .0 .rules))

@@ -8,6 +8,10 @@ use Rattle.rights.proofs.VocabularyLaws.{added-none, added-alike}
 use Rattle.rights.proofs.vocabulary.add_step.Statement.{statement}
 use Rattle.rights.proofs.vocabulary.add_step.Tie as tie
 
+-- the places further back that answers read
+abbrev to-start : tie.Else1 → tie.Start
+to-start c = c .before .before .before .before
+
 add-first : tie.Need-add-first
 add-first c = omega (arith, c .before .before .pre .2 .room)
 
@@ -24,7 +28,7 @@ returns c =
 
 returns-2 : tie.Need-returns-2
 returns-2 c =
-    let at-if1 = c .before in let start = at-if1 .before .before .before .before in
+    let at-if1 = c .before in let start = to-start at-if1 in
     let a = start .args in
     let g = start .pre in
     let p = a .policy .now in
@@ -32,18 +36,18 @@ returns-2 c =
 
 add-word-requires : tie.Need-add-word-requires
 add-word-requires c κs =
-    let start = c .before .before .before .before .before .before in
+    let start = to-start (c .before .before) in
     start .pre
 
 same-length : tie.Need-same-length
 same-length c =
-    let at-add-word = c .before .before in let start = at-add-word .before .before .before .before .before .before .before in
+    let at-add-word = c .before .before in let start = to-start (at-add-word .before .before .before) in
     at-add-word .add-word .ensures .0 .words .long ∙ sym (start .pre .0 .long)
 
 returns-3 : tie.Need-returns-3
 returns-3 c =
     let at-add-word = c .before .before in let at-if2 = at-add-word .before .before in let at-if1 = at-if2 .before in
-    let start = at-if1 .before .before .before .before in
+    let start = to-start at-if1 in
     let a = start .args in
     let g = start .pre in
     let p = a .policy .now in

@@ -8,9 +8,13 @@ use Rattle.rights.proofs.VocabularyLaws.{added-old, added-new}
 use Rattle.rights.proofs.vocabulary.add_word.Statement.{statement}
 use Rattle.rights.proofs.vocabulary.add_word.Tie as tie
 
+-- the places further back that answers read
+abbrev to-start : tie.After-search → tie.Start
+to-start c = c .before .before .before .before
+
 returns : tie.Need-returns
 returns c =
-    let at-search = c .before .before in let start = at-search .before .before .before .before in
+    let at-search = c .before .before in let start = to-start at-search in
     let a = start .args in
     let g = start .pre in
     let p = a .policy .now in
@@ -20,7 +24,7 @@ returns c =
 
 insert-word-requires : tie.Need-insert-word-requires
 insert-word-requires c κs =
-    let at-i = c .before .before in let at-search = at-i .before .before in let start = at-search .before .before .before .before in
+    let at-i = c .before .before in let at-search = at-i .before .before in let start = to-start at-search in
     let a = start .args in
     let g = start .pre in
     let p = a .policy .now in
@@ -30,7 +34,7 @@ insert-word-requires c κs =
 returns-2 : tie.Need-returns-2
 returns-2 c =
     let at-insert-word = c .before .before in let at-i = at-insert-word .before .before .before in let at-search = at-i .before .before in
-    let start = at-search .before .before .before .before in
+    let start = to-start at-search in
     let a = start .args in
     let g = start .pre in
     let p = a .policy .now in

@@ -10,10 +10,14 @@ use Rattle.rights.proofs.Texts.{text-eq}
 use Rattle.rights.proofs.vocabulary.compare_word.Statement.{statement}
 use Rattle.rights.proofs.vocabulary.compare_word.Tie as tie
 
+-- the places further back that answers read
+abbrev to-start : tie.After-wide-place → tie.Start
+to-start c = c .before .before .before .before .before
+
 compare-labels-requires : tie.Need-compare-labels-requires
 compare-labels-requires c κs =
     let at-wide = c .before .before in let at-wide-place = at-wide .before .before in
-    let start = at-wide-place .before .before .before .before .before in
+    let start = to-start at-wide-place in
     let a = start .args in
     let g = start .pre in
     let p = a .policy .now in
@@ -25,7 +29,7 @@ compare-labels-requires c κs =
 returns : tie.Need-returns
 returns c =
     let at-wide2 = c .before in let at-wide = at-wide2 .before .before in let at-wide-place = at-wide .before .before in
-    let start = at-wide-place .before .before .before .before .before in
+    let start = to-start at-wide-place in
     let a = start .args in
     let g = start .pre in
     let p = a .policy .now in

@@ -20,24 +20,28 @@ Inv-loop policy words count t n numbers₀ i₀ numbers i =
 abbrev μ-loop : tie.MeasureT-loop
 μ-loop policy words count t n numbers₀ i₀ numbers i = n - i
 
+-- the places further back that answers read
+abbrev to-start : tie.At-loop Inv-loop μ-loop → tie.Start Inv-loop μ-loop
+to-start c = c .before .before .before .before .before
+
 loop-holds : tie.Need-loop-holds Inv-loop μ-loop
 loop-holds c = (omega arith, refl, refl, λ q h. absurd (omega arith))
 
 number-of-requires : tie.Need-number-of-requires Inv-loop μ-loop
 number-of-requires c κs =
-    let at-loop = c .before in let start = at-loop .before .before .before .before .before in
+    let at-loop = c .before in let start = to-start at-loop in
     let a = start .args in
     let g = start .pre in
     (g .0, record-text (a .t .now) (a .n) (at-loop .loop .i) (g .2) (c .loop-test .taken) (g .1))
 
 narrow-requires : tie.Need-narrow-requires Inv-loop μ-loop
 narrow-requires c κs =
-    let start = c .before .before .before .before .before .before .before in
+    let start = to-start (c .before .before) in
     omega (arith, c .number-of .ensures .1, start .pre .0 .few)
 
 loop-again : tie.Need-loop-again Inv-loop μ-loop
 loop-again c =
-    let at-number-of = c .before in let at-loop = at-number-of .before .before in let start = at-loop .before .before .before .before .before in
+    let at-number-of = c .before in let at-loop = at-number-of .before .before in let start = to-start at-loop in
     let a = start .args in
     let l = at-loop .loop in (
       omega arith,
@@ -52,7 +56,7 @@ same-length c = c .before .loop .inv .1
 
 returns : tie.Need-returns Inv-loop μ-loop
 returns c =
-    let at-loop = c .before in let start = at-loop .before .before .before .before .before in
+    let at-loop = c .before in let start = to-start at-loop in
     let l = at-loop .loop in
     let e : l .i ≡ start .args .n = omega arith in
     record { long = l .inv .1; at = rw e at (l .inv .3); rest = rw e at (l .inv .2) }

@@ -9,9 +9,13 @@ use Rattle.rights.proofs.VocabularyLaws.{number-found, number-missing}
 use Rattle.rights.proofs.vocabulary.number_of.Statement.{statement}
 use Rattle.rights.proofs.vocabulary.number_of.Tie as tie
 
+-- the places further back that answers read
+abbrev to-start : tie.After-search → tie.Start
+to-start c = c .before .before .before .before
+
 returns : tie.Need-returns
 returns c =
-    let at-search = c .before .before in let start = at-search .before .before .before .before in
+    let at-search = c .before .before in let start = to-start at-search in
     let a = start .args in
     let g = start .pre in
     let f = listedWord (a .policy .now) (a .words .now) in
@@ -21,7 +25,7 @@ returns c =
 
 add-result : tie.Need-add-result
 add-result c =
-    let at-i = c .before in let at-search = at-i .before .before in let start = at-search .before .before .before .before in
+    let at-i = c .before in let at-search = at-i .before .before in let start = to-start at-search in
     let a = start .args in
     let g = start .pre in
     let s = subst (Stands (listedWord (a .policy .now) (a .words .now)) (a .n) (label (recAt (a .s .now) (a .at)))) (at-i .i .given .1) (at-search .search .ensures) in
@@ -29,7 +33,7 @@ add-result c =
 
 returns-2 : tie.Need-returns-2
 returns-2 c =
-    let at-i = c .before in let at-search = at-i .before .before in let start = at-search .before .before .before .before in
+    let at-i = c .before in let at-search = at-i .before .before in let start = to-start at-search in
     let a = start .args in
     let g = start .pre in
     let f = listedWord (a .policy .now) (a .words .now) in

@@ -18,17 +18,21 @@ Inv-loop policy words n s at low₀ high₀ low high =
 abbrev μ-loop : tie.MeasureT-loop
 μ-loop policy words n s at low₀ high₀ low high = high - low
 
+-- the places further back that answers read
+abbrev to-start : tie.At-loop Inv-loop μ-loop → tie.Start Inv-loop μ-loop
+to-start c = c .before .before .before .before
+
 loop-holds : tie.Need-loop-holds Inv-loop μ-loop
 loop-holds c = (omega arith, omega arith, (λ j h. absurd (omega arith)), λ j h l. absurd (omega arith))
 
 add-middle : tie.Need-add-middle Inv-loop μ-loop
 add-middle c =
-    let start = c .before .before .before .before .before in
+    let start = to-start (c .before) in
     omega (arith, start .pre .0 .few)
 
 compare-word-requires : tie.Need-compare-word-requires Inv-loop μ-loop
 compare-word-requires c κs =
-    let at-loop = c .before in let start = at-loop .before .before .before .before in
+    let at-loop = c .before in let start = to-start at-loop in
     let g = start .pre in
     let l = at-loop .loop in
     (omega (arith, g .0 .few, g .0 .long), g .0 .texts (l .low + (l .high - l .low) / 2) (omega arith), g .1)
@@ -39,7 +43,7 @@ returns c =
 
 raised-requires : tie.Need-raised-requires Inv-loop μ-loop
 raised-requires c κs =
-    let start = c .before .before .before .before .before .before .before in
+    let start = to-start (c .before .before .before) in
     omega (arith, start .pre .0 .few)
 
 loop-less : tie.Need-loop-less Inv-loop μ-loop
@@ -51,7 +55,7 @@ loop-less c =
 loop-again : tie.Need-loop-again Inv-loop μ-loop
 loop-again c =
     let at-raised = c .before in let at-if1 = at-raised .before in let at-compare-word = at-if1 .before in
-    let at-loop = at-compare-word .before .before in let start = at-loop .before .before .before .before in
+    let at-loop = at-compare-word .before .before in let start = to-start at-loop in
     let a = start .args in
     let g = start .pre in
     let l = at-loop .loop in
