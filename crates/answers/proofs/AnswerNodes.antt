@@ -15,7 +15,7 @@ use Rattle.answers.specs.AnswerChoice.{chosen, chosen-lawful, findText}
 use Rattle.answers.specs.AnswerChoice.First.{chosen-first}
 use Rattle.answers.specs.Answer.{noneLine, hitLine, hitLines, childLines, viewText, nextLevel, opening, rootLine, endLine}
 use Rattle.rights.specs.Marks.{marksOf, markCount, keep}
-use Rattle.rights.proofs.Lists.{byCase}
+use Rattle.rights.proofs.ListLaws.{byCase}
 use Rattle.answers.specs.How.AnswerParts.{nodeAt, hitLineAt, nodeText}
 
 -- Hits

@@ -7,7 +7,7 @@ use lib.ListN.{length, getD, take, drop}
 use Rattle.rights.specs.Nodes.{labelAt}
 use Rattle.rights.specs.How.Numbers.{recordPlace, viewOf, Fits}
 use Rattle.rights.proofs.PassLaws.{label-clear}
-use Rattle.rights.proofs.Texts.{text-eq}
+use Rattle.rights.proofs.TextLaws.{text-eq}
 
 -- the bytes of a record's label
 pub label-read : (table shown : List ℕ) (i : ℕ) → i < length shown → Fits table shown → getD shown i 0 < 16384 → (place n : ℕ) → place ≡ recordPlace (getD shown i 0)

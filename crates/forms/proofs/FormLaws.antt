@@ -14,7 +14,7 @@ use Rattle.rights.specs.Labels.{labelByte}
 use Rattle.rights.specs.Record.{pasted}
 use Rattle.rights.specs.declared.path.Read.{Read}
 use Rattle.rights.specs.declared.path.Read.the-variants.{At, Bad}
-use Rattle.rights.proofs.Lists.{byCase}
+use Rattle.rights.proofs.ListLaws.{byCase}
 use Rattle.rights.proofs.PathLaws.{inside}
 use Rattle.rights.proofs.PathTexts.{and-left}
 use Rattle.rights.proofs.RecordLaws.{pasted-none}

@@ -12,7 +12,7 @@ use Rattle.rights.specs.Labels.{labelByte}
 use Rattle.rights.specs.PathReader.{runAt}
 use Rattle.rights.specs.How.Reading.{Onward, Ends}
 use Rattle.rights.specs.declared.path.Read.the-variants.{At, Bad}
-use Rattle.rights.proofs.Lists.{byCase}
+use Rattle.rights.proofs.ListLaws.{byCase}
 use Rattle.rights.proofs.PathLaws.{bad-onward, at-onward}
 use Rattle.forms.specs.Part.{labelEnd, runEnd, knownEnd}
 use Rattle.forms.specs.How.Reader.{movedTo}

@@ -15,11 +15,11 @@ use Rattle.rights.specs.How.Reading.{Onward}
 use Rattle.rights.specs.Record.{nodeRecord, pasted}
 use Rattle.rights.specs.declared.path.Read.{Read}
 use Rattle.rights.specs.declared.path.Read.the-variants.{At, Bad}
-use Rattle.rights.proofs.Lists.{byCase, rest-of}
+use Rattle.rights.proofs.ListLaws.{byCase, rest-of}
 use Rattle.rights.proofs.PathLaws.{past}
 use Rattle.rights.proofs.PathTexts.{and-left, and-right}
 use Rattle.rights.proofs.RecordLaws.{pasted-pasted, pasted-none}
-use Rattle.rights.proofs.RecordMade.{length-node}
+use Rattle.rights.proofs.RecordOfLaws.{length-node}
 use Rattle.forms.specs.Part.{labelEnd}
 use Rattle.rights.specs.Nodes.{node}
 use Rattle.forms.specs.Tree.{openEnd, tailEnd, tailNodes, treeEnd, treeNodes, recordsOf, held}

@@ -13,7 +13,7 @@ use borrow.Author.Tests.{eqb-true, eqb-false, eq-eqb, ne-eqb, leb-true, leb-fals
 use Rattle.rights.specs.Bytes.{within, all}
 use Rattle.rights.specs.Labels.{labelByte}
 use Rattle.rights.specs.PathReader.{runAt}
-use Rattle.rights.proofs.Lists.{byCase}
+use Rattle.rights.proofs.ListLaws.{byCase}
 use Rattle.rights.proofs.PathTexts.{and-left, and-right, run-all, run-length}
 use Rattle.forms.specs.Word.{sameText, among, labelBytesAt}
 use Rattle.forms.specs.How.Codes.{textNumber, textNumberAt, byNumber}

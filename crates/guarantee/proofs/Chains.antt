@@ -10,7 +10,7 @@ use lib.ListN.{length, take, length-append, length-take, drop, getD}
 use lib.Seq.{take-append-le, take-take}
 use lib.Dec.{ltb}
 use borrow.Author.Tests.{ltb-true, ltb-false}
-use Rattle.rights.proofs.Lists.{byCase}
+use Rattle.rights.proofs.ListLaws.{byCase}
 use Rattle.views.specs.Change.{dropBelow, putBehind, remove, insertBehind, insertInFront, rename}
 use Rattle.views.specs.Nodes.{Nested, Above, Front}
 use Rattle.views.specs.How.Pass.{AtDone}

@@ -4,7 +4,7 @@ use mathlib.Core.Path.{_≡_, refl}
 use mathlib.Core.Bool.{false}
 use mathlib.Core.List.{List, [], _∷_, _++_}
 use mathlib.Core.Logic.{_⊎_, inl, inr}
-use Rattle.rights.proofs.Lists.{byCase}
+use Rattle.rights.proofs.ListLaws.{byCase}
 use Rattle.lines.specs.Outcome.{Outcome, refusal}
 use Rattle.lines.specs.Refusal.{Check, checked, Passed}
 

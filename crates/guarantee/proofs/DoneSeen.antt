@@ -12,7 +12,7 @@ use borrow.Author.Tests.{ltb-false, le-ltb}
 use Rattle.rights.specs.Policy.{insert}
 use Rattle.rights.specs.Rights.{holds}
 use Rattle.rights.specs.Table.{recordAt, recordsFrom, records, level, label, count}
-use Rattle.rights.proofs.Lists.{byCase}
+use Rattle.rights.proofs.ListLaws.{byCase}
 use Rattle.views.specs.Done.{Asked, does, askedOf, doneMarks}
 use Rattle.rights.specs.Marks.{eachFrom}
 use Rattle.views.specs.Shown.{atParent, nearestFirst}

@@ -16,8 +16,8 @@ use Rattle.rights.specs.PolicyCheck.{bitOk}
 use Rattle.rights.specs.Record.{nameRecord}
 use Rattle.rights.specs.Rights.{holds}
 use Rattle.rights.specs.Table.{count, records, recordsFrom, recordAt, recordOk, recordsOk, level, label, tableOk}
-use Rattle.rights.proofs.Facts.{both}
-use Rattle.rights.proofs.RecordMade.{length-name}
+use Rattle.rights.proofs.TableLaws.{both}
+use Rattle.rights.proofs.RecordOfLaws.{length-name}
 use Rattle.rights.proofs.XPathLists.{or-right}
 use Rattle.views.specs.Change.{lower, hasRoom}
 use Rattle.views.specs.Done.{Asked, isRoot, renamable, does, askedOf}
@@ -28,7 +28,7 @@ use Rattle.views.specs.declared.done.Change.{Change}
 use Rattle.views.specs.declared.done.Change.the-variants as change
 use Rattle.views.specs.declared.insert.Place.{Place}
 use Rattle.views.specs.declared.insert.Place.the-variants as place
-use Rattle.views.proofs.TableFacts.{facts}
+use Rattle.views.proofs.TableLaws.{facts}
 use Rattle.views.proofs.TableKept.{loosen}
 use Rattle.forms.specs.Form.{treeIn}
 use Rattle.forms.specs.Tree.{recordsOf}

@@ -14,7 +14,7 @@ use Rattle.views.specs.declared.done.Change.the-variants as change
 use Rattle.views.specs.declared.insert.Place.{Place}
 use Rattle.views.specs.declared.insert.Place.the-variants as place
 use Rattle.views.proofs.KeptLaws.{tags-remove, tags-insertBehind, tags-insertInFront, tags-rename}
-use Rattle.views.proofs.Mapped.{map-remove, map-insertBehind, map-insertInFront, map-rename}
+use Rattle.views.proofs.MapLaws.{map-remove, map-insertBehind, map-insertInFront, map-rename}
 use Rattle.views.proofs.NodeLaws.{remove-only}
 use Rattle.answers.specs.AnswerChoice.{Choice}
 use Rattle.forms.specs.Form.{readForm, treeIn}

@@ -10,7 +10,7 @@ use lib.ListN.{length, take, drop}
 use Rattle.rights.specs.Policy.{Policy, policyWord}
 use Rattle.rights.specs.Rights.{rightsBy, chains}
 use Rattle.rights.specs.Table.{records, level, label, tableOk}
-use Rattle.views.proofs.Relabelled.{level-relabel, label-relabel}
+use Rattle.views.proofs.RelabelLaws.{level-relabel, label-relabel}
 use Rattle.views.specs.Change.{insertBehind, chunks, raise, relabel}
 use Rattle.views.specs.Nodes.{Nested, put, tags, Above, Front}
 use Rattle.views.specs.How.Pass.{AtDone}

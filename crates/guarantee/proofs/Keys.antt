@@ -15,7 +15,7 @@ use Rattle.rights.specs.Isa.{is, passesOwn}
 use Rattle.rights.specs.Rights.{stepFor, reaches, ruledSet, decide, rightsBy}
 use Rattle.rights.proofs.LabelLaws.{same-left, folded-like}
 use Rattle.rights.proofs.BoolLaws.{or-left}
-use Rattle.rights.proofs.Lists.{byCase}
+use Rattle.rights.proofs.ListLaws.{byCase}
 use Rattle.rights.proofs.OwnNames.{own-named}
 use Rattle.rights.proofs.PolicyWords.{own-same}
 use Rattle.rights.proofs.XPathLists.{or-right}

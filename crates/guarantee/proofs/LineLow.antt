@@ -13,8 +13,8 @@ use Rattle.rights.specs.Isa.{passesOwn}
 use Rattle.rights.specs.Rights.{holds, rightsOn}
 use Rattle.rights.specs.XPath.{xpathSelection}
 use Rattle.rights.specs.Table.{records, level, tableOk}
-use Rattle.rights.proofs.Lists.{byCase}
-use Rattle.views.proofs.Relabelled.{level-relabel, label-relabel}
+use Rattle.rights.proofs.ListLaws.{byCase}
+use Rattle.views.proofs.RelabelLaws.{level-relabel, label-relabel}
 use Rattle.views.specs.Change.{remove, insertBehind, insertInFront, rename, chunks, raise, relabel, placed, removed, renamed, tooDeep}
 use Rattle.views.specs.Done.{doneMarks, inTable}
 use Rattle.rights.specs.Marks.{markCount}

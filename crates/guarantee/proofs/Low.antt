@@ -10,14 +10,14 @@ use native.Mathlib.Omega.{arith}
 use lib.ListN.{length, take, drop, getD}
 use lib.Seq.{take-take}
 use Rattle.rights.specs.Marks.{keep}
-use Rattle.rights.proofs.Lists.{byCase}
+use Rattle.rights.proofs.ListLaws.{byCase}
 use Rattle.views.specs.Change.{remove, insertBehind, insertInFront, append, insertAfter, rename}
 use Rattle.views.specs.Done.{inTable}
 use Rattle.views.specs.Nodes.{Nested, Above, Front}
 use Rattle.views.specs.How.Pass.{AtDone}
 use Rattle.views.specs.Shown.{shownBy}
 use Rattle.views.specs.How.Numbers.{isShownAt}
-use Rattle.views.proofs.Mapped.{map-remove, map-insertBehind, map-insertInFront}
+use Rattle.views.proofs.MapLaws.{map-remove, map-insertBehind, map-insertInFront}
 use Rattle.views.proofs.NestedLaws.{done-from}
 use Rattle.guarantee.proofs.Chains.{Cell, cellLevel, chain, cells, Keeps, cells-nested, cells-done, take-chain, chain-cut, length-chain, cells-remove, cells-insertBehind, cells-insertInFront, cells-rename}
 use Rattle.guarantee.proofs.Scan.{seen, spread, done-every, shown-level, seen-shown, spread-shown, seen-remove, seen-insertBehind, seen-insertInFront, KeepsGrant, seen-rename, map-seen, spread-map}

@@ -15,7 +15,7 @@ use Rattle.rights.specs.Nodes.{Node, node, Nodes, levelOf, labelOf}
 use Rattle.rights.specs.Policy.{Policy, read, policyWord}
 use Rattle.rights.specs.Rights.{holds, rightsBy, chains, rightsOn}
 use Rattle.rights.specs.Table.{records, level, label}
-use Rattle.rights.proofs.Lists.{byCase}
+use Rattle.rights.proofs.ListLaws.{byCase}
 use Rattle.views.specs.Done.{doneMarks, inTable}
 use Rattle.views.specs.Nodes.{Nested}
 use Rattle.views.specs.Shown.{Stored, storedFrom, storedLevel, grants, granted, isShown, shownAfter, shown, view}
@@ -23,7 +23,7 @@ use Rattle.views.specs.How.Numbers.{isShownAt, depthAfter, shownFrom}
 use Rattle.views.specs.declared.done.Change.{Change}
 use Rattle.rights.proofs.LabelLaws.{same-folded, folded-same}
 use Rattle.rights.proofs.PolicyWords.{word-same}
-use Rattle.views.proofs.ShownDepth.{shown-by-depth}
+use Rattle.views.proofs.ShownLaws.{shown-by-depth}
 use Rattle.guarantee.specs.Alike.{NoWordDiffers, Behind}
 use Rattle.guarantee.proofs.Keys.{Key, keyOf, rightsByKeys, rights-by-keys}
 use Rattle.guarantee.proofs.Chains.{Cell, cellLevel, chain, cells}

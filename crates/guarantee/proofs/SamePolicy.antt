@@ -11,8 +11,8 @@ use Rattle.rights.specs.Policy.{Policy, Rule, some, uses, policyWord}
 use Rattle.rights.specs.Isa.{isBy, is, standsFor, subjectsWhere, passesOwn}
 use Rattle.rights.specs.Rights.{decide, rightsBy, chains, rightsOn}
 use Rattle.rights.proofs.BoolLaws.{or-left}
-use Rattle.rights.proofs.Facts.{both}
-use Rattle.rights.proofs.Lists.{byCase}
+use Rattle.rights.proofs.TableLaws.{both}
+use Rattle.rights.proofs.ListLaws.{byCase}
 use Rattle.rights.proofs.XPathLists.{or-right}
 use Rattle.lines.specs.PolicyEdit.{isLine, isaHeld, subjectFrom, subjectNamed}
 use Rattle.guarantee.specs.Alike.{SamePolicy}

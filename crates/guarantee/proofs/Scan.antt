@@ -10,15 +10,15 @@ use lib.ListN.{length, drop, getD}
 use lib.Dec.{leb, ltb}
 use borrow.Author.Tests.{leb-true, ltb-true, ltb-false, le-ltb, le-leb}
 use Rattle.rights.specs.Marks.{keep}
-use Rattle.rights.proofs.Facts.{both}
-use Rattle.rights.proofs.Lists.{byCase}
+use Rattle.rights.proofs.TableLaws.{both}
+use Rattle.rights.proofs.ListLaws.{byCase}
 use Rattle.views.specs.Change.{dropBelow, putBehind, remove, insertBehind, insertInFront, rename}
 use Rattle.views.specs.Done.{inTable}
 use Rattle.views.specs.Nodes.{Nested, Above, Front}
 use Rattle.views.specs.How.Pass.{AtDone}
 use Rattle.views.specs.Shown.{shownBy}
 use Rattle.views.specs.How.Numbers.{isShownAt, shownFrom}
-use Rattle.views.proofs.ShownDepth.{Steps, shown-by-depth}
+use Rattle.views.proofs.ShownLaws.{Steps, shown-by-depth}
 
 -- what holds of every node holds of each that is done
 pub done-every : {E : Type 0} (P : E → Type 0) → ((x : E) → P x) → (ms : List Bool) (t : List E) → AtDone P ms t

@@ -9,13 +9,13 @@ use borrow.Author.Tests.{ltb-false}
 use lib.ListN.{length, getD}
 use Rattle.rights.specs.Record.{nodeRecord}
 use Rattle.rights.specs.Table.{count, records, recordOk, recordsOk, level, tableOk}
-use Rattle.rights.proofs.Facts.{both, table-records}
-use Rattle.rights.proofs.RecordMade.{length-node, node-ok}
+use Rattle.rights.proofs.TableLaws.{both, table-records}
+use Rattle.rights.proofs.RecordOfLaws.{length-node, node-ok}
 use Rattle.views.specs.Change.{remove, placed, removed, relabel, renamed, changed, free}
 use Rattle.views.specs.Nodes.{Nested, All}
-use Rattle.views.proofs.TableFacts.{facts}
+use Rattle.views.proofs.TableLaws.{facts}
 use Rattle.views.proofs.TableKept.{Full, StoredAs, removed-stored, renamed-stored, placed-stored, changed-ok, length-changed, records-changed, count-changed, loosen, length-records, length-placed}
-use Rattle.views.proofs.Waiting.{length-rename}
+use Rattle.views.proofs.InsertionLaws.{length-rename}
 use Rattle.forms.specs.declared.form.Form.{Form}
 use Rattle.lines.specs.Effect.{Effect, policy, root, insertion, renaming, removal, login, reading, tableAfter}
 use Rattle.guarantee.proofs.Sound.{RootSound, EffectSound}

@@ -10,7 +10,7 @@ use Rattle.rights.specs.Labels.{sameLabel, restricted}
 use Rattle.rights.specs.Policy.{some}
 use Rattle.rights.specs.Record.{noSpare, recordOf, nodeRecord}
 use Rattle.rights.specs.Table.{level, label, recordOk}
-use Rattle.rights.proofs.RecordMade.{length-node, node-ok, level-made, label-made}
+use Rattle.rights.proofs.RecordOfLaws.{length-node, node-ok, level-made, label-made}
 use Rattle.views.specs.Change.{chunks}
 use Rattle.views.specs.Nodes.{Nested, TreeOk, All}
 use Rattle.lines.specs.Work.{treeRestricted}

@@ -12,8 +12,8 @@ use Rattle.rights.specs.Policy.{policyWord}
 use Rattle.rights.specs.PolicyBytes.{policyOf}
 use Rattle.rights.specs.PolicyCheck.{policyOk}
 use Rattle.rights.specs.Table.{count, records, tableOk}
-use Rattle.rights.proofs.Facts.{table-few}
-use Rattle.rights.proofs.Lists.{rest-of}
+use Rattle.rights.proofs.TableLaws.{table-few}
+use Rattle.rights.proofs.ListLaws.{rest-of}
 use Rattle.views.specs.Change.{changed, renamed, removed}
 use Rattle.views.specs.Done.{doneMarks}
 use Rattle.views.specs.How.Numbers.{shownByNumbers, byNumbers, DoneBy, shownNumbers}

@@ -15,9 +15,9 @@ use Rattle.rights.specs.declared.path.Axis.{Axis}
 use Rattle.rights.specs.PolicyBytes.{subjectCount, isaCount, ruleCount}
 use Rattle.lines.specs.PolicyEdit.{withLine, withSubject, withIsa, withRule, ruleHead, stepRecords}
 use Rattle.rights.specs.Record.{nameRecord, pasted}
-use Rattle.rights.proofs.Facts.{both}
+use Rattle.rights.proofs.TableLaws.{both}
 use Rattle.rights.proofs.RecordLaws.{length-pasted}
-use Rattle.rights.proofs.Texts.{drop-take}
+use Rattle.rights.proofs.TextLaws.{drop-take}
 
 -- p and q have the same n bytes from byte a on
 abbrev pub Alike : List ℕ → List ℕ → ℕ → ℕ → Type 0

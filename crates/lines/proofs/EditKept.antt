@@ -16,9 +16,9 @@ use Rattle.rights.specs.Policy.{Rule}
 use Rattle.rights.specs.Table.{recAt, label}
 use Rattle.rights.specs.PolicyBytes.{subjectCount, isaCount, ruleCount, subjectAt, isaAt, ruleAt, stepsAt, nameAt, isaN, isaR, rightBit, whose, stepCount, stepOf, namesFrom, isaFrom, stepsFrom, ruleOf, rulesFrom, policyOf}
 use Rattle.rights.specs.PolicyCheck.{textOk, signOk, stepOk, bitOk, ruleOk, subjectOk, sameIsa, isaOk, subjectsOk, isasOk, rulesOk, policyOk}
-use Rattle.rights.proofs.Every.{every-more, every-at}
-use Rattle.rights.proofs.Facts.{both}
-use Rattle.rights.proofs.Words.{subject-is}
+use Rattle.rights.proofs.EveryLaws.{every-more, every-at}
+use Rattle.rights.proofs.TableLaws.{both}
+use Rattle.rights.proofs.WordLaws.{subject-is}
 use Rattle.lines.proofs.EditBytes.{Alike, alike-in, alike-part, alike-byte, zeros-part, zeros-alike}
 
 pub every-kept : (f g : ℕ → Bool) (n : ℕ) → ((j : ℕ) → j < n → f j ≡ true → g j ≡ true) → every f n ≡ true → every g n ≡ true

@@ -15,7 +15,7 @@ use Rattle.rights.specs.PolicyCheck.{policyOk}
 use Rattle.lines.specs.PolicyEdit.{subjectFrom, subjectNamed, isLine, isaHeld}
 use Rattle.lines.specs.declared.policy_edit.Found.the-variants.{Subject, Unknown}
 use Rattle.rights.proofs.PathTexts.{cond-elim}
-use Rattle.rights.proofs.Sounds.{policy-sound}
+use Rattle.rights.proofs.SoundLaws.{policy-sound}
 use Rattle.rights.proofs.PolicyWords.{some-here, some-later, some-none, names-cons, names-nil}
 
 -- the subjects from number u on

@@ -23,10 +23,10 @@ use Rattle.rights.specs.Record.{noSpare, nameRecord}
 use Rattle.lines.proofs.EditBytes.{Alike, part-in, part-split, zeros-part, zeros-alike, line-length, line-count, line-byte, line-put, line-put-byte, line-after, line-before}
 use Rattle.lines.proofs.EditKept.{parts, subjects-have, isas-have, rules-have, isa-is, rule-is, policy-is, name-kept, n-kept, r-kept, subjects-kept, isas-kept, rules-kept, subjects-more, isas-more, rules-more, names-same, isas-same, rules-same, names-snoc, isas-snoc, rules-snoc, policy-holds}
 use Rattle.rights.proofs.LabelLaws.{same-sym}
-use Rattle.rights.proofs.RecordMade.{length-name, label-made, name-ok}
+use Rattle.rights.proofs.RecordOfLaws.{length-name, label-made, name-ok}
 use Rattle.lines.proofs.StoredPaths.{GoodStored, written, records-length}
 use Rattle.lines.proofs.StoredSteps.{or-none, every-all, stored-steps, steps-pass}
-use Rattle.rights.proofs.Words.{subject-is}
+use Rattle.rights.proofs.WordLaws.{subject-is}
 
 -- ---- `(subject N)`
 

@@ -12,8 +12,8 @@ use Rattle.rights.specs.PathReader.{Got, got, bad, pathOf}
 use Rattle.rights.specs.How.Reading.{placeOf}
 use Rattle.rights.specs.PolicyBytes.{policyOf, subjectCount}
 use Rattle.rights.specs.PolicyCheck.{policyOk}
-use Rattle.rights.proofs.Lists.{rest-of}
-use Rattle.rights.proofs.Sounds.{policy-sound}
+use Rattle.rights.proofs.ListLaws.{rest-of}
+use Rattle.rights.proofs.SoundLaws.{policy-sound}
 use Rattle.lines.specs.PolicyEdit.{subjectNamed, isUnknown, numberIn, hasBracket, Plain}
 use Rattle.lines.specs.Refusal.{firstRefusal}
 use Rattle.lines.specs.State.{stage, withStage, withPolicy, policyBytes, policyIn}

@@ -7,7 +7,7 @@ use native.Mathlib.Omega.{arith}
 use borrow.Author.Tests.{leb-true, ltb-true, ltb-false, le-leb, lt-leb}
 use lib.Dec.{leb, ltb}
 use lib.ListN.{length, drop, length-append, length-drop}
-use Rattle.rights.proofs.Lists.{byCase}
+use Rattle.rights.proofs.ListLaws.{byCase}
 use Rattle.answers.specs.How.AnswerArea.{Answered, written}
 use Rattle.lines.specs.Outcome.{Outcome, says, refusal}
 use Rattle.lines.specs.Refusal.{Check, areaShort, areaCheck, checked, firstRefusal, Passed, allNumbered}

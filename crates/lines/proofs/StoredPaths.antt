@@ -30,7 +30,7 @@ use Rattle.rights.proofs.PathSound.{sound-test, sound}
 use Rattle.rights.proofs.PathTexts.{cond-elim, then-elim, never, same}
 use Rattle.rights.proofs.PolicyWords.{some-here, some-later, some-none}
 use Rattle.rights.proofs.RecordLaws.{pasted-pasted, pasted-none}
-use Rattle.rights.proofs.RecordMade.{length-name}
+use Rattle.rights.proofs.RecordOfLaws.{length-name}
 use Rattle.rights.proofs.WalkLaws.{path-steps}
 
 never-both : {C : Type 0} → true ≡ false → C

@@ -23,9 +23,9 @@ use Rattle.rights.specs.Table.{recAt}
 use Rattle.lines.proofs.EditBytes.{part-in, part-split}
 use Rattle.rights.proofs.PathComplete.{label-not}
 use Rattle.rights.proofs.PathTexts.{and-left}
-use Rattle.rights.proofs.RecordMade.{level-made, label-made, name-ok}
+use Rattle.rights.proofs.RecordOfLaws.{level-made, label-made, name-ok}
 use Rattle.lines.proofs.StoredPaths.{GoodStored, step-length, names-restricted}
-use Rattle.rights.proofs.Texts.{byte-at, first-at}
+use Rattle.rights.proofs.TextLaws.{byte-at, first-at}
 
 -- a step is read again as it was stored
 axis-back : (a : Axis) → axisOf (axisByte a) ≡ a

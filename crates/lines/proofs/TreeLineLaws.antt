@@ -13,15 +13,15 @@ use Rattle.rights.specs.Labels.{sameLabel, restricted}
 use Rattle.rights.specs.Policy.{some}
 use Rattle.rights.specs.Record.{noSpare, nodeRecord, pasted}
 use Rattle.rights.specs.Table.{level, label, count, capacity, records, recordOk, recordsOk, tableOk}
-use Rattle.rights.proofs.Facts.{both}
+use Rattle.rights.proofs.TableLaws.{both}
 use Rattle.rights.proofs.LabelLaws.{same-differ}
-use Rattle.rights.proofs.Lists.{byCase}
-use Rattle.rights.proofs.RecordMade.{pasted-record}
+use Rattle.rights.proofs.ListLaws.{byCase}
+use Rattle.rights.proofs.RecordOfLaws.{pasted-record}
 use Rattle.rights.specs.Marks.{marksOf, markCount}
 use Rattle.views.specs.Change.{chunks, le4, join, changed, putBehind, insertBehind, raise, lower, placed, deepest, tooDeep, free, hasRoom}
 use Rattle.views.specs.declared.insert.Place.the-variants.{Append}
-use Rattle.rights.proofs.Texts.{drop-take}
-use Rattle.views.proofs.TableFacts.{facts, zero-replicate}
+use Rattle.rights.proofs.TextLaws.{drop-take}
+use Rattle.views.proofs.TableLaws.{facts, zero-replicate}
 use Rattle.views.proofs.TableKept.{length-records, loosen}
 use Rattle.lines.specs.State.{stage, storeOk}
 use Rattle.lines.specs.Refusal.{check, levelTooDeep, tableFull}

@@ -23,16 +23,16 @@ use Rattle.rights.specs.How.Groups.{askedOn}
 use Rattle.rights.specs.How.Selection.{selection, Selects}
 use Rattle.rights.specs.Table.{count, records}
 use Rattle.rights.proofs.FiveRights.{asked-all}
-use Rattle.rights.proofs.Lists.{rest-of}
+use Rattle.rights.proofs.ListLaws.{rest-of}
 use Rattle.rights.proofs.MarkLaws.{marks-bits, each-length}
 use Rattle.rights.proofs.OwnNames.{own-sound, own-passes, own-part}
 use Rattle.rights.proofs.PassLaws.{view-length}
 use Rattle.rights.proofs.RightsLaws.{rule-bit}
-use Rattle.rights.proofs.Sounds.{policy-sound}
+use Rattle.rights.proofs.SoundLaws.{policy-sound}
 use Rattle.rights.proofs.XPathLaws.{selection-xpath}
 use Rattle.views.specs.Shown.{storedFrom, stored}
 use Rattle.views.specs.How.Numbers.{shownNumbers}
-use Rattle.views.proofs.AskedView.{shown-asked}
+use Rattle.views.proofs.AskedLaws.{shown-asked}
 use Rattle.views.proofs.TableKept.{length-records}
 use Rattle.views.proofs.ViewLaws.{view-fits, view-by-numbers, view-nested}
 use Rattle.lines.specs.How.ChangeRoom.{ForView}

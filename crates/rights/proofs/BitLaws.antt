@@ -12,8 +12,8 @@ use lib.ListN.{getD, set}
 use Rattle.rights.specs.How.Automaton.{value, meet, union}
 use Rattle.rights.specs.Marks.{bit}
 use Rattle.rights.specs.How.Groups.{bitAt}
-use Rattle.rights.proofs.Masks.{value-meet, value-union}
-use Rattle.rights.proofs.StateMasks.{bit-test}
+use Rattle.rights.proofs.AutomatonLaws.{value-meet, value-union}
+use Rattle.rights.proofs.StateMaskLaws.{bit-test}
 
 -- the elements of a set, place by place
 pub get-meet : (xs ys : List Bool) (j : ℕ) → getD (meet xs ys) j false ≡ getD xs j false && getD ys j false

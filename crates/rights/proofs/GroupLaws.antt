@@ -23,9 +23,9 @@ use Rattle.rights.specs.PolicyCheck.{bitOk}
 use Rattle.rights.specs.PolicyBytes.{accepts, stepCount, stepsAt, stepOf}
 use Rattle.rights.specs.Table.{recAt, recordAt, level, label}
 use Rattle.rights.proofs.RightsLaws.{right-of}
-use Rattle.rights.proofs.Lists.{byCase}
-use Rattle.rights.proofs.StateMasks.{bit-test, length-steps, length-passedBy}
-use Rattle.rights.proofs.Chains.{found}
+use Rattle.rights.proofs.ListLaws.{byCase}
+use Rattle.rights.proofs.StateMaskLaws.{bit-test, length-steps, length-passedBy}
+use Rattle.rights.proofs.ChainLaws.{found}
 use Rattle.rights.proofs.BitLaws.{get-meet, get-union, bitAt-and, bitAt-or, bitAt-one, bitAt-ext, bitAt-value, bitAt-clear}
 use Rattle.rights.proofs.PackedLaws.{step-deep, step-every, or-none, deeps-more, passed-more, deeps-length, packed-none, packed-end}
 

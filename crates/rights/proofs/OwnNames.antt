@@ -16,8 +16,8 @@ use Rattle.rights.specs.Isa.{standsFor, subjectsWhere, passesOwn}
 use Rattle.rights.specs.PolicyBytes.{policyOf, nameAt}
 use Rattle.rights.specs.How.Roles.{Own, OwnFirst, Subjects, nameAmong}
 use Rattle.rights.specs.How.Automaton.{Sound}
-use Rattle.rights.proofs.Held.{names-length, name-held}
-use Rattle.rights.proofs.Lists.{byCase}
+use Rattle.rights.proofs.PolicyBytesLaws.{names-length, name-held}
+use Rattle.rights.proofs.ListLaws.{byCase}
 
 pub some-more : {A : Type 0} (g : A → Bool) (xs : List A) (x : A) → some g (xs ++ (x ∷ [])) ≡ some g xs || g x
 unfolding some

@@ -24,9 +24,9 @@ use Rattle.rights.specs.How.Vocabulary.{listedWord, listedNumber, Sorted
 use Rattle.rights.proofs.OwnNames.{some-at}
 use Rattle.rights.proofs.LabelLaws.{same-self}
 use Rattle.rights.proofs.PolicyWords.{step-found, rule-found, uses-label}
-use Rattle.rights.proofs.StateMasks.{length-steps}
-use Rattle.rights.proofs.Lists.{byCase}
-use Rattle.rights.proofs.Texts.{first-at, passes-any, passes-mine, passes-label}
+use Rattle.rights.proofs.StateMaskLaws.{length-steps}
+use Rattle.rights.proofs.ListLaws.{byCase}
+use Rattle.rights.proofs.TextLaws.{first-at, passes-any, passes-mine, passes-label}
 use Rattle.rights.proofs.BitLaws.{bitAt-or, bitAt-one, bitAt-none}
 use Rattle.rights.proofs.VocabularyLaws.{number-decides}
 

@@ -13,9 +13,9 @@ use Rattle.rights.specs.Table.{level, label, recordAt}
 use Rattle.rights.specs.Rights.{Step}
 use Rattle.rights.specs.How.Automaton.{value, meet, deeps, passedBy, moved, states, chainTo}
 use Rattle.rights.specs.How.Groups.{bitAt, Packed}
-use Rattle.rights.proofs.Texts.{first-at}
-use Rattle.rights.proofs.StateMasks.{bit-test, moved-mask}
-use Rattle.rights.proofs.Chains.{states-more}
+use Rattle.rights.proofs.TextLaws.{first-at}
+use Rattle.rights.proofs.StateMaskLaws.{bit-test, moved-mask}
+use Rattle.rights.proofs.ChainLaws.{states-more}
 use Rattle.rights.proofs.BitLaws.{get-meet, bitAt-and, bitAt-or, bitAt-value}
 
 -- the masks of the levels are those of the chain, level by level, from the states s on

@@ -17,7 +17,7 @@ use Rattle.rights.specs.How.Places.{Text}
 use Rattle.rights.specs.How.Vocabulary.{byteOrder, labelOrder, listedWord, wordNumber, listedNumber, isListed, Words, Inserted, Added}
 use Rattle.rights.proofs.LabelLaws.{same-sym, same-left, same-right, same-order, order-flip, order-through, order-same, order-other}
 use Rattle.rights.proofs.BoolLaws.{both-ways, or-left, or-right, or-split}
-use Rattle.rights.proofs.Lists.{byCase}
+use Rattle.rights.proofs.ListLaws.{byCase}
 
 -- A label's number
 

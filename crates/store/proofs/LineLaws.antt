@@ -9,8 +9,8 @@ use lib.Dec.{leb, ltb}
 use lib.ListN.{length, take, drop, replicate, length-append, length-drop, length-replicate, drop-of-length-le}
 use lib.Seq.{take-at, take-all, take-nil}
 use Rattle.rights.specs.Record.{nodeRecord, pasted}
-use Rattle.rights.proofs.Lists.{byCase}
-use Rattle.rights.proofs.RecordMade.{length-node}
+use Rattle.rights.proofs.ListLaws.{byCase}
+use Rattle.rights.proofs.RecordOfLaws.{length-node}
 use Rattle.forms.specs.declared.form.Part.{Part}
 use Rattle.forms.specs.declared.form.Form.{Form}
 use Rattle.forms.specs.declared.form.Form.the-variants.{Root}

@@ -27,12 +27,12 @@ use Rattle.rights.specs.Marks.{bit}
 use Rattle.rights.specs.How.Selection.{selection, Selects}
 use Rattle.rights.specs.Table.{tableOk, count, records}
 use Rattle.rights.specs.declared.path.Read.the-variants.{At, Bad}
-use Rattle.rights.proofs.Facts.{both, table-few}
-use Rattle.rights.proofs.Lists.{all-at}
+use Rattle.rights.proofs.TableLaws.{both, table-few}
+use Rattle.rights.proofs.ListLaws.{all-at}
 use Rattle.rights.proofs.NodeLaws.{table-fits}
 use Rattle.rights.proofs.OwnNames.{own-passes}
 use Rattle.rights.proofs.PassLaws.{view-length}
-use Rattle.rights.proofs.Sounds.{policy-sound}
+use Rattle.rights.proofs.SoundLaws.{policy-sound}
 use Rattle.trials.specs.Trials.{refused, notWellFormed, yes, either, pathCode, wordCode, asks, asksRights, RightsTried, below, asksNodes, SelectionTried}
 
 -- a checked policy is as long as it has to be

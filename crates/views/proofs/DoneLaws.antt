@@ -14,7 +14,7 @@ use Rattle.views.specs.How.Numbers.{shownNumber, shownNumbers, isNext, s
 use Rattle.views.specs.Done.{does, askedOf, doneMarks, inTable}
 use Rattle.views.specs.declared.done.Change.{Change}
 use Rattle.rights.proofs.MarkLaws.{each-at, each-length}
-use Rattle.views.proofs.TableFacts.{facts}
+use Rattle.views.proofs.TableLaws.{facts}
 use Rattle.views.proofs.TableKept.{length-records}
 use Rattle.views.proofs.ViewLaws.{all-keep, all-map, number-mod}
 

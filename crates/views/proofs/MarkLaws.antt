@@ -10,7 +10,7 @@ use lib.Dec.{eqb, ltb, leb}
 use lib.ListN.{length, drop, getD, set, drop-of-length-le}
 use lib.Seq.{drop-cons, drop-drop, getD-drop, getD-set-same, getD-set-other}
 use Rattle.rights.specs.Marks.{marksOf}
-use Rattle.rights.proofs.Lists.{byCase}
+use Rattle.rights.proofs.ListLaws.{byCase}
 use Rattle.rights.proofs.MarkLaws.{mark-at}
 pub use Rattle.rights.proofs.MarkLaws.{marks-bits}
 use Rattle.views.specs.How.Numbers.{isNext, shownByNumbers, byNumbers}

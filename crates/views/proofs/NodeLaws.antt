@@ -11,11 +11,11 @@ use lib.ListN.{length, getD, drop}
 use lib.Dec.{ltb}
 use borrow.Author.Tests.{ltb-true, ltb-false, lt-ltb}
 use Rattle.rights.specs.Marks.{eachFrom, keep}
-use Rattle.rights.proofs.Lists.{byCase}
+use Rattle.rights.proofs.ListLaws.{byCase}
 use Rattle.views.specs.Change.{dropBelow, putBehind, remove, insertBehind, insertInFront, rename}
 use Rattle.views.specs.Nodes.{Above, Front, isBelow, isAncestor, goes, Goes, only, StandsBehind}
-use Rattle.views.proofs.Removal.{pass-below, pass-done}
-use Rattle.views.proofs.Waiting.{skip-one, above-less}
+use Rattle.views.proofs.RemovalLaws.{pass-below, pass-done}
+use Rattle.views.proofs.InsertionLaws.{skip-one, above-less}
 
 each-shift : (p : ℕ → Bool) (i n : ℕ) → eachFrom p (suc i) n ≡ eachFrom (λ k. p (suc k)) i n
 unfolding eachFrom

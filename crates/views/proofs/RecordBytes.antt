@@ -9,8 +9,8 @@ use native.Mathlib.Nat.{add-zero}
 use lib.ListN.{length, getD, take, drop, set, length-append, length-drop}
 use lib.Seq.{take-at, drop-at, set-at, drop-drop, length-take-le, paste}
 use lib.Dec.{eqb}
-use Rattle.views.proofs.Chunks.{length-chunks, chunks-suc, one-more, level-first, marks-drop}
-use Rattle.views.proofs.Copies.{drop-more}
+use Rattle.views.proofs.ChunkLaws.{length-chunks, chunks-suc, one-more, level-first, marks-drop}
+use Rattle.views.proofs.CopyLaws.{drop-more}
 use Rattle.rights.specs.Table.{level}
 use Rattle.views.specs.Change.{chunks, raised, raise}
 use Rattle.rights.specs.Marks.{marksOf}

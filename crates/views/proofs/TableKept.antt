@@ -11,23 +11,23 @@ use lib.ListN.{length, getD, take, drop, replicate, length-append, length-replic
 use lib.Seq.{take-at, drop-at, drop-drop, length-take-le, getD-drop}
 use Rattle.rights.specs.Bytes.{all, isZero}
 use Rattle.rights.specs.Table.{labelPartOk, spareOk, recordOk, recordsOk, level, spare, tableOk, count, capacity, records}
-use Rattle.rights.proofs.Facts.{both, record-levels, record-parts}
-use Rattle.rights.proofs.Lists.{byCase}
-use Rattle.rights.proofs.Records.{table-yes, record-yes}
-use Rattle.rights.proofs.RecordMade.{zeros-zero, made-ok, spare-made}
+use Rattle.rights.proofs.TableLaws.{both, record-levels, record-parts}
+use Rattle.rights.proofs.ListLaws.{byCase}
+use Rattle.rights.proofs.RecordsOkLaws.{table-yes, record-yes}
+use Rattle.rights.proofs.RecordOfLaws.{zeros-zero, made-ok, spare-made}
 use Rattle.views.specs.declared.insert.Place.{Place}
 use Rattle.views.specs.declared.insert.Place.the-variants.{Append, After, Before}
 use Rattle.views.specs.Change.{dropBelow, putBehind, remove, insertBehind, insertInFront, rename, chunks, raise, lower, placed, removed, relabel, renamed, join, changed, deepest, tooDeep, hasRoom}
 use Rattle.rights.specs.Marks.{markCount}
 use Rattle.views.specs.How.Pass.{AtDone, Shallow}
 use Rattle.views.specs.Nodes.{Above, Front, All, Nested, TreeOk, LabelOk}
-use Rattle.views.proofs.Chunks.{all-chunks, length-chunks, level-first}
-use Rattle.views.proofs.TableFacts.{facts}
-use Rattle.views.proofs.Waiting.{length-rename}
-use Rattle.views.proofs.Relabelled.{level-relabel, length-relabel}
+use Rattle.views.proofs.ChunkLaws.{all-chunks, length-chunks, level-first}
+use Rattle.views.proofs.TableLaws.{facts}
+use Rattle.views.proofs.InsertionLaws.{length-rename}
+use Rattle.views.proofs.RelabelLaws.{level-relabel, length-relabel}
 use Rattle.views.proofs.RecordBytes.{length-raised, above-raise}
-use Rattle.views.proofs.Whole.{placed-length}
-use Rattle.views.proofs.Depth.{shallow-places}
+use Rattle.views.proofs.WholeInsertionLaws.{placed-length}
+use Rattle.views.proofs.DepthLaws.{shallow-places}
 use Rattle.views.proofs.NestedLaws.{nested-remove, nested-insertBehind, nested-insertInFront, nested-rename, all-remove, all-putBehind, all-insertBehind, all-insertInFront, all-rename, done-from, drop-all, shorter-remove}
 
 abbrev pub Full : List ℕ → Type 0

@@ -16,13 +16,13 @@ use Rattle.rights.specs.How.Places.{Text}
 use Rattle.rights.specs.Rights.{holds}
 use Rattle.rights.specs.Nodes.{Node, node, Nodes, levelOf, levelAt, TreeShaped}
 use Rattle.rights.specs.How.Numbers.{recordPlace, seen, viewOf, Fits}
-use Rattle.rights.proofs.Facts.{both, record-levels}
-use Rattle.rights.proofs.Lists.{byCase}
+use Rattle.rights.proofs.TableLaws.{both, record-levels}
+use Rattle.rights.proofs.ListLaws.{byCase}
 use Rattle.views.specs.Shown.{Stored, storedFrom, stored, storedLevel, granted, shown, carried, view}
 use Rattle.views.specs.Nodes.{All}
 use Rattle.views.specs.How.Numbers.{isShownAt, shownFrom, shownNumber, shownNumbers}
-use Rattle.views.proofs.StoredNodes.{record-text, table-by-depth}
-use Rattle.views.proofs.TableFacts.{facts}
+use Rattle.views.proofs.StoredLaws.{record-text, table-by-depth}
+use Rattle.views.proofs.TableLaws.{facts}
 
 -- Numbers of records
 

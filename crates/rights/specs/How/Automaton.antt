@@ -1,4 +1,4 @@
--- How the rights are worked out: one automaton a rule, its states as a list of Bools and as a mask of bits (Groups: several rules in one mask). proofs/Chains.antt shows that it finds what
+-- How the rights are worked out: one automaton a rule, its states as a list of Bools and as a mask of bits (Groups: several rules in one mask). proofs/ChainLaws.antt shows that it finds what
 -- `reaches` says.
 use Prim.Native.Nat.{ℕ, zero, suc, _+_, _*_, _≤_, _<_}
 use mathlib.Core.Bool.{Bool, false, cond, _&&_, _||_}

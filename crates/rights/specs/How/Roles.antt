@@ -1,4 +1,4 @@
--- How what a subject is, and for whom `$` stands, are worked out from a policy's bytes. proofs/Roles.antt shows that the pass over the subjects finds what `is` says,
+-- How what a subject is, and for whom `$` stands, are worked out from a policy's bytes. proofs/RolesLaws.antt shows that the pass over the subjects finds what `is` says,
 -- proofs/OwnNames.antt that the names of the subjects for which `$` stands are what passes `$`.
 use Prim.Native.Nat.{ℕ, zero, suc, _≤_, _<_}
 use mathlib.Core.Bool.{Bool, true, cond}

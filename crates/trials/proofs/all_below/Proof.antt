@@ -6,7 +6,7 @@ use borrow.Author.Needs.{needs}
 use borrow.Author.Tests.{not-true, not-false}
 use lib.ListN.{length, drop}
 use Rattle.rights.specs.Bytes.{all}
-use Rattle.rights.proofs.Lists.{all-step, all-stop, all-end}
+use Rattle.rights.proofs.ListLaws.{all-step, all-stop, all-end}
 use Rattle.trials.specs.Trials.{below}
 use Rattle.trials.proofs.all_below.Statement.{statement}
 use Rattle.trials.proofs.all_below.Tie as tie

@@ -1,7 +1,7 @@
 use mathlib.Core.Path.{sym, _∙_}
 use borrow.Author.Needs.{needs}
 use Rattle.trials.proofs.TrialLaws.{asks-gives, asked-room, asked-none}
-use Rattle.rights.proofs.Facts.{table-long}
+use Rattle.rights.proofs.TableLaws.{table-long}
 use Rattle.trials.proofs.may_ask_rights.Statement.{statement}
 use Rattle.trials.proofs.may_ask_rights.Tie as tie
 

@@ -1,7 +1,7 @@
 use mathlib.Core.Path.{sym, _∙_}
 use borrow.Author.Needs.{needs}
 use Rattle.trials.proofs.TrialLaws.{asks-gives, nodes-below, nodes-crowded, nodes-many, nodes-none}
-use Rattle.rights.proofs.Facts.{table-long}
+use Rattle.rights.proofs.TableLaws.{table-long}
 use Rattle.trials.proofs.may_select.Statement.{statement}
 use Rattle.trials.proofs.may_select.Tie as tie
 

@@ -1,7 +1,7 @@
 use Prim.Native.Nat.{_≤_}
 use mathlib.Core.Path.{sym, _∙_}
 use Rattle.trials.proofs.TrialLaws.{rights-gives, asks-gives, rights-done, rights-refused}
-use Rattle.rights.proofs.Facts.{table-long, table-few}
+use Rattle.rights.proofs.TableLaws.{table-long, table-few}
 use borrow.Author.Needs.{needs}
 use Rattle.trials.proofs.trial_rights.Statement.{statement}
 use Rattle.trials.proofs.trial_rights.Tie as tie

@@ -4,7 +4,7 @@ use lib.ListN.{length}
 use Rattle.rights.specs.PathReader.{pathOf}
 use Rattle.rights.proofs.OwnNames.{own-sound, own-part}
 use Rattle.rights.proofs.PathLaws.{is-path}
-use Rattle.rights.proofs.Sounds.{policy-sound}
+use Rattle.rights.proofs.SoundLaws.{policy-sound}
 use Rattle.trials.proofs.TrialLaws.{nodes-gives, nodes-fit, asks-subject, nodes-done, nodes-bad, nodes-refused}
 use borrow.Author.Needs.{needs}
 use Rattle.trials.proofs.trial_select.Statement.{statement}

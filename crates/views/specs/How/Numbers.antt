@@ -1,5 +1,5 @@
 -- What is shown, by the depth of the shown chain and by the numbers of the shown nodes, and how a change reads what is shown and selected off those numbers.
--- proofs/ShownDepth.antt, proofs/ViewLaws.antt and proofs/DoneLaws.antt show that this is what `shown`, `view` and `inTable` say.
+-- proofs/ShownLaws.antt, proofs/ViewLaws.antt and proofs/DoneLaws.antt show that this is what `shown`, `view` and `inTable` say.
 use Prim.Native.Nat.{ℕ, zero, suc, _%_, _+_, min}
 use mathlib.Core.Bool.{Bool, false, cond, _&&_}
 use mathlib.Core.Path.{_≡_}
@@ -22,7 +22,7 @@ depthAfter d l b = cond b (l + 1) (min d l)
 
 module _ {E : Type 0} (lev : E → ℕ) (gr : E → Bool) where
   -- What is shown, with one number, the depth of the shown chain: a node is shown if its level is at most that and it is granted. Equal to `shownBy`
-  -- on every nested list (proofs/ShownDepth.antt).
+  -- on every nested list (proofs/ShownLaws.antt).
   abbrev pub isShownAt : ℕ → E → Bool
   isShownAt d x = gr x && leb (lev x) d
 

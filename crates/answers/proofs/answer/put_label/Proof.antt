@@ -2,7 +2,7 @@ use Rattle.rights.specs.How.Numbers.{recordPlace}
 use Rattle.rights.proofs.PassLaws.{label-hidden}
 use Rattle.answers.proofs.NodeLaws.{label-read, label-short}
 use Rattle.answers.proofs.AnswerLaws.{take-short}
-use Rattle.rights.proofs.Lists.{part-of}
+use Rattle.rights.proofs.ListLaws.{part-of}
 use native.Mathlib.Omega.{arith}
 use lib.ListN.{drop, getD}
 use mathlib.Core.Path.{_∙_}

@@ -2,7 +2,7 @@
 use mathlib.Core.Bool.{true, false}
 use native.Mathlib.Omega.{arith}
 use Rattle.forms.specs.Part.{pathByte}
-use Rattle.rights.proofs.Ranges.{on-range}
+use Rattle.rights.proofs.RangeLaws.{on-range}
 use Rattle.forms.proofs.part.path_byte.Statement.{statement}
 use Rattle.forms.proofs.part.path_byte.Tie as tie
 

@@ -7,7 +7,7 @@ use borrow.Author.Needs.{needs}
 use borrow.Author.Tests.{not-true, not-false}
 use lib.ListN.{length}
 use Rattle.rights.specs.PathReader.{runAt}
-use Rattle.rights.proofs.Runs.{run-end, run-yes, run-no}
+use Rattle.rights.proofs.RunLaws.{run-end, run-yes, run-no}
 use Rattle.forms.proofs.part.path_run_end.Statement.{statement}
 use Rattle.forms.proofs.part.path_run_end.Tie as tie
 use Rattle.forms.specs.Part.{pathByte}

@@ -2,7 +2,7 @@
 use mathlib.Core.Bool.{true, false}
 use native.Mathlib.Omega.{arith}
 use Rattle.forms.specs.Text.{lineByte}
-use Rattle.rights.proofs.Ranges.{on-range}
+use Rattle.rights.proofs.RangeLaws.{on-range}
 use Rattle.forms.proofs.text.line_byte.Statement.{statement}
 use Rattle.forms.proofs.text.line_byte.Tie as tie
 

@@ -5,7 +5,7 @@ use native.Mathlib.Omega.{arith}
 use borrow.Author.Tests.{le-leb, lt-leb, not-true, not-false}
 use lib.ListN.{length, drop}
 use Rattle.rights.specs.Bytes.{all}
-use Rattle.rights.proofs.Lists.{all-step, all-stop, all-end}
+use Rattle.rights.proofs.ListLaws.{all-step, all-stop, all-end}
 use Rattle.forms.specs.Text.{lineByte, lineOk}
 use Rattle.forms.proofs.text.line_ok.Statement.{statement}
 use Rattle.forms.proofs.text.line_ok.Tie as tie

@@ -2,7 +2,7 @@ use Prim.Native.Nat.{ℕ}
 use mathlib.Core.Path.{sym, _∙_}
 use mathlib.Core.List.{List}
 use native.Mathlib.Omega.{arith}
-use Rattle.rights.proofs.Lists.{rest-of}
+use Rattle.rights.proofs.ListLaws.{rest-of}
 use Rattle.forms.proofs.TreeLaws.{rest-length, opened, put-tree-none, put-tree-some}
 use borrow.Author.Needs.{needs}
 use Rattle.forms.proofs.tree.put_tree.Statement.{statement}

@@ -2,7 +2,7 @@ use Prim.Native.Nat.{ℕ}
 use mathlib.Core.Path.{sym, _∙_}
 use mathlib.Core.List.{List}
 use native.Mathlib.Omega.{arith}
-use Rattle.rights.proofs.Lists.{rest-of}
+use Rattle.rights.proofs.ListLaws.{rest-of}
 use Rattle.rights.proofs.PathLaws.{bad-onward}
 use Rattle.forms.proofs.TreeLaws.{rest-length, tree-unopened, tree-opened}
 use borrow.Author.Needs.{needs}

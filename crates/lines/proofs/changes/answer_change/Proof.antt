@@ -1,4 +1,4 @@
-use Rattle.rights.proofs.Facts.{table-long}
+use Rattle.rights.proofs.TableLaws.{table-long}
 use Rattle.lines.proofs.ChangeLaws.{answered-count}
 use borrow.Author.Needs.{needs}
 use Rattle.lines.proofs.changes.answer_change.Statement.{statement}

@@ -1,7 +1,7 @@
 use mathlib.Core.Path.{refl, ap, _∙_}
 use native.Mathlib.Omega.{arith}
 use lib.ListN.{length, replicate}
-use Rattle.rights.proofs.Facts.{table-long}
+use Rattle.rights.proofs.TableLaws.{table-long}
 use Rattle.lines.specs.Effect.{performed}
 use Rattle.lines.specs.State.{stage}
 use Rattle.lines.specs.UserView.{doneIn}

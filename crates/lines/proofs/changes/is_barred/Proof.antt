@@ -1,6 +1,6 @@
 use native.Mathlib.Omega.{arith}
 use Rattle.lines.proofs.StateLaws.{store-held}
-use Rattle.rights.proofs.Lists.{rest-of}
+use Rattle.rights.proofs.ListLaws.{rest-of}
 use Rattle.lines.proofs.ChangeLaws.{barred-restricted, barred-word}
 use borrow.Author.Needs.{needs}
 use Rattle.lines.proofs.changes.is_barred.Statement.{statement}

@@ -4,7 +4,7 @@ use mathlib.Core.List.{List}
 use lib.ListN.{replicate}
 use native.Mathlib.Omega.{arith}
 use borrow.Author.Needs.{needs}
-use Rattle.rights.proofs.Facts.{table-long}
+use Rattle.rights.proofs.TableLaws.{table-long}
 use Rattle.lines.specs.How.ChangeRoom.{RightsHeld}
 use Rattle.lines.proofs.StateLaws.{store-held}
 use Rattle.lines.proofs.UserViewLaws.{shown-long, marks-long-enough, all-held}

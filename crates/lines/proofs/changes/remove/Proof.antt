@@ -2,7 +2,7 @@ use Prim.Native.Nat.{ℕ}
 use mathlib.Core.Path.{refl}
 use native.Mathlib.Omega.{arith}
 use lib.ListN.{replicate}
-use Rattle.rights.proofs.Facts.{table-long}
+use Rattle.rights.proofs.TableLaws.{table-long}
 use Rattle.views.specs.declared.done.Change.the-variants as change
 use Rattle.lines.specs.Work.{onView}
 use Rattle.lines.proofs.ChangeLaws.{done-reach, done-cover, done-answered, removed-table}

@@ -2,7 +2,7 @@ use Prim.Native.Nat.{ℕ}
 use mathlib.Core.Path.{refl}
 use native.Mathlib.Omega.{arith}
 use lib.ListN.{replicate}
-use Rattle.rights.proofs.Facts.{table-long}
+use Rattle.rights.proofs.TableLaws.{table-long}
 use Rattle.lines.specs.Work.{renameChecks}
 use Rattle.lines.proofs.ChangeLaws.{done-reach, done-cover, done-answered, renamed-table}
 use Rattle.lines.proofs.RefusalLaws.{passed, performs-refused, performs-short, performs-done}

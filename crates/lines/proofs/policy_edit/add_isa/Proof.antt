@@ -2,7 +2,7 @@
 use native.Mathlib.Omega.{arith}
 use lib.ListN.{length-set}
 use Rattle.lines.proofs.EditBytes.{isa-written}
-use Rattle.rights.proofs.Sounds.{policy-sound}
+use Rattle.rights.proofs.SoundLaws.{policy-sound}
 use borrow.Author.Needs.{needs}
 use Rattle.lines.proofs.policy_edit.add_isa.Statement.{statement}
 use Rattle.lines.proofs.policy_edit.add_isa.Tie as tie

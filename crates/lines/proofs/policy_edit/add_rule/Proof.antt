@@ -3,7 +3,7 @@ use native.Mathlib.Omega.{arith}
 use lib.ListN.{length-set}
 use Rattle.lines.specs.PolicyEdit.{stepsIn}
 use Rattle.lines.proofs.EditBytes.{rule-written}
-use Rattle.rights.proofs.Sounds.{policy-sound}
+use Rattle.rights.proofs.SoundLaws.{policy-sound}
 use Rattle.lines.proofs.StoredPaths.{written}
 use borrow.Author.Needs.{needs}
 use Rattle.lines.proofs.policy_edit.add_rule.Statement.{statement}

@@ -2,7 +2,7 @@
 use native.Mathlib.Omega.{arith}
 use lib.ListN.{take, drop}
 use Rattle.lines.proofs.EditBytes.{subject-written}
-use Rattle.rights.proofs.Sounds.{policy-sound}
+use Rattle.rights.proofs.SoundLaws.{policy-sound}
 use borrow.Author.Needs.{needs}
 use Rattle.lines.proofs.policy_edit.add_subject.Statement.{statement}
 use Rattle.lines.proofs.policy_edit.add_subject.Tie as tie

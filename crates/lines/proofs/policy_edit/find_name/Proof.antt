@@ -7,7 +7,7 @@ use Rattle.rights.specs.Labels.{sameLabel}
 use Rattle.rights.specs.PolicyBytes.{subjectCount, nameAt, namesFrom, policyOf}
 use Rattle.lines.specs.PolicyEdit.{subjectFrom, subjectNamed}
 use Rattle.lines.proofs.EditTests.{find-first, find-here, find-later, find-none}
-use Rattle.rights.proofs.Sounds.{policy-sound}
+use Rattle.rights.proofs.SoundLaws.{policy-sound}
 use Rattle.lines.proofs.policy_edit.find_name.Statement.{statement}
 use Rattle.lines.proofs.policy_edit.find_name.Tie as tie
 

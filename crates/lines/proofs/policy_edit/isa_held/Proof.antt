@@ -6,7 +6,7 @@ use Rattle.rights.specs.Policy.{some}
 use Rattle.rights.specs.PolicyBytes.{isaCount, isaFrom, policyOf}
 use Rattle.lines.specs.PolicyEdit.{isLine, isaHeld}
 use Rattle.lines.proofs.EditTests.{line-first, line-here, line-later, line-none}
-use Rattle.rights.proofs.Sounds.{policy-sound}
+use Rattle.rights.proofs.SoundLaws.{policy-sound}
 use Rattle.lines.proofs.policy_edit.isa_held.Statement.{statement}
 use Rattle.lines.proofs.policy_edit.isa_held.Tie as tie
 

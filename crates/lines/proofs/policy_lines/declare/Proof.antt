@@ -3,7 +3,7 @@ use native.Mathlib.Omega.{arith}
 use borrow.Author.Tests.{leb-false}
 use lib.Seq.{take-length}
 use Rattle.rights.specs.PolicyBytes.{subjectCount}
-use Rattle.rights.proofs.Lists.{rest-of}
+use Rattle.rights.proofs.ListLaws.{rest-of}
 use Rattle.lines.specs.PolicyEdit.{withSubject}
 use Rattle.lines.specs.Refusal.{firstRefusal}
 use Rattle.lines.specs.State.{policyBytes}

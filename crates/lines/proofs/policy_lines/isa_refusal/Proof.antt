@@ -3,7 +3,7 @@ use mathlib.Core.Path.{sym, _∙_}
 use native.Mathlib.Omega.{arith}
 use borrow.Author.Tests.{le-leb, lt-leb}
 use Rattle.rights.specs.PolicyBytes.{isaCount}
-use Rattle.rights.proofs.Sounds.{policy-sound}
+use Rattle.rights.proofs.SoundLaws.{policy-sound}
 use borrow.Author.Needs.{needs}
 use Rattle.lines.proofs.policy_lines.isa_refusal.Statement.{statement}
 use Rattle.lines.proofs.policy_lines.isa_refusal.Tie as tie

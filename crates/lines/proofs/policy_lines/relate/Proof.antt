@@ -4,7 +4,7 @@ use native.Mathlib.Omega.{arith}
 use borrow.Author.Tests.{leb-false}
 use lib.ListN.{length, take, drop}
 use Rattle.rights.specs.PolicyBytes.{isaCount}
-use Rattle.rights.proofs.Lists.{rest-of}
+use Rattle.rights.proofs.ListLaws.{rest-of}
 use Rattle.lines.specs.PolicyEdit.{subjectNamed, numberIn, withIsa}
 use Rattle.lines.specs.State.{policyBytes, policyIn}
 use Rattle.lines.specs.Work.{isaChecks}

@@ -5,7 +5,7 @@ use borrow.Author.Tests.{le-leb, lt-leb}
 use Rattle.rights.specs.PathReader.{pathOf}
 use Rattle.rights.specs.PolicyBytes.{ruleCount}
 use Rattle.rights.proofs.PathLaws.{is-path as path-there}
-use Rattle.rights.proofs.Sounds.{policy-sound}
+use Rattle.rights.proofs.SoundLaws.{policy-sound}
 use Rattle.lines.proofs.StoredPaths.{plain}
 use Rattle.lines.proofs.UserViewLaws.{not-path, is-path}
 use borrow.Author.Needs.{needs}

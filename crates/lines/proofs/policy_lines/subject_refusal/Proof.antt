@@ -5,7 +5,7 @@ use borrow.Author.Tests.{le-leb, lt-leb}
 use lib.Seq.{take-length}
 use Rattle.rights.specs.Labels.{sameLabel, restricted}
 use Rattle.rights.specs.PolicyBytes.{subjectCount}
-use Rattle.rights.proofs.Sounds.{policy-sound}
+use Rattle.rights.proofs.SoundLaws.{policy-sound}
 use borrow.Author.Needs.{needs}
 use Rattle.lines.proofs.policy_lines.subject_refusal.Statement.{statement}
 use Rattle.lines.proofs.policy_lines.subject_refusal.Tie as tie

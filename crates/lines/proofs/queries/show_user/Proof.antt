@@ -3,7 +3,7 @@ use native.Mathlib.Omega.{arith}
 use borrow.Author.Needs.{needs}
 use lib.ListN.{drop}
 use Rattle.rights.specs.Table.{count}
-use Rattle.rights.proofs.Facts.{table-few}
+use Rattle.rights.proofs.TableLaws.{table-few}
 use Rattle.rights.proofs.OwnNames.{own-part}
 use Rattle.lines.proofs.StateLaws.{store-held}
 use Rattle.lines.proofs.UserViewLaws.{asked-cover, asked-shown, asked-held, user-some, user-asks, user-own}

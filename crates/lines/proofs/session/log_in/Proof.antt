@@ -2,7 +2,7 @@ use Prim.Native.Nat.{_+_}
 use mathlib.Core.Path.{refl, ap, _∙_}
 use native.Mathlib.Omega.{arith}
 use lib.ListN.{length-set}
-use Rattle.rights.proofs.Lists.{rest-of}
+use Rattle.rights.proofs.ListLaws.{rest-of}
 use Rattle.lines.specs.PolicyEdit.{subjectNamed, numberIn}
 use Rattle.lines.specs.Refusal.{firstRefusal}
 use Rattle.lines.specs.State.{policyIn, policyBytes, withSession}

@@ -1,7 +1,7 @@
 use mathlib.Core.Bool.{Bool·beq}
 use mathlib.Core.Path.{ap, _∙_}
 use lib.Dec.{leb}
-use Rattle.rights.proofs.Facts.{table-long}
+use Rattle.rights.proofs.TableLaws.{table-long}
 use Rattle.lines.specs.State.{stage}
 use borrow.Author.Needs.{needs}
 use Rattle.lines.proofs.state.agree.Statement.{statement}

@@ -1,6 +1,6 @@
 use mathlib.Core.Path.{sym, _∙_}
 use borrow.Author.Tests.{not-true, not-false}
-use Rattle.rights.proofs.Lists.{rest-of}
+use Rattle.rights.proofs.ListLaws.{rest-of}
 use Rattle.lines.proofs.StateLaws.{no-length, no-policy, state-yes}
 use borrow.Author.Needs.{needs}
 use Rattle.lines.proofs.state.state_ok.Statement.{statement}

@@ -2,7 +2,7 @@ use mathlib.Core.List.{_∷_}
 use mathlib.Core.Path.{refl, ap, _∙_}
 use native.Mathlib.Omega.{arith}
 use borrow.Author.Tests.{not-false}
-use Rattle.rights.proofs.Facts.{table-few}
+use Rattle.rights.proofs.TableLaws.{table-few}
 use Rattle.views.specs.Change.{changed}
 use Rattle.views.specs.declared.insert.Place.the-variants.{Append}
 use Rattle.lines.specs.Refusal.{firstRefusal}

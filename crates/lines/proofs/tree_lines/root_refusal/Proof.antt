@@ -4,7 +4,7 @@ use borrow.Author.Tests.{lt-ltb, le-ltb}
 use lib.Seq.{take-length}
 use Rattle.rights.specs.Labels.{sameLabel, restricted}
 use Rattle.views.specs.Change.{free}
-use Rattle.views.proofs.TableFacts.{facts}
+use Rattle.views.proofs.TableLaws.{facts}
 use borrow.Author.Needs.{needs}
 use Rattle.lines.proofs.tree_lines.root_refusal.Statement.{statement}
 use Rattle.lines.proofs.tree_lines.root_refusal.Tie as tie

@@ -5,7 +5,7 @@ use native.Mathlib.Omega.{arith}
 use borrow.Author.Needs.{needs}
 use Rattle.rights.specs.PolicyBytes.{stepsAt, stepCount}
 use Rattle.rights.specs.How.Places.{Text}
-use Rattle.rights.proofs.Texts.{text-first}
+use Rattle.rights.proofs.TextLaws.{text-first}
 use Rattle.rights.proofs.GroupLaws.{general-path}
 use Rattle.rights.proofs.groups.is_general.Statement.{statement}
 use Rattle.rights.proofs.groups.is_general.Tie as tie

@@ -7,7 +7,7 @@ use Rattle.rights.specs.PolicyBytes.{stepCount, stepsAt}
 use Rattle.rights.specs.How.Roles.{nameAmong}
 use Rattle.rights.specs.How.Vocabulary.{listedWord, listedNumber}
 use Rattle.rights.specs.How.Groups.{rulingAt, Grouped}
-use Rattle.rights.proofs.StateMasks.{length-steps}
+use Rattle.rights.proofs.StateMaskLaws.{length-steps}
 use Rattle.rights.proofs.VocabularyLaws.{number-low}
 use Rattle.rights.proofs.GroupLaws.{group-none, size-more, size-within}
 use Rattle.rights.proofs.groups.make_group.Statement.{statement}

@@ -4,7 +4,7 @@ use mathlib.Core.Path.{_≡_, refl, subst}
 use native.Mathlib.Omega.{arith}
 use lib.ListN.{length, drop, getD, length-set}
 use Rattle.rights.specs.Rights.{ruledSet}
-use Rattle.rights.proofs.Eaches.{Done, untouched, done-more, drop-more, below-more}
+use Rattle.rights.proofs.EachLaws.{Done, untouched, done-more, drop-more, below-more}
 use Rattle.rights.proofs.groups.rule_all.Statement.{statement}
 use Rattle.rights.proofs.groups.rule_all.Tie as tie
 

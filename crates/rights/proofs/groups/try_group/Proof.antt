@@ -11,8 +11,8 @@ use Rattle.rights.specs.Table.{recordAt, label}
 use Rattle.rights.proofs.PackedLaws.{row-at}
 use Rattle.rights.proofs.VocabularyLaws.{number-low}
 use Rattle.rights.proofs.StateLaws.{Levels, chain-step, levels-start}
-use Rattle.rights.proofs.Chains.{fit, low-level, low-byte}
-use Rattle.rights.proofs.Eaches.{Done, done-more, drop-more}
+use Rattle.rights.proofs.ChainLaws.{fit, low-level, low-byte}
+use Rattle.rights.proofs.EachLaws.{Done, done-more, drop-more}
 use Rattle.rights.proofs.GroupLaws.{agree, ruled-none}
 use Rattle.rights.proofs.groups.try_group.Statement.{statement}
 use Rattle.rights.proofs.groups.try_group.Tie as tie

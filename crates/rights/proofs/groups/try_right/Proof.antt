@@ -6,7 +6,7 @@ use Rattle.rights.specs.How.Groups.{rulingAt, ruled}
 use Rattle.rights.specs.How.Automaton.{chainOf, Each}
 use Rattle.rights.specs.PolicyBytes.{ruleCount}
 use Rattle.rights.proofs.FiveRights.{ruled-on, ruled-whole, ruled-zero}
-use Rattle.rights.proofs.Eaches.{each-then, each-alike}
+use Rattle.rights.proofs.EachLaws.{each-then, each-alike}
 use Rattle.rights.proofs.groups.try_right.Statement.{statement}
 use Rattle.rights.proofs.groups.try_right.Tie as tie
 

@@ -7,8 +7,8 @@ use native.Mathlib.Omega.{arith}
 use Rattle.rights.specs.PolicyCheck.{bitOk}
 use Rattle.rights.specs.How.Automaton.{chainOf, Each}
 use Rattle.rights.specs.How.Groups.{byFirst}
-use Rattle.rights.proofs.Eaches.{each-then}
-use Rattle.rights.proofs.Ranges.{on-range}
+use Rattle.rights.proofs.EachLaws.{each-then}
+use Rattle.rights.proofs.RangeLaws.{on-range}
 use Rattle.rights.proofs.groups.try_rights.Statement.{statement}
 use Rattle.rights.proofs.groups.try_rights.Tie as tie
 

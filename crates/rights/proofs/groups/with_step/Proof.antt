@@ -5,7 +5,7 @@ use Rattle.rights.specs.How.Roles.{nameAmong}
 use Rattle.rights.specs.Rights.{stepFor}
 use Rattle.rights.specs.Table.{recAt}
 use Rattle.rights.specs.How.Vocabulary.{listedNumber}
-use Rattle.rights.proofs.Texts.{text-first}
+use Rattle.rights.proofs.TextLaws.{text-first}
 use Rattle.rights.proofs.PackedLaws.{packed-every, packed-noted, step-deep, step-every, step-own, step-label}
 use Rattle.rights.proofs.groups.with_step.Statement.{statement}
 use Rattle.rights.proofs.groups.with_step.Tie as tie

@@ -6,8 +6,8 @@ use native.Mathlib.Omega.{arith}
 use lib.ListN.{length, take}
 use Rattle.rights.specs.Isa.{standsFor, subjectsWhere}
 use Rattle.rights.specs.PolicyBytes.{policyOf}
-use Rattle.rights.proofs.Held.{names-length}
-use Rattle.rights.proofs.Sounds.{policy-sound}
+use Rattle.rights.proofs.PolicyBytesLaws.{names-length}
+use Rattle.rights.proofs.SoundLaws.{policy-sound}
 use Rattle.rights.proofs.isa.own_subjects.Statement.{statement}
 use Rattle.rights.proofs.isa.own_subjects.Tie as tie
 

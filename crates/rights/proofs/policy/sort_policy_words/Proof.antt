@@ -7,7 +7,7 @@ use Rattle.rights.specs.Labels.{sameLabel}
 use Rattle.rights.specs.Policy.{some}
 use Rattle.rights.specs.PolicyBytes.{subjectCount, namesFrom}
 use Rattle.rights.specs.How.Vocabulary.{named}
-use Rattle.rights.proofs.Sounds.{policy-sound}
+use Rattle.rights.proofs.SoundLaws.{policy-sound}
 use Rattle.rights.proofs.PolicyWords.{words-with-names, words-alone}
 use Rattle.rights.proofs.VocabularyLaws.{words-none, none-word}
 use Rattle.rights.proofs.policy.sort_policy_words.Statement.{statement}

@@ -1,11 +1,11 @@
 use mathlib.Core.Path.{refl}
 use native.Mathlib.Omega.{arith}
 use borrow.Author.Needs.{needs}
-use Rattle.rights.proofs.Facts.{table-long, table-room, table-few, table-records}
+use Rattle.rights.proofs.TableLaws.{table-long, table-room, table-few, table-records}
 use Rattle.rights.proofs.FiveRights.{rights-done}
 use Rattle.rights.proofs.OwnNames.{own-sound, own-passes}
 use Rattle.rights.proofs.RightsLaws.{rule-bit}
-use Rattle.rights.proofs.Sounds.{policy-sound}
+use Rattle.rights.proofs.SoundLaws.{policy-sound}
 use Rattle.rights.proofs.rights.asked_on.Statement.{statement}
 use Rattle.rights.proofs.rights.asked_on.Tie as tie
 

@@ -13,9 +13,9 @@ use lib.ListN.{length, take, drop}
 use Rattle.rights.specs.Bytes.{all, isZero}
 use Rattle.rights.specs.Labels.{labelByte}
 use Rattle.rights.proofs.BoolLaws.{both-ways}
-use Rattle.rights.proofs.Facts.{both}
+use Rattle.rights.proofs.TableLaws.{both}
 use Rattle.rights.proofs.LabelLaws.{faultsAt, FaultlessAt, faultless-label, label-faultless}
-use Rattle.rights.proofs.Lists.{byCase, or-zero}
+use Rattle.rights.proofs.ListLaws.{byCase, or-zero}
 use Rattle.rights.proofs.table.label_ok.Statement.{statement}
 use Rattle.rights.proofs.table.label_ok.Tie as tie
 

@@ -10,7 +10,7 @@ use lib.Seq.{take-take}
 use Rattle.rights.specs.Bytes.{all, isZero}
 use Rattle.rights.specs.Labels.{labelByte, sameLabel, restricted}
 use Rattle.rights.specs.Table.{labelPartOk}
-use Rattle.rights.proofs.Records.{label-part-yes}
+use Rattle.rights.proofs.RecordsOkLaws.{label-part-yes}
 use Rattle.rights.proofs.table.label_part_ok.Statement.{statement}
 use Rattle.rights.proofs.table.label_part_ok.Tie as tie
 

@@ -8,7 +8,7 @@ use lib.ListN.{length, drop, length-drop}
 use lib.Seq.{drop-drop, take-all}
 use Rattle.rights.specs.Bytes.{isZero, zeros}
 use Rattle.rights.specs.Table.{spareOk}
-use Rattle.rights.proofs.Lists.{all-split}
+use Rattle.rights.proofs.ListLaws.{all-split}
 use Rattle.rights.proofs.table.spare_ok.Statement.{statement}
 use Rattle.rights.proofs.table.spare_ok.Tie as tie
 

@@ -2,7 +2,7 @@ use mathlib.Core.Bool.{false}
 use mathlib.Core.Path.{refl, sym, _∙_}
 use native.Mathlib.Omega.{arith}
 use Rattle.rights.specs.Table.{recAt}
-use Rattle.rights.proofs.Texts.{text-first}
+use Rattle.rights.proofs.TextLaws.{text-first}
 use Rattle.rights.proofs.PolicyWords.{uses-any, uses-own, uses-label}
 use Rattle.rights.proofs.VocabularyLaws.{added-none, added-alike}
 use Rattle.rights.proofs.vocabulary.add_step.Statement.{statement}

@@ -6,7 +6,7 @@ use lib.ListN.{getD}
 use Rattle.rights.specs.How.Places.{Text}
 use Rattle.rights.specs.Table.{recAt, label}
 use Rattle.rights.specs.How.Vocabulary.{labelOrder}
-use Rattle.rights.proofs.Texts.{text-eq}
+use Rattle.rights.proofs.TextLaws.{text-eq}
 use Rattle.rights.proofs.vocabulary.compare_word.Statement.{statement}
 use Rattle.rights.proofs.vocabulary.compare_word.Tie as tie
 

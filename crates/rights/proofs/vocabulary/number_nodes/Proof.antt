@@ -5,8 +5,8 @@ use native.Mathlib.Omega.{arith}
 use lib.ListN.{length, drop, length-set}
 use Rattle.rights.specs.Table.{recordAt, label}
 use Rattle.rights.specs.How.Vocabulary.{listedNumber}
-use Rattle.rights.proofs.Chains.{record-text}
-use Rattle.rights.proofs.Eaches.{Done, done-more, drop-more}
+use Rattle.rights.proofs.ChainLaws.{record-text}
+use Rattle.rights.proofs.EachLaws.{Done, done-more, drop-more}
 use Rattle.rights.proofs.vocabulary.number_nodes.Statement.{statement}
 use Rattle.rights.proofs.vocabulary.number_nodes.Tie as tie
 

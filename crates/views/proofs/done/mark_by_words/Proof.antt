@@ -11,9 +11,9 @@ use Rattle.rights.specs.Policy.{policyWord}
 use Rattle.rights.specs.PolicyBytes.{policyOf}
 use Rattle.rights.specs.How.Places.{Text}
 use Rattle.rights.specs.Table.{count}
-use Rattle.views.proofs.StoredNodes.{record-text}
-use Rattle.views.proofs.TableFacts.{facts}
-use Rattle.views.proofs.DonePass.{Marking, marking-start, marking-more, marking-gives}
+use Rattle.views.proofs.StoredLaws.{record-text}
+use Rattle.views.proofs.TableLaws.{facts}
+use Rattle.views.proofs.DonePassLaws.{Marking, marking-start, marking-more, marking-gives}
 use Rattle.views.proofs.done.mark_by_words.Statement.{statement}
 use Rattle.views.proofs.done.mark_by_words.Tie as tie
 

@@ -1,7 +1,7 @@
 use mathlib.Core.Path.{_∙_}
 use native.Mathlib.Omega.{arith}
 use borrow.Author.Needs.{needs}
-use Rattle.views.proofs.Depth.{greater, not-greater}
+use Rattle.views.proofs.DepthLaws.{greater, not-greater}
 use Rattle.views.proofs.insert.deeper.Statement.{statement}
 use Rattle.views.proofs.insert.deeper.Tie as tie
 

@@ -3,7 +3,7 @@ use Prim.Native.Nat.{_≤_, _-_, _*_, _<_}
 use mathlib.Core.Path.{_≡_, refl, _∙_}
 use lib.ListN.{drop}
 use Rattle.views.specs.Change.{deepest, chunks}
-use Rattle.views.proofs.Depth.{deepest-none, deepest-more}
+use Rattle.views.proofs.DepthLaws.{deepest-none, deepest-more}
 use native.Mathlib.Omega.{arith}
 use borrow.Author.Needs.{needs}
 use Rattle.views.proofs.insert.deepest_level.Statement.{statement}

@@ -1,4 +1,4 @@
-use Rattle.views.proofs.Whole.{place-asks, filled}
+use Rattle.views.proofs.WholeInsertionLaws.{place-asks, filled}
 use borrow.Author.Needs.{needs}
 use Rattle.views.proofs.insert.fill.Statement.{statement}
 use Rattle.views.proofs.insert.fill.Tie as tie

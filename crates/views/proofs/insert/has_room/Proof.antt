@@ -1,7 +1,7 @@
 use native.Mathlib.Omega.{arith}
 use borrow.Author.Needs.{needs}
-use Rattle.views.proofs.TableFacts.{facts}
-use Rattle.views.proofs.Depth.{held-fits, product-fits, room-is}
+use Rattle.views.proofs.TableLaws.{facts}
+use Rattle.views.proofs.DepthLaws.{held-fits, product-fits, room-is}
 use Rattle.views.proofs.insert.has_room.Statement.{statement}
 use Rattle.views.proofs.insert.has_room.Tie as tie
 

@@ -1,6 +1,6 @@
-use Rattle.views.proofs.Depth.{gap-fits, fill-asks}
-use Rattle.views.proofs.Chunks.{all-chunks}
-use Rattle.views.proofs.TableFacts.{facts}
+use Rattle.views.proofs.DepthLaws.{gap-fits, fill-asks}
+use Rattle.views.proofs.ChunkLaws.{all-chunks}
+use Rattle.views.proofs.TableLaws.{facts}
 use native.Mathlib.Omega.{arith}
 use borrow.Author.Needs.{needs}
 use Rattle.views.proofs.insert.insert_marked.Statement.{statement}

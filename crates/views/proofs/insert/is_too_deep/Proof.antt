@@ -2,7 +2,7 @@ use Prim.Native.Nat.{ℕ, _+_}
 use lib.Dec.{ltb}
 use mathlib.Core.Path.{ap}
 use borrow.Author.Needs.{needs}
-use Rattle.views.proofs.Depth.{mark-none, mark-some}
+use Rattle.views.proofs.DepthLaws.{mark-none, mark-some}
 use Rattle.views.proofs.insert.is_too_deep.Statement.{statement}
 use Rattle.views.proofs.insert.is_too_deep.Tie as tie
 

@@ -3,7 +3,7 @@ use Prim.Native.Nat.{_≤_, _-_, _+_, _*_}
 use mathlib.Core.Path.{_≡_, refl, _∙_}
 use mathlib.Core.List.{_++_}
 use lib.ListN.{length, drop}
-use Rattle.views.proofs.Copies.{drop-more}
+use Rattle.views.proofs.CopyLaws.{drop-more}
 use Rattle.views.proofs.RecordBytes.{tree-none, tree-more}
 use native.Mathlib.Omega.{arith}
 use borrow.Author.Needs.{needs}

@@ -4,7 +4,7 @@ use mathlib.Core.Path.{_≡_, sym, _∙_}
 use lib.ListN.{drop}
 use Rattle.views.specs.Change.{tooDeep, chunks}
 use Rattle.rights.specs.Marks.{marksOf}
-use Rattle.views.proofs.Depth.{deep-stop, deep-step, deep-none, deep-first}
+use Rattle.views.proofs.DepthLaws.{deep-stop, deep-step, deep-none, deep-first}
 use native.Mathlib.Omega.{arith}
 use borrow.Author.Needs.{needs}
 use Rattle.views.proofs.insert.some_too_deep.Statement.{statement}

@@ -2,8 +2,8 @@
 use Prim.Native.Nat.{_-_, _+_}
 use mathlib.Core.Path.{_≡_, refl, ap, _∙_}
 use lib.ListN.{length}
-use Rattle.views.proofs.Turns.{depth}
-use Rattle.views.proofs.Whole.{fixed-same, starts, starts-between, ends}
+use Rattle.views.proofs.TurnLaws.{depth}
+use Rattle.views.proofs.WholeInsertionLaws.{fixed-same, starts, starts-between, ends}
 use native.Mathlib.Omega.{arith}
 use borrow.Author.Needs.{needs}
 use Rattle.views.proofs.insert.spread.Statement.{statement}

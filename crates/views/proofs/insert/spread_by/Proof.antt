@@ -2,7 +2,7 @@ use lib.ListN.{length}
 use mathlib.Core.Path.{ap, sym, subst, _∙_}
 use Rattle.views.specs.declared.insert.Place.{Place}
 use Rattle.rights.specs.Table.{level}
-use Rattle.views.proofs.Whole.{is-append, is-after}
+use Rattle.views.proofs.WholeInsertionLaws.{is-append, is-after}
 use native.Mathlib.Omega.{arith}
 use borrow.Author.Needs.{needs}
 use Rattle.views.proofs.insert.spread_by.Statement.{statement}

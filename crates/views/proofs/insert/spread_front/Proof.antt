@@ -3,7 +3,7 @@ use Prim.Native.Nat.{_≤_, _-_}
 use mathlib.Core.Path.{_≡_, refl, ap, _∙_}
 use lib.ListN.{length, drop}
 use Rattle.rights.specs.Marks.{marksOf}
-use Rattle.views.proofs.Whole.{fixed-same, starts-front, ends-front}
+use Rattle.views.proofs.WholeInsertionLaws.{fixed-same, starts-front, ends-front}
 use native.Mathlib.Omega.{arith}
 use borrow.Author.Needs.{needs}
 use Rattle.views.proofs.insert.spread_front.Statement.{statement}

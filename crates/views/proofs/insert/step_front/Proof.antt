@@ -1,5 +1,5 @@
 use mathlib.Core.Path.{refl}
-use Rattle.views.proofs.Turns.{front-asks, front-done, front-same}
+use Rattle.views.proofs.TurnLaws.{front-asks, front-done, front-same}
 use borrow.Author.Needs.{needs}
 use Rattle.views.proofs.insert.step_front.Statement.{statement}
 use Rattle.views.proofs.insert.step_front.Tie as tie

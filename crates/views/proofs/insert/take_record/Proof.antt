@@ -1,6 +1,6 @@
 use mathlib.Core.Path.{refl}
 use lib.ListN.{getD}
-use Rattle.views.proofs.Turns.{push-marked, push-plain}
+use Rattle.views.proofs.TurnLaws.{push-marked, push-plain}
 use native.Mathlib.Omega.{arith}
 use borrow.Author.Needs.{needs}
 use Rattle.views.proofs.insert.take_record.Statement.{statement}

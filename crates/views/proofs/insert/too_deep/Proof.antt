@@ -1,7 +1,7 @@
 use mathlib.Core.Path.{_∙_}
 use native.Mathlib.Omega.{arith}
-use Rattle.views.proofs.TableFacts.{facts}
-use Rattle.views.proofs.Chunks.{all-chunks}
+use Rattle.views.proofs.TableLaws.{facts}
+use Rattle.views.proofs.ChunkLaws.{all-chunks}
 use borrow.Author.Needs.{needs}
 use Rattle.views.proofs.insert.too_deep.Statement.{statement}
 use Rattle.views.proofs.insert.too_deep.Tie as tie

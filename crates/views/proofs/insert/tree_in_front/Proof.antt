@@ -1,8 +1,8 @@
 use Prim.Native.Nat.{_+_, _-_, _*_}
 use mathlib.Core.Path.{refl}
 use lib.ListN.{getD}
-use Rattle.views.proofs.Copies.{drop-more}
-use Rattle.views.proofs.Turns.{with-tree, no-tree}
+use Rattle.views.proofs.CopyLaws.{drop-more}
+use Rattle.views.proofs.TurnLaws.{with-tree, no-tree}
 use native.Mathlib.Omega.{arith}
 use borrow.Author.Needs.{needs}
 use Rattle.views.proofs.insert.tree_in_front.Statement.{statement}

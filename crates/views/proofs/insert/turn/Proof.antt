@@ -1,5 +1,5 @@
 use mathlib.Core.Path.{sym, _∙_}
-use Rattle.views.proofs.Turns.{depth, flush-asks, flush-gives, take-asks, take-gives}
+use Rattle.views.proofs.TurnLaws.{depth, flush-asks, flush-gives, take-asks, take-gives}
 use native.Mathlib.Omega.{arith}
 use borrow.Author.Needs.{needs}
 use Rattle.views.proofs.insert.turn.Statement.{statement}

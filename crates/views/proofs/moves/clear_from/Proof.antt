@@ -3,7 +3,7 @@ use Prim.Native.Nat.{_≤_, _-_}
 use mathlib.Core.Path.{_≡_, refl}
 use mathlib.Core.List.{_++_}
 use lib.ListN.{length, take, replicate, length-set}
-use Rattle.views.proofs.Copies.{clear-none, clear-more, clear-all}
+use Rattle.views.proofs.CopyLaws.{clear-none, clear-more, clear-all}
 use borrow.Author.Needs.{needs}
 use native.Mathlib.Omega.{arith}
 use Rattle.views.proofs.moves.clear_from.Statement.{statement}

@@ -3,7 +3,7 @@ use Prim.Native.Nat.{_≤_, _-_, _+_}
 use mathlib.Core.Path.{_≡_, refl}
 use mathlib.Core.List.{_++_}
 use lib.ListN.{length, take, drop, length-set}
-use Rattle.views.proofs.Copies.{move-none, move-front, move-back}
+use Rattle.views.proofs.CopyLaws.{move-none, move-front, move-back}
 use borrow.Author.Needs.{needs}
 use native.Mathlib.Omega.{arith}
 use Rattle.views.proofs.moves.move_record.Statement.{statement}

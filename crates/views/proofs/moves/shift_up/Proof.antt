@@ -2,7 +2,7 @@
 use Prim.Native.Nat.{_≤_, _-_}
 use mathlib.Core.Path.{_≡_, refl}
 use lib.ListN.{length, length-set}
-use Rattle.views.proofs.Copies.{shift-none, shift-more}
+use Rattle.views.proofs.CopyLaws.{shift-none, shift-more}
 use borrow.Author.Needs.{needs}
 use native.Mathlib.Omega.{arith}
 use Rattle.views.proofs.moves.shift_up.Statement.{statement}

@@ -3,7 +3,7 @@ use Prim.Native.Nat.{_≤_, _-_, _+_, _*_}
 use Rattle.rights.specs.Table.{level}
 use mathlib.Core.Path.{_≡_, refl, sym, _∙_}
 use lib.ListN.{length, drop}
-use Rattle.views.proofs.Removal.{none-yet, done-all}
+use Rattle.views.proofs.RemovalLaws.{none-yet, done-all}
 use borrow.Author.Needs.{needs}
 use native.Mathlib.Omega.{arith}
 use Rattle.views.proofs.remove.compact.Statement.{statement}

@@ -2,8 +2,8 @@ use mathlib.Core.Path.{ap, sym, _∙_}
 use Rattle.rights.specs.Table.{records}
 use Rattle.rights.specs.Marks.{marksOf}
 use Rattle.views.specs.Change.{removed}
-use Rattle.views.proofs.Chunks.{is-changed, all-chunks}
-use Rattle.views.proofs.TableFacts.{facts}
+use Rattle.views.proofs.ChunkLaws.{is-changed, all-chunks}
+use Rattle.views.proofs.TableLaws.{facts}
 use native.Mathlib.Omega.{arith}
 use borrow.Author.Needs.{needs}
 use Rattle.views.proofs.remove.remove_marked.Statement.{statement}

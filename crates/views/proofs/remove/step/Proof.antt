@@ -1,4 +1,4 @@
-use Rattle.views.proofs.Removal.{step-below, step-marked, step-kept}
+use Rattle.views.proofs.RemovalLaws.{step-below, step-marked, step-kept}
 use native.Mathlib.Omega.{arith}
 use borrow.Author.Needs.{needs}
 use Rattle.views.proofs.remove.step.Statement.{statement}

@@ -2,7 +2,7 @@
 use Prim.Native.Nat.{_≤_, _-_, _+_, _*_}
 use mathlib.Core.Path.{_≡_, refl, sym, _∙_}
 use lib.ListN.{length, take, drop}
-use Rattle.views.proofs.Relabelled.{naming, naming-none, naming-all, naming-more, count-stays, tail-stays}
+use Rattle.views.proofs.RelabelLaws.{naming, naming-none, naming-all, naming-more, count-stays, tail-stays}
 use native.Mathlib.Omega.{arith}
 use borrow.Author.Needs.{needs}
 use Rattle.views.proofs.rename.rename_all.Statement.{statement}

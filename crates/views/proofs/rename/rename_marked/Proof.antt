@@ -4,9 +4,9 @@ use lib.ListN.{take, drop}
 use Rattle.rights.specs.Table.{records}
 use Rattle.rights.specs.Marks.{marksOf}
 use Rattle.views.specs.Change.{renamed}
-use Rattle.views.proofs.Chunks.{all-chunks, length-chunks}
-use Rattle.views.proofs.TableFacts.{facts}
-use Rattle.views.proofs.Relabelled.{renamed-table, length-renamed}
+use Rattle.views.proofs.ChunkLaws.{all-chunks, length-chunks}
+use Rattle.views.proofs.TableLaws.{facts}
+use Rattle.views.proofs.RelabelLaws.{renamed-table, length-renamed}
 use native.Mathlib.Omega.{arith}
 use borrow.Author.Needs.{needs}
 use Rattle.views.proofs.rename.rename_marked.Statement.{statement}

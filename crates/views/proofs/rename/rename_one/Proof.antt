@@ -3,7 +3,7 @@ use Prim.Native.Nat.{_+_, _*_, _-_}
 use lib.ListN.{getD, take, drop}
 use Rattle.views.specs.Change.{relabel}
 use Rattle.rights.proofs.RecordLaws.{label-length}
-use Rattle.views.proofs.Relabelled.{label-front, label-back, new-label, old-label}
+use Rattle.views.proofs.RelabelLaws.{label-front, label-back, new-label, old-label}
 use native.Mathlib.Omega.{arith}
 use borrow.Author.Needs.{needs}
 use Rattle.views.proofs.rename.rename_one.Statement.{statement}

@@ -1,5 +1,5 @@
-use Rattle.views.proofs.StoredNodes.{show-gives}
-use Rattle.views.proofs.TableFacts.{facts}
+use Rattle.views.proofs.StoredLaws.{show-gives}
+use Rattle.views.proofs.TableLaws.{facts}
 use native.Mathlib.Omega.{arith}
 use borrow.Author.Needs.{needs}
 use Rattle.views.proofs.shown.show.Statement.{statement}

@@ -1,5 +1,5 @@
 use borrow.Author.Needs.{needs}
-use Rattle.views.proofs.StoredNodes.{Showing, showing-more, showing-end}
+use Rattle.views.proofs.StoredLaws.{Showing, showing-more, showing-end}
 use native.Mathlib.Omega.{arith}
 use mathlib.Core.Path.{refl}
 use Prim.Native.Nat.{_-_}

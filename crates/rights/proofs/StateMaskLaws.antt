@@ -12,7 +12,7 @@ use lib.ListN.{length, getD}
 use Rattle.rights.specs.Rights.{Step}
 use Rattle.rights.specs.How.Automaton.{value, meet, deeps, passedBy, moved, stepsFor}
 use Rattle.rights.specs.Marks.{bit}
-use Rattle.rights.proofs.Masks.{bit-lt, value-lt, value-meet, value-union}
+use Rattle.rights.proofs.AutomatonLaws.{bit-lt, value-lt, value-meet, value-union}
 
 -- a bit of a mask is an element of the set
 bit-of : (st : List Bool) (j : ℕ) → value st / 2 ^ j % 2 ≡ bit (getD st j false)

@@ -10,16 +10,16 @@ use lib.ListN.{length, getD, take, drop, replicate, take-append-drop, length-app
 use lib.Seq.{take-take, take-suc, drop-drop, take-at, drop-at, length-take-le, take-append-le, drop-append-le}
 use lib.Dec.{eqb}
 use borrow.Author.Tests.{eq-eqb, ne-eqb}
-use Rattle.views.proofs.Chunks.{join-chunks}
-use Rattle.views.proofs.Copies.{drop-more}
+use Rattle.views.proofs.ChunkLaws.{join-chunks}
+use Rattle.views.proofs.CopyLaws.{drop-more}
 use Rattle.views.proofs.RecordBytes.{rest-cons, rest-same, rest-none}
-use Rattle.views.proofs.Chunks.{level-first, one-more, marks-drop}
+use Rattle.views.proofs.ChunkLaws.{level-first, one-more, marks-drop}
 use Rattle.rights.specs.Table.{level, label, spare, count, tableOk}
 use Rattle.rights.specs.Record.{labelBytes, recordOf, pasted}
 use Rattle.rights.proofs.RecordLaws.{length-padded, length-record}
-use Rattle.rights.proofs.RecordMade.{level-made, label-made}
-use Rattle.views.proofs.TableFacts.{facts, count-bytes, zero-replicate}
-use Rattle.views.proofs.Waiting.{length-rename}
+use Rattle.rights.proofs.RecordOfLaws.{level-made, label-made}
+use Rattle.views.proofs.TableLaws.{facts, count-bytes, zero-replicate}
+use Rattle.views.proofs.InsertionLaws.{length-rename}
 use Rattle.views.specs.Change.{rename, chunks, relabel, renamed, changed}
 use Rattle.rights.specs.Marks.{marksOf}
 use Rattle.views.specs.How.Pass.{rest}

@@ -11,16 +11,16 @@ use lib.ListN.{length, take, drop, getD, set}
 use lib.Seq.{drop-cons}
 use Rattle.rights.specs.Marks.{keep}
 use Rattle.rights.specs.Table.{recordAt, recordsFrom, records, level, recordOk, recordsOk, tableOk, count}
-use Rattle.rights.proofs.Records.{records-step, records-end}
+use Rattle.rights.proofs.RecordsOkLaws.{records-step, records-end}
 use Rattle.rights.specs.How.Places.{Text}
-use Rattle.rights.proofs.Texts.{byte-at}
-use Rattle.rights.proofs.Facts.{RecordSound, all-sound, both, record-levels}
+use Rattle.rights.proofs.TextLaws.{byte-at}
+use Rattle.rights.proofs.TableLaws.{RecordSound, all-sound, both, record-levels}
 use Rattle.views.specs.Shown.{Stored, storedFrom, stored, storedLevel, grants, granted, shown}
 use Rattle.views.specs.How.Numbers.{depthAfter, isShownAt, shownFrom, shownNumber, shownNumbers, numbersFrom}
-use Rattle.views.proofs.Fill.{put-take, put-drop, put-length, put-next, filled, filled-length}
-use Rattle.views.proofs.Chunks.{level-first}
-use Rattle.views.proofs.TableFacts.{facts}
-use Rattle.views.proofs.ShownDepth.{Steps, shown-by-depth}
+use Rattle.views.proofs.FillLaws.{put-take, put-drop, put-length, put-next, filled, filled-length}
+use Rattle.views.proofs.ChunkLaws.{level-first}
+use Rattle.views.proofs.TableLaws.{facts}
+use Rattle.views.proofs.ShownLaws.{Steps, shown-by-depth}
 
 pub level-at : (t : List ℕ) (i : ℕ) → level (recordAt t i) ≡ getD t (4 + i * 32) 0
 level-at t i = level-first (4 + i * 32) t

@@ -9,7 +9,7 @@ use Rattle.rights.specs.Table.{level}
 use Rattle.rights.specs.Policy.{position, read}
 use Rattle.rights.specs.Rights.{holds}
 use Rattle.rights.proofs.FiveRights.{holds-among}
-use Rattle.rights.proofs.Lists.{byCase}
+use Rattle.rights.proofs.ListLaws.{byCase}
 use Rattle.views.specs.Shown.{storedFrom, storedLevel, granted, atParent, shownAfter}
 use Rattle.views.specs.How.Numbers.{shownNumber, shownNumbers}
 

@@ -9,15 +9,15 @@ use lib.Seq.{getD-drop, drop-drop}
 use lib.Dec.{eqb, leb, ltb}
 use borrow.Author.Tests.{ltb-true, ltb-false, leb-true, lt-ltb, le-ltb, eq-eqb, ne-eqb}
 use Rattle.rights.specs.Table.{level, count, capacity, records, tableOk}
-use Rattle.rights.proofs.Lists.{byCase}
+use Rattle.rights.proofs.ListLaws.{byCase}
 use Rattle.views.specs.declared.insert.Place.{Place}
 use Rattle.views.specs.Change.{chunks, lower, placed, deepest, tooDeep, hasRoom}
 use Rattle.rights.specs.Marks.{marksOf, markCount}
 use Rattle.views.specs.How.Pass.{AtDone, Shallow, Fixed}
 use Rattle.views.specs.Nodes.{Under}
-use Rattle.views.proofs.Chunks.{chunks-cons, level-first, marks-drop, all-chunks}
-use Rattle.views.proofs.TableFacts.{facts}
-use Rattle.views.proofs.Whole.{placed-length, product-bound}
+use Rattle.views.proofs.ChunkLaws.{chunks-cons, level-first, marks-drop, all-chunks}
+use Rattle.views.proofs.TableLaws.{facts}
+use Rattle.views.proofs.WholeInsertionLaws.{placed-length, product-bound}
 
 -- the deepest so far
 pub deepest-none : (m : ℕ) (tree : List ℕ) → 0 ≡ deepest (chunks (m - m) (drop (m * 32) tree))

@@ -12,7 +12,7 @@ use lib.Seq.{take-take, drop-drop, take-add, getD-take, getD-drop, length-take-l
 use Rattle.rights.specs.Table.{count, level, records, recordsFrom}
 use Rattle.views.specs.Change.{chunks, le4, join, changed}
 use Rattle.rights.specs.Marks.{marksOf}
-use Rattle.rights.proofs.Texts.{drop-take}
+use Rattle.rights.proofs.TextLaws.{drop-take}
 
 pub times : (w : ℕ) → suc w * 32 ≡ 32 + w * 32
 times w = omega arith

@@ -7,8 +7,8 @@ use native.Mathlib.Omega.{arith}
 use borrow.Author.Tests.{leb-true, leb-false, ltb-true, ltb-false, le-leb, lt-leb}
 use lib.Dec.{leb, ltb}
 use lib.ListN.{length, getD}
-use Rattle.rights.proofs.Lists.{byCase}
-use Rattle.rights.proofs.Facts.{both}
+use Rattle.rights.proofs.ListLaws.{byCase}
+use Rattle.rights.proofs.TableLaws.{both}
 use Rattle.views.specs.Shown.{atParent, nearestFirst, isShown, shownAfter, shownBy}
 use Rattle.views.specs.How.Numbers.{depthAfter, isShownAt, shownFrom}
 

@@ -7,10 +7,10 @@ use native.Mathlib.Omega.{arith}
 use native.Mathlib.Nat.{mul-le-mul-right}
 use lib.ListN.{length, take, drop, replicate, length-drop}
 use lib.Seq.{drop-at, take-at, length-take-le}
-use Rattle.views.proofs.Chunks.{length-chunks, same-chunks, is-changed}
+use Rattle.views.proofs.ChunkLaws.{length-chunks, same-chunks, is-changed}
 use Rattle.views.specs.declared.insert.Place.{Place}
 use Rattle.views.specs.declared.insert.Place.the-variants.{Append, After, Before}
-use Rattle.views.proofs.Waiting.{insert-same, length-insertBehind, length-insertInFront}
+use Rattle.views.proofs.InsertionLaws.{insert-same, length-insertBehind, length-insertInFront}
 use Rattle.views.proofs.RecordBytes.{length-raise, rest-none}
 use Rattle.rights.specs.Table.{level}
 use Rattle.views.specs.Change.{insertBehind, insertInFront, chunks, raise, lower, placed, le4, changed}

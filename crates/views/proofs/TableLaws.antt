@@ -9,10 +9,10 @@ use lib.Dec.{eqb}
 use lib.ListN.{length, getD, take, drop, replicate}
 use Rattle.rights.specs.Bytes.{all, isZero}
 use Rattle.rights.specs.Table.{recordOk, recordsOk, level, tableOk, count, capacity, records}
-use Rattle.rights.proofs.Facts.{both, sound}
+use Rattle.rights.proofs.TableLaws.{both, sound}
 use Rattle.views.specs.Change.{chunks, le4}
 use Rattle.views.specs.Nodes.{Under}
-use Rattle.views.proofs.Chunks.{all-chunks}
+use Rattle.views.proofs.ChunkLaws.{all-chunks}
 
 pub under-ok : (low high : ℕ) (rs : List (List ℕ)) → recordsOk low high rs ≡ true → Under level 12 rs
 unfolding recordsOk

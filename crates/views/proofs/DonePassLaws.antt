@@ -13,15 +13,15 @@ use Rattle.rights.specs.Marks.{bit, marksOf, eachFrom}
 use Rattle.rights.specs.Policy.{insert}
 use Rattle.rights.specs.Rights.{holds}
 use Rattle.rights.specs.Table.{recordAt, level, label, count}
-use Rattle.rights.proofs.Lists.{byCase}
+use Rattle.rights.proofs.ListLaws.{byCase}
 use Rattle.views.specs.Shown.{atParent, nearestFirst}
 use Rattle.views.specs.Done.{does, askedOf, doneMarks}
 use Rattle.views.specs.How.Numbers.{shownByNumbers, byNumbers}
 use Rattle.views.specs.declared.done.Change.{Change}
-use Rattle.views.proofs.Fill.{push-take, push-drop, filled}
+use Rattle.views.proofs.FillLaws.{push-take, push-drop, filled}
 use Rattle.rights.proofs.MarkLaws.{each-step, each-end}
 use Rattle.views.proofs.MarkLaws.{shown-step, marks-step}
-use Rattle.views.proofs.StoredNodes.{level-at}
+use Rattle.views.proofs.StoredLaws.{level-at}
 
 pub set-bit : (x : ℕ) (b : Bool) → x ≡ bit b → not (eqb x 0) ≡ b
 set-bit x true e = rw e

@@ -7,7 +7,7 @@ use native.Mathlib.Omega.{arith}
 use lib.ListN.{length, take, length-append, drop, getD}
 use lib.Seq.{take-nil}
 use lib.Dec.{ltb}
-use Rattle.rights.proofs.Lists.{byCase}
+use Rattle.rights.proofs.ListLaws.{byCase}
 use borrow.Author.Tests.{leb-false, lt-ltb, le-ltb}
 use Rattle.views.specs.Change.{putBehind, insertBehind, insertInFront, rename}
 use Rattle.rights.specs.Marks.{markCount}

@@ -8,12 +8,12 @@ use lib.Dec.{ltb, eqb}
 use lib.ListN.{length, getD, take, drop}
 use borrow.Author.Tests.{lt-ltb, le-ltb, ltb-true, ltb-false, eq-eqb, ne-eqb}
 use Rattle.rights.specs.Table.{level}
-use Rattle.rights.proofs.Lists.{byCase}
+use Rattle.rights.proofs.ListLaws.{byCase}
 use Rattle.views.specs.Change.{dropBelow, remove, chunks}
 use Rattle.rights.specs.Marks.{marksOf}
 use Rattle.views.specs.How.Pass.{going}
 use Rattle.views.specs.Nodes.{Under}
-use Rattle.views.proofs.Chunks.{chunks-cons, level-first, marks-drop, one-more}
+use Rattle.views.proofs.ChunkLaws.{chunks-cons, level-first, marks-drop, one-more}
 
 module _ {E : Type 0} (lev : E → ℕ) where
   -- what is below two nodes, one after the other

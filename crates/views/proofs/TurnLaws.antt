@@ -7,11 +7,11 @@ use native.Mathlib.Omega.{arith}
 use lib.ListN.{length, getD, take, drop, set, length-append}
 use lib.Dec.{eqb, ltb}
 use borrow.Author.Tests.{eq-eqb, ne-eqb, leb-true, leb-false, ltb-true, ltb-false}
-use Rattle.views.proofs.Chunks.{length-chunks, marks-drop, level-first, one-more}
-use Rattle.views.proofs.Waiting.{due-first, due-take, length-due, insertBehind-longer, insertInFront-longer, not-due, falls-length}
+use Rattle.views.proofs.ChunkLaws.{length-chunks, marks-drop, level-first, one-more}
+use Rattle.views.proofs.InsertionLaws.{due-first, due-take, length-due, insertBehind-longer, insertInFront-longer, not-due, falls-length}
 use Rattle.views.proofs.RecordBytes.{length-raise, length-treeAt, above-raise, rest-same, rest-cons, rest-none, rest-front, rest-low, rest-done, stack-pop, stack-push, length-stack}
 use Rattle.rights.specs.Table.{level}
-use Rattle.rights.proofs.Lists.{byCase}
+use Rattle.rights.proofs.ListLaws.{byCase}
 use Rattle.views.specs.Change.{insertInFront, chunks, raise}
 use Rattle.rights.specs.Marks.{marksOf}
 use Rattle.views.specs.How.Pass.{Below, Falls, isDue, front, due, AtDone, treeAt, Shallow, behind, inFront, stack, rest, passing, passingFront, Fixed, Between}
