@@ -1,3 +1,4 @@
+-- The first i nodes are decided: `shown` begins with the numbers of the k shown ones, and the depth is that of the shown chain.
 use borrow.Author.Needs.{needs}
 use Rattle.views.proofs.StoredLaws.{Showing, showing-more, showing-end}
 use native.Mathlib.Omega.{arith}
