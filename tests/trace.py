@@ -1,5 +1,6 @@
 #!/usr/bin/env python3
-"""Docs that name what is there: each definition, law, function, file and edit that docs/TRACE.md names in its columns stands in the crates.
+"""Docs that name what is there: each definition, law, function, file and edit that docs/TRACE.md names in its columns stands in the crates. README.md's list of
+the definitions to be believed has each file with its lines, blank ones and imports apart, and their sum, below 1,500.
 
 A name in backquotes that is one word is a definition or a law (`specs/`, `proofs/`) or a function (`src/`); `module::function` is a function of that module; CRATE/NAME in the last
 column is an edit. The last line is `N passed, M failed`, a name counted once.
@@ -60,6 +61,21 @@ for number, row in enumerate(open("docs/TRACE.md"), 1):
             if crate in crates:
                 there = [p for end in ("", ".antt", ".rt") for p in glob.glob("crates/%s/%s/%s%s" % (crate, part, name, end))]
                 look("file", "/".join((crate, part, name)), there, number)
+
+rows = re.findall(r"(?m)^\| ([a-z]+/specs/\w+) \| .* \| (\d+) \|$", open("README.md").read())
+total = 0
+for name, said in rows:
+    path = "crates/%s.antt" % name
+    there = os.path.isfile(path)
+    count = sum(1 for line in open(path) if line.strip() and not re.match(r"(pub )?use ", line)) if there else 0
+    total += count
+    seen.add(("README", name))
+    if count != int(said):
+        wrong.append("README.md: %s has %d lines, not %s" % (name, count, said))
+together = re.search(r"Together ([\d,]+) lines", open("README.md").read())
+seen.add(("README", "together"))
+if not rows or not together or int(together.group(1).replace(",", "")) != total or total >= 1500:
+    wrong.append("README.md: the list of definitions has %d lines together" % total)
 
 for line in wrong:
     print(line)
