@@ -33,6 +33,7 @@ pub mod XPathLists
 pub mod XPathAxes
 pub mod XPathLaws
 pub mod StarredPaths
+pub mod RuleXPathLaws
 pub mod NodeLaws
 pub mod RecordOfLaws
 pub mod BitLaws

@@ -15,4 +15,5 @@ pub mod Record
 pub mod Nodes
 pub mod Tree
 pub mod XPath
+pub mod RuleXPath
 pub mod How
