@@ -1,4 +1,4 @@
--- The subjects for which `$` stands: they are subjects of the policy, and their names are the labels that pass `$`. Nothing here uses for whom it stands. Assumes nothing.
+-- The subjects for which `$` stands: they are subjects of the policy, and their names are the labels that pass `$`. Only `own-name` uses for whom it stands. Assumes nothing.
 use Prim.Native.Nat.{ℕ, zero, suc, _+_, _-_, _≤_, _<_}
 use mathlib.Core.Bool.{Bool, true, false, _||_, or-true, or-false, or-assoc, false≢true}
 use mathlib.Core.Path.{_≡_, refl, sym, ap, ap₂, _∙_, subst}
@@ -6,8 +6,8 @@ use mathlib.Core.List.{List, [], _∷_, _++_}
 use native.Mathlib.Nat.{sub-zero}
 use native.Mathlib.Numerals.{add-one}
 use native.Mathlib.Omega.{arith}
-use borrow.Author.Tests.{ltb-true, ltb-false}
-use lib.Dec.{ltb}
+use borrow.Author.Tests.{ltb-true, ltb-false, eqb-true, eqb-false, ne-eqb}
+use lib.Dec.{ltb, eqb}
 use lib.ListN.{length, take, drop, getD, length-append, List·getD-append}
 use lib.Seq.{take-suc, take-all, getD-append-seam}
 use Rattle.rights.specs.Labels.{sameLabel}
@@ -96,6 +96,25 @@ own-part {ks = ks} {m = m} o = record { are = ap (λ (k : ℕ). take k ks) (sub-
 pub own-named : (P : Policy) (u : ℕ) (x : List ℕ) → passesOwn P u x ≡ true → (k : ℕ) × (k < length (P .names)) × (sameLabel x (nameOf P k) ≡ true)
 unfolding passesOwn
 own-named P u x e = where-found (standsFor P u) (λ k. sameLabel x (nameOf P k)) (length (P .names)) e
+
+-- of the subjects below n, u itself
+itself-none : (g : ℕ → Bool) (u n : ℕ) → n ≤ u → some g (subjectsWhere (eqb u) n) ≡ false
+unfolding subjectsWhere some
+itself-none g u zero h = refl
+itself-none g u (suc n) h = rw (ne-eqb u n (λ z. omega arith)) (itself-none g u n (omega arith))
+
+itself : (g : ℕ → Bool) (u n : ℕ) → u < n → some g (subjectsWhere (eqb u) n) ≡ g u
+unfolding subjectsWhere
+itself g u zero h = absurd (omega arith)
+itself g u (suc n) h =
+    byCase (eqb u n)
+    (λ e. let z = eqb-true u n e in rw (e, some-more g (subjectsWhere (eqb u) n) n, itself-none g u n (omega arith), z))
+    (λ e. let ne = eqb-false u n e in rw e (itself g u n (omega (arith, ne))))
+
+-- "`$` (the label equal to the session's login name)", "for `$`, with that subject's name"
+pub own-name : (P : Policy) (u : ℕ) (x : List ℕ) → u < length (P .names) → passesOwn P u x ≡ sameLabel x (nameOf P u)
+unfolding passesOwn standsFor
+own-name P u x h = itself (λ k. sameLabel x (nameOf P k)) u (length (P .names)) h
 
 -- a loop over subjects: none, one more, and all
 pub names-none : (p ks x : List ℕ) → nameAmong p (take 0 ks) x ≡ false

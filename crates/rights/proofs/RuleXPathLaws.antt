@@ -1,28 +1,32 @@
 -- A rule's path selects what XPath selects in the stored tree, and rights are what the last rule says that XPath's selection makes applicable. Assumes nothing.
-use Prim.Native.Nat.{ℕ, zero, suc, _+_, _≤_, _<_}
+use Prim.Native.Nat.{ℕ, zero, suc, _+_, _*_, _≤_, _<_}
 use mathlib.Core.Path.{_≡_, refl, sym, ap, _∙_, fun-ext}
 use mathlib.Core.List.{List, [], _∷_, _++_, map, append-assoc}
-use mathlib.Core.Bool.{Bool, true, false, _&&_, _||_, and-true, and-false, or-true, or-false, or-comm, and-assoc, and-or-distrib-right}
+use mathlib.Core.Bool.{Bool, true, false, _&&_, _||_, and-true, and-false, or-true, or-false, or-comm, and-assoc, and-or-distrib-right, and-eq-true-iff}
 use native.Mathlib.Nat.{add-zero, add-suc, suc-add, zero-add}
 use native.Mathlib.Omega.{arith}
-use borrow.Author.Tests.{ltb-true, ltb-false, ne-eqb}
+use borrow.Author.Tests.{leb-true, ltb-true, ltb-false, ne-eqb}
 use lib.Dec.{eqb, ltb}
 use lib.ListN.{length, getD, take, length-map, List·getD-map}
 use lib.Seq.{take-nil, take-all, take-append-le, take-take, length-take-le}
 use Rattle.rights.specs.Path.{Test, Axis, isDescendant, passes}
 use Rattle.rights.specs.Isa.{is, passesOwn}
-use Rattle.rights.specs.Policy.{Right, bitOf, Rule, Policy}
-use Rattle.rights.specs.PolicyBytes.{policyOf}
-use Rattle.rights.specs.PolicyCheck.{policyOk}
-use Rattle.rights.specs.Table.{recordAt, recordsFrom, records, level, label, count, recordOk, recordsOk, tableOk}
+use Rattle.rights.specs.Labels.{sameLabel}
+use Rattle.rights.specs.Policy.{Right, bitOf, Rule, Policy, nameOf}
+use Rattle.rights.specs.PolicyBytes.{policyOf, subjectCount, ruleCount, stepCount, stepsAt, stepOf, stepsFrom, storedPath}
+use Rattle.rights.specs.PolicyCheck.{ruleOk, rulesOk, policyOk}
+use Rattle.rights.specs.Table.{recAt, recordAt, recordsFrom, records, level, label, count, recordOk, recordsOk, tableOk}
 use Rattle.rights.specs.Nodes.{node, levelAt, labelAt, TreeShaped}
 use Rattle.rights.specs.Rights.{Step, stepFor, reaches, pathFor, applies, lastSays, hasRight, holds, rightsBy, chains, rightsOn}
 use Rattle.rights.specs.RuleXPath.{storedNodes, plainPath, stepsSelected}
 use Rattle.rights.specs.How.Automaton.{chainTo, chainOf}
 use Rattle.rights.specs.How.Selection.{above, under, keeps, selects, fromDocument}
 use Rattle.rights.proofs.ChainLaws.{grown, fit}
+use Rattle.rights.proofs.EveryLaws.{every-at}
 use Rattle.rights.proofs.ListLaws.{byCase}
+use Rattle.rights.proofs.OwnNames.{own-name}
 use Rattle.rights.proofs.PassLaws.{map-at}
+use Rattle.rights.proofs.PolicyBytesLaws.{names-length}
 use Rattle.rights.proofs.RightsLaws.{rights-are}
 use Rattle.rights.proofs.TableLaws.{both, record-levels, table-records}
 use Rattle.rights.proofs.XPathLaws.{path-selects}
@@ -214,18 +218,18 @@ module _ (t : List ℕ) (ok : tableOk t ≡ true) where
     step-reaches : (w : Axis × Test) (ss : List Step) (c : Axis → ℕ → Bool) → Goes ss c → (k : ℕ) → k < count t
         → c (w .0) k && passes mine (w .1) (labelAt (storedNodes t) k) ≡ reaches (ss ++ (stepFor mine w ∷ [])) (chainOf t k)
     unfolding chainTo
-    step-reaches w ss c is k h =
-        rw (is (w .0) k h, label-at k h) (sym (reaches-last ss (stepFor mine w) (take (level (recordAt t k)) (chainTo t k)) (label (recordAt t k))))
+    step-reaches w ss c to k h =
+        rw (to (w .0) k h, label-at k h) (sym (reaches-last ss (stepFor mine w) (take (level (recordAt t k)) (chainTo t k)) (label (recordAt t k))))
 
     steps-reach : (w : Axis × Test) (ws : List (Axis × Test)) (ss : List Step) (c : Axis → ℕ → Bool) → Goes ss c → (i : ℕ) → i < count t
         → selects (plainPath w ws) mine (storedNodes t) c i ≡ reaches (ss ++ map (stepFor mine) (w ∷ ws)) (chainOf t i)
     unfolding selects keeps plainPath
-    steps-reach w [] ss c is i h = step-reaches w ss c is i h
-    steps-reach w (v ∷ vs) ss c is i h =
+    steps-reach w [] ss c to i h = step-reaches w ss c to i h
+    steps-reach w (v ∷ vs) ss c to i h =
         let s : Step = stepFor mine w in
         let f : ℕ → Bool = λ k. c (w .0) k && passes mine (w .1) (labelAt (storedNodes t) k) in
         steps-reach v vs (ss ++ (s ∷ [])) (λ b j. under b f (storedNodes t) j)
-        (λ b j l. rw (level-at j l) (above-chain b f (reaches (ss ++ (s ∷ []))) (reaches-nothing ss s) (level (recordAt t j)) j (omega arith) (level-fits j l) (λ k x. step-reaches w ss c is k (omega arith))))
+        (λ b j l. rw (level-at j l) (above-chain b f (reaches (ss ++ (s ∷ []))) (reaches-nothing ss s) (level (recordAt t j)) j (omega arith) (level-fits j l) (λ k x. step-reaches w ss c to k (omega arith))))
         i h
         ∙ ap (λ q. reaches q (chainOf t i)) (append-assoc ss (s ∷ []) (map (stepFor mine) (v ∷ vs)))
 
@@ -247,16 +251,33 @@ module _ (t : List ℕ) (ok : tableOk t ≡ true) where
   reaches-xpath P u r i h = rw (chain-is i h) (stored-selected (passesOwn P u) (r .path) i h)
 
   -- "A rule applies to a subject that is its N, and to the nodes its path selects in the stored tree (for `$`, with that subject's name)."
-  pub applies-xpath : (P : Policy) (u : ℕ) (r : Rule) (i : ℕ) → i < count t
-      → applies P u (getD (chains [] (records t)) i []) r ≡ is P u (r .who) && stepsSelected (r .path) (passesOwn P u) (storedNodes t) i
-  applies-xpath P u r i h = ap (λ (b : Bool). is P u (r .who) && b) (reaches-xpath P u r i h)
+  pub applies-xpath : (P : Policy) (u : ℕ) → u < length (P .names) → (r : Rule) (i : ℕ) → i < count t
+      → applies P u (getD (chains [] (records t)) i []) r ≡ is P u (r .who) && stepsSelected (r .path) (λ x. sameLabel x (nameOf P u)) (storedNodes t) i
+  applies-xpath P u d r i h =
+      ap (λ (b : Bool). is P u (r .who) && b)
+      (reaches-xpath P u r i h ∙ ap (λ (mine : List ℕ → Bool). stepsSelected (r .path) mine (storedNodes t) i) (fun-ext (λ x. own-name P u x d)))
 
-  -- "The last applicable rule for a right wins; with none, no right", for every right and every node of the stored tree
-  pub rights-xpath : (p : List ℕ) → policyOk p ≡ true → (u : ℕ) (w : Right) (i : ℕ) → i < count t
+  -- "The last applicable rule for a right wins; with none, no right": every right of every subject on every node of the stored tree
+  pub rights-xpath : (p : List ℕ) → policyOk p ≡ true → (u : ℕ) → u < subjectCount p → (w : Right) (i : ℕ) → i < count t
       → holds w (getD (rightsOn (policyOf p) u (records t)) i 0)
-      ≡ lastSays (λ r. eqb (r .right) (bitOf w) && (is (policyOf p) u (r .who) && stepsSelected (r .path) (passesOwn (policyOf p) u) (storedNodes t) i)) false (policyOf p .rules)
+      ≡ lastSays
+      (λ r. eqb (r .right) (bitOf w)
+      && (is (policyOf p) u (r .who) && stepsSelected (r .path) (λ x. sameLabel x (nameOf (policyOf p) u)) (storedNodes t) i))
+      false (policyOf p .rules)
   unfolding hasRight chainTo
-  rights-xpath p sound u w i h =
+  rights-xpath p sound u d w i h =
       ap (holds w) (map-at (rightsBy (policyOf p) u) (chains [] (records t)) i [] 0 (chain-at t (count t) 0 i h .0))
       ∙ rights-are p sound u w (getD (chains [] (records t)) i [])
-      ∙ ap (λ (f : Rule → Bool). lastSays f false (policyOf p .rules)) (fun-ext (λ r. ap (λ (b : Bool). eqb (r .right) (bitOf w) && b) (applies-xpath (policyOf p) u r i h)))
+      ∙ ap (λ (f : Rule → Bool). lastSays f false (policyOf p .rules))
+      (fun-ext (λ r. ap (λ (b : Bool). eqb (r .right) (bitOf w) && b) (applies-xpath (policyOf p) u (omega (arith, d, names-length p)) r i h)))
+
+-- a rule of a policy that passed its check has a step, so `stepsSelected` asks XPath for every one
+pub rule-has-path : (p : List ℕ) → policyOk p ≡ true → (k : ℕ) → k < ruleCount p → (w : Axis × Test) × (ws : List (Axis × Test)) × (storedPath p k ≡ w ∷ ws)
+unfolding policyOk rulesOk ruleOk stepsFrom
+rule-has-path p ok k h =
+    let r = (simp (policyOk, and-eq-true-iff) at ok) .1 .1 .1 .1 in
+    go (stepCount p k) (leb-true 1 _ ((simp (ruleOk, and-eq-true-iff) at (every-at (ruleOk p) (ruleCount p) k h (r .1 .0))) .1 .1 .1 .0))
+  where
+    go : (n : ℕ) → 1 ≤ n → (w : Axis × Test) × (ws : List (Axis × Test)) × (stepsFrom p (stepsAt k) n 0 ≡ w ∷ ws)
+    go zero l = absurd (omega arith)
+    go (suc n) l = (stepOf (recAt p (stepsAt k + 0 * 32)), stepsFrom p (stepsAt k) n 1, refl)
