@@ -12,3 +12,4 @@ pub mod PolicyLineLaws
 pub mod TreeLineLaws
 pub mod ChangeLaws
 pub mod ViewReadBack
+pub mod StoreXPathLaws

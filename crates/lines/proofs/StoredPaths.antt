@@ -33,7 +33,7 @@ use Rattle.rights.proofs.RecordLaws.{pasted-pasted, pasted-none}
 use Rattle.rights.proofs.RecordOfLaws.{length-name}
 use Rattle.rights.proofs.WalkLaws.{path-steps}
 
-never-both : {C : Type 0} → true ≡ false → C
+pub never-both : {C : Type 0} → true ≡ false → C
 never-both e = absurd (let z : _≡_ {A = ℕ} 0 1 = cc in omega arith)
 
 -- a text that is a path has a bracket exactly if the path has

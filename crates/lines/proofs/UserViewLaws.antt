@@ -22,6 +22,7 @@ use Rattle.rights.specs.Rights.{rightsBy, chains}
 use Rattle.rights.specs.How.Groups.{askedOn}
 use Rattle.rights.specs.How.Selection.{selection, Selects}
 use Rattle.rights.specs.Table.{count, records}
+use Rattle.rights.proofs.ChainLaws.{chains-length}
 use Rattle.rights.proofs.FiveRights.{asked-all}
 use Rattle.rights.proofs.ListLaws.{rest-of}
 use Rattle.rights.proofs.MarkLaws.{marks-bits, each-length}
@@ -58,11 +59,6 @@ unfolding storedFrom
 stored-more [] ss more i e = refl
 stored-more (r ∷ rs) [] more i e = absurd (omega arith)
 stored-more (r ∷ rs) (x ∷ ss) more i e = ap (λ l. record { number = i; bytes = r; rights = x } ∷ l) (stored-more rs ss more (suc i) (omega arith))
-
-pub chains-length : (c rs : List (List ℕ)) → length (chains c rs) ≡ length rs
-unfolding chains
-chains-length c [] = refl
-chains-length c (r ∷ rs) = ap suc (chains-length _ rs)
 
 pub rights-length : (s t : List ℕ) → length (rightsIn s t) ≡ count t
 rights-length s t = length-map (chains [] (records t)) (rightsBy _ (userOf s)) ∙ chains-length [] (records t) ∙ length-records t

@@ -2,7 +2,7 @@
 use Prim.Native.Nat.{ℕ, zero, suc, _+_, _*_, _≤_, _<_}
 use mathlib.Core.Path.{_≡_, refl, sym, ap, _∙_, fun-ext}
 use mathlib.Core.List.{List, [], _∷_, _++_, map, append-assoc}
-use mathlib.Core.Bool.{Bool, true, false, _&&_, _||_, and-true, and-false, or-true, or-false, or-comm, and-assoc, and-or-distrib-right, and-eq-true-iff}
+use mathlib.Core.Bool.{Bool, true, false, _&&_, _||_, and-true, and-false, or-true, or-false, or-comm, and-assoc, and-or-distrib-left, and-or-distrib-right, and-eq-true-iff}
 use native.Mathlib.Nat.{add-zero, add-suc, suc-add, zero-add}
 use native.Mathlib.Omega.{arith}
 use borrow.Author.Tests.{leb-true, ltb-true, ltb-false, ne-eqb}
@@ -16,12 +16,12 @@ use Rattle.rights.specs.Policy.{Right, bitOf, Rule, Policy, nameOf}
 use Rattle.rights.specs.PolicyBytes.{policyOf, subjectCount, ruleCount, stepCount, stepsAt, stepOf, stepsFrom, storedPath}
 use Rattle.rights.specs.PolicyCheck.{ruleOk, rulesOk, policyOk}
 use Rattle.rights.specs.Table.{recAt, recordAt, recordsFrom, records, level, label, count, recordOk, recordsOk, tableOk}
-use Rattle.rights.specs.Nodes.{node, levelAt, labelAt, TreeShaped}
+use Rattle.rights.specs.Nodes.{node, levelOf, labelOf, levelAt, labelAt, TreeShaped}
 use Rattle.rights.specs.Rights.{Step, stepFor, reaches, pathFor, applies, lastSays, hasRight, holds, rightsBy, chains, rightsOn}
 use Rattle.rights.specs.RuleXPath.{storedNodes, plainPath, stepsSelected}
 use Rattle.rights.specs.How.Automaton.{chainTo, chainOf}
 use Rattle.rights.specs.How.Selection.{above, under, keeps, selects, fromDocument}
-use Rattle.rights.proofs.ChainLaws.{grown, fit}
+use Rattle.rights.proofs.ChainLaws.{grown, fit, chains-length}
 use Rattle.rights.proofs.EveryLaws.{every-at}
 use Rattle.rights.proofs.ListLaws.{byCase}
 use Rattle.rights.proofs.OwnNames.{own-name}
@@ -61,11 +61,7 @@ up-either d a b f g (x ∷ xs) = rw (up-either d a b (λ ys. f (x ∷ ys)) (λ y
   where
     go : (d a b p q u v : Bool) → (d && ((a && p) || (b && q))) || ((a && u) || (b && v)) ≡ (a && ((d && p) || u)) || (b && ((d && q) || v))
     go false a b p q u v = refl
-    go true false b p q u v = go' b q v
-      where
-        go' : (b q v : Bool) → (b && q) || (b && v) ≡ b && (q || v)
-        go' true q v = refl
-        go' false q v = refl
+    go true false b p q u v = sym (and-or-distrib-left b q v)
     go true true false p q u v = rw (or-false p, or-false u, or-false (p || u))
     go true true true true q u v = refl
     go true true true false true true v = refl
@@ -121,11 +117,11 @@ unfolding recordsFrom
 records-length t zero i = refl
 records-length t (suc n) i = ap suc (records-length t n (suc i))
 
-chain-at : (t : List ℕ) (n i k : ℕ) → k < n → (k < length (chains (chainTo t i) (recordsFrom t n i))) × (getD (chains (chainTo t i) (recordsFrom t n i)) k [] ≡ chainOf t (i + k))
+chain-at : (t : List ℕ) (n i k : ℕ) → k < n → getD (chains (chainTo t i) (recordsFrom t n i)) k [] ≡ chainOf t (i + k)
 unfolding chains recordsFrom chainTo
 chain-at t zero i k h = absurd (omega arith)
-chain-at t (suc n) i zero h = (omega arith, rw (add-zero i))
-chain-at t (suc n) i (suc k) h = let w = chain-at t n (suc i) k (omega arith) in (omega (arith, w .0), w .1 ∙ ap (λ (j : ℕ). chainOf t j) (suc-add i k ∙ sym (add-suc i k)))
+chain-at t (suc n) i zero h = rw (add-zero i)
+chain-at t (suc n) i (suc k) h = chain-at t n (suc i) k (omega arith) ∙ ap (λ (j : ℕ). chainOf t j) (suc-add i k ∙ sym (add-suc i k))
 
 -- no record but the first has level 0
 low : (t : List ℕ) (high n i k : ℕ) → recordsOk 1 high (recordsFrom t n i) ≡ true → k < n → 0 < level (recordAt t (i + k))
@@ -135,13 +131,16 @@ low t high (suc n) i zero e h = rw (add-zero i) (record-levels 1 high (recordAt 
 low t high (suc n) i (suc k) e h = rw (add-suc i k, ← suc-add i k) (low t (level (recordAt t i) + 1) n (suc i) k (both (recordOk 1 high (recordAt t i)) _ e .1) (omega arith))
 
 module _ (t : List ℕ) (ok : tableOk t ≡ true) where
+  node-at : (i : ℕ) → i < count t → getD (storedNodes t) i (node 0 []) ≡ node (level (recordAt t i)) (label (recordAt t i))
+  node-at i h = rw (List·getD-map (λ r. node (level r) (label r)) (records t) i [], record-at t (count t) 0 i h, zero-add i)
+
   level-at : (i : ℕ) → i < count t → levelAt (storedNodes t) i ≡ level (recordAt t i)
   unfolding levelAt
-  level-at i h = rw (List·getD-map (λ r. node (level r) (label r)) (records t) i [], record-at t (count t) 0 i h, zero-add i)
+  level-at i h = ap levelOf (node-at i h)
 
   label-at : (i : ℕ) → i < count t → labelAt (storedNodes t) i ≡ label (recordAt t i)
   unfolding labelAt
-  label-at i h = rw (List·getD-map (λ r. node (level r) (label r)) (records t) i [], record-at t (count t) 0 i h, zero-add i)
+  label-at i h = ap labelOf (node-at i h)
 
   stored-length : length (storedNodes t) ≡ count t
   stored-length = length-map (records t) (λ r. node (level r) (label r)) ∙ records-length t (count t) 0
@@ -243,7 +242,7 @@ module _ (t : List ℕ) (ok : tableOk t ≡ true) where
 
   chain-is : (i : ℕ) → i < count t → getD (chains [] (records t)) i [] ≡ chainOf t i
   unfolding chainTo
-  chain-is i h = rw (zero-add i) at (chain-at t (count t) 0 i h .1)
+  chain-is i h = rw (zero-add i) at (chain-at t (count t) 0 i h)
 
   -- the path of a rule reaches a node of the stored tree exactly if XPath selects it
   pub reaches-xpath : (P : Policy) (u : ℕ) (r : Rule) (i : ℕ) → i < count t
@@ -266,7 +265,7 @@ module _ (t : List ℕ) (ok : tableOk t ≡ true) where
       false (policyOf p .rules)
   unfolding hasRight chainTo
   rights-xpath p sound u d w i h =
-      ap (holds w) (map-at (rightsBy (policyOf p) u) (chains [] (records t)) i [] 0 (chain-at t (count t) 0 i h .0))
+      ap (holds w) (map-at (rightsBy (policyOf p) u) (chains [] (records t)) i [] 0 (omega (arith, h, chains-length [] (records t), records-length t (count t) 0)))
       ∙ rights-are p sound u w (getD (chains [] (records t)) i [])
       ∙ ap (λ (f : Rule → Bool). lastSays f false (policyOf p .rules))
       (fun-ext (λ r. ap (λ (b : Bool). eqb (r .right) (bitOf w) && b) (applies-xpath (policyOf p) u (omega (arith, d, names-length p)) r i h)))

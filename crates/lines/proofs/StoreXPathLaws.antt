@@ -1,0 +1,71 @@
+-- XPath at the store: a rule's path, as its line wrote it, and a command's path select what XPath selects, with the user's name for `$`. Assumes nothing.
+use Prim.Native.Nat.{ℕ, _<_}
+use mathlib.Core.Path.{_≡_, refl, ap, _∙_, fun-ext}
+use mathlib.Core.Bool.{Bool, true, false, _&&_}
+use mathlib.Core.List.{List, [], _∷_}
+use native.Mathlib.Omega.{arith}
+use lib.Dec.{eqb}
+use lib.ListN.{length, getD}
+use Rattle.rights.specs.Isa.{is}
+use Rattle.rights.specs.Labels.{sameLabel}
+use Rattle.rights.specs.Path.{Test, Path, last, next, none, position, holds as bracket}
+use Rattle.rights.specs.declared.path.Axis.{Axis}
+use Rattle.rights.specs.Nodes.{Nodes}
+use Rattle.rights.specs.Policy.{Right, bitOf, Rule, Policy, nameOf}
+use Rattle.rights.specs.Rights.{applies, lastSays, holds, chains}
+use Rattle.rights.specs.RuleXPath.{storedNodes, plainPath, stepsSelected}
+use Rattle.rights.specs.Table.{count, records, tableOk}
+use Rattle.rights.specs.XPath.{xpathSelected, xpathSelection}
+use Rattle.rights.proofs.OwnNames.{own-name}
+use Rattle.rights.proofs.PolicyBytesLaws.{names-length}
+use Rattle.rights.proofs.RuleXPathLaws.{applies-xpath, rights-xpath}
+use Rattle.lines.specs.PolicyEdit.{bracketed, Plain, stepList, stepsIn}
+use Rattle.lines.specs.State.{userOf, policyBytes, policyIn, storeOk}
+use Rattle.lines.specs.UserView.{noUser, rightsIn, viewIn, marksIn}
+use Rattle.lines.proofs.StateLaws.{store-held}
+use Rattle.lines.proofs.StoredPaths.{never-both}
+use Rattle.lines.proofs.UserViewLaws.{user-declared}
+
+-- the steps of a path without brackets are that path
+plain-steps : (p : Path) → bracketed p ≡ false → (w : Axis × Test) × (ws : List (Axis × Test)) × (stepList p ≡ w ∷ ws) × (plainPath w ws ≡ p)
+unfolding bracketed stepList plainPath
+plain-steps (last a x none) e = ((a, x), [], refl, refl)
+plain-steps (last a x (position n bs)) e = never-both e
+plain-steps (last a x (bracket p bs)) e = never-both e
+plain-steps (next a x none p) e = let r = plain-steps p e in ((a, x), stepList p, refl, rw (r .2) (ap (next a x none) (r .3)))
+plain-steps (next a x (position n bs) p) e = never-both e
+plain-steps (next a x (bracket q bs) p) e = never-both e
+
+-- what a rule stores of its path's text selects what XPath selects by the text
+pub stored-xpath : (s : List ℕ) → Plain s → (mine : List ℕ → Bool) (t : Nodes) (i : ℕ) → stepsSelected (stepsIn s) mine t i ≡ xpathSelected s mine t i
+unfolding stepsSelected stepsIn xpathSelected
+stored-xpath s x mine t i = let r = plain-steps (x .path) (x .flat) in rw (x .read, r .2, r .3)
+
+-- "A rule applies to a subject that is its N, and to the nodes its path selects in the stored tree (for `$`, with that subject's name)": with the path as the
+-- rule's line wrote it. What an accepted line adds is such a rule (`rule-adds` in PolicyEdits).
+pub written-applies : (s : List ℕ) → Plain s → (t : List ℕ) → tableOk t ≡ true → (P : Policy) (u : ℕ) → u < length (P .names) → (r : Rule) → r .path ≡ stepsIn s
+    → (i : ℕ) → i < count t
+    → applies P u (getD (chains [] (records t)) i []) r ≡ is P u (r .who) && xpathSelected s (λ x. sameLabel x (nameOf P u)) (storedNodes t) i
+written-applies s x t ok P u d r e i h =
+    applies-xpath t ok P u d r i h
+    ∙ ap (λ (b : Bool). is P u (r .who) && b)
+    (ap (λ (ws : List (Axis × Test)). stepsSelected ws (λ y. sameLabel y (nameOf P u)) (storedNodes t) i) e ∙ stored-xpath s x (λ y. sameLabel y (nameOf P u)) (storedNodes t) i)
+
+-- A store that passes 13, with a user
+module _ (s t : List ℕ) (ok : storeOk s t ≡ true) (logged : noUser s ≡ false) where
+  abbrev loginName : List ℕ
+  loginName = nameOf (policyIn s) (userOf s)
+
+  -- the user's rights: "The last applicable rule for a right wins; with none, no right"
+  pub user-rights-xpath : (w : Right) (i : ℕ) → i < count t
+      → holds w (getD (rightsIn s t) i 0)
+      ≡ lastSays (λ r. eqb (r .right) (bitOf w) && (is (policyIn s) (userOf s) (r .who) && stepsSelected (r .path) (λ x. sameLabel x loginName) (storedNodes t) i))
+      false (policyIn s .rules)
+  user-rights-xpath w i h =
+      let g = store-held s t ok in rights-xpath t (g .table) (policyBytes s) (g .policy) (userOf s) (user-declared s t ok logged) w i h
+
+  -- "Paths of E run on the view", `$` being "the label equal to the session's login name"
+  pub marks-xpath : (path : List ℕ) → marksIn s t path ≡ xpathSelection path (λ x. sameLabel x loginName) (viewIn s t)
+  marks-xpath path =
+      ap (λ (mine : List ℕ → Bool). xpathSelection path mine (viewIn s t))
+      (fun-ext (λ x. own-name (policyIn s) (userOf s) x (omega (arith, user-declared s t ok logged, names-length (policyBytes s)))))
