@@ -42,3 +42,10 @@ pub mod PackedLaws
 pub mod GroupLaws
 pub mod FiveRights
 pub mod StateLaws
+pub mod PartLaws
+pub mod PlaceLaws
+pub mod HeldRecordLaws
+pub mod HeldStepLaws
+pub mod AllLaws
+pub mod PolicyPartLaws
+pub mod AllowedPolicyLaws

@@ -13,6 +13,8 @@ pub mod Rights
 pub mod PolicyCheck
 pub mod Record
 pub mod Nodes
+pub mod Allowed
+pub mod Held
 pub mod Tree
 pub mod XPath
 pub mod RuleXPath
