@@ -49,3 +49,4 @@ pub mod HeldStepLaws
 pub mod AllLaws
 pub mod PolicyPartLaws
 pub mod AllowedPolicyLaws
+pub mod HeldPolicyLaws
