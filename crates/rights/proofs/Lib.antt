@@ -50,3 +50,6 @@ pub mod AllLaws
 pub mod PolicyPartLaws
 pub mod AllowedPolicyLaws
 pub mod HeldPolicyLaws
+pub mod TreeShapeLaws
+pub mod HeldTableLaws
+pub mod AllowedTableLaws

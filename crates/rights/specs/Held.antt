@@ -7,8 +7,8 @@ use Rattle.rights.specs.Marks.{bit}
 use Rattle.rights.specs.Path.{Test, Axis, Child, Descendant}
 use Rattle.rights.specs.PathText.{writeTest}
 use Rattle.rights.specs.Policy.{Rule, Policy}
-use Rattle.rights.specs.Nodes.{Node, levelOf, labelOf, Nodes}
-use Rattle.rights.specs.Table.{capacity}
+use Rattle.rights.specs.Nodes.{Node, node, levelOf, labelOf, Nodes}
+use Rattle.rights.specs.Table.{level, label, records, capacity}
 use Rattle.rights.specs.Record.{nodeRecord, nameRecord}
 use Rattle.rights.specs.Allowed.{AllowedPolicy, AllowedNodes}
 
@@ -25,11 +25,19 @@ join (r ∷ rs) = r ++ join rs
 abbrev pub tableBytes : ℕ → List (List ℕ) → List ℕ
 tableBytes n rs = le4 (length rs) ++ (join rs ++ replicate (n - (4 + length rs * 32)) 0)
 
+-- a node as a record, and the nodes of a table's records
 abbrev pub nodeBytes : Node → List ℕ
 nodeBytes x = nodeRecord (levelOf x) (labelOf x)
 
--- The bytes are a table with an allowed tree: no "table under 4 bytes, with a count above its capacity, or with bytes or records against "Tree and table"".
-pub record HoldsTree (t : List ℕ) (nodes : Nodes) : Type 0 where
+abbrev pub nodeIn : List ℕ → Node
+nodeIn r = node (level r) (label r)
+
+abbrev pub storedNodes : List ℕ → Nodes
+storedNodes t = map nodeIn (records t)
+
+-- The bytes are a table that holds these nodes and that 13 lets pass: no "table under 4 bytes, with a count above its capacity, or with bytes or records against
+-- "Tree and table" (RESTRICTED as a label included)".
+pub record HoldsNodes (t : List ℕ) (nodes : Nodes) : Type 0 where
   pub allowed : AllowedNodes nodes
   pub head : 4 ≤ length t
   pub room : length nodes ≤ capacity (length t)
