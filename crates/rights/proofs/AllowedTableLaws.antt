@@ -85,6 +85,10 @@ nodes-back (node m s ∷ xs) = ap₂ _∷_ (ap₂ node (level-made m s noSpare) 
 nodes-wide : (xs : Nodes) → All (λ x. LabelOk (labelOf x)) xs → Wide nodeBytes 32 xs
 nodes-wide xs h = all-with (λ x. LabelOk (labelOf x)) (λ x g. length-node (levelOf x) (labelOf x) (g .short)) xs h
 
+-- as many nodes as the count says
+pub nodes-counted : (t : List ℕ) → length (storedNodes t) ≡ count t
+nodes-counted t = length-map (records t) nodeIn ∙ ap length (records-each t (count t) 0) ∙ each-length (recordAt t) 0 (count t)
+
 module _ (t : List ℕ) (ok : tableOk t ≡ true) where
   full : Full (records t)
   full = rw (records-each t (count t) 0) (each-all (λ r. length r ≡ 32) (recordAt t) 0 (count t) (λ k h. record-long t (4 + (0 + k) * 32) (omega (arith, table-room t ok))))
@@ -92,20 +96,17 @@ module _ (t : List ℕ) (ok : tableOk t ≡ true) where
   whole : AllowedNodes (storedNodes t) × (map nodeBytes (storedNodes t) ≡ records t)
   whole = allowed-records (records t) full (table-records t ok)
 
-  counted : length (storedNodes t) ≡ count t
-  counted = length-map (records t) nodeIn ∙ ap length (records-each t (count t) 0) ∙ each-length (recordAt t) 0 (count t)
-
   stand : (k : ℕ) → k < length (storedNodes t) → take 32 (drop (4 + k * 32) t) ≡ nodeBytes (getD (storedNodes t) k (node 0 []))
   stand k h =
-      sym (record-at t (count t) k (nodeBytes (node 0 [])) (omega (arith, counted)))
+      sym (record-at t (count t) k (nodeBytes (node 0 [])) (omega (arith, nodes-counted t)))
       ∙ ap (λ (rs : List (List ℕ)). getD rs k (nodeBytes (node 0 []))) (sym (whole .1))
       ∙ List·getD-map nodeBytes (storedNodes t) k (node 0 [])
 
   bytes-are : ((i : ℕ) → getD t i 0 < 256) → t ≡ tableBytes (length t) (map nodeBytes (storedNodes t))
   bytes-are b =
-      let n : length (map nodeBytes (storedNodes t)) ≡ count t = length-map (storedNodes t) nodeBytes ∙ counted in
+      let n : length (map nodeBytes (storedNodes t)) ≡ count t = length-map (storedNodes t) nodeBytes ∙ nodes-counted t in
       let joined : take (count t * 32) (drop 4 t) ≡ join (map nodeBytes (storedNodes t)) =
-      ap (λ (k : ℕ). take (k * 32) (drop 4 t)) (sym counted) ∙ join-of nodeBytes 32 t (node 0 []) (storedNodes t) 4 stand in
+      ap (λ (k : ℕ). take (k * 32) (drop 4 t)) (sym (nodes-counted t)) ∙ join-of nodeBytes 32 t (node 0 []) (storedNodes t) 4 stand in
       let blank : drop (4 + count t * 32) t ≡ replicate (length t - (4 + count t * 32)) 0 =
       zero-replicate (drop (4 + count t * 32) t) (table-clear t ok) ∙ ap (λ (k : ℕ). replicate k 0) (length-drop (4 + count t * 32) t) in
       rw n
@@ -115,7 +116,7 @@ module _ (t : List ℕ) (ok : tableOk t ≡ true) where
 
 -- 13, for a table of lent bytes: what passes holds the nodes of a tree that document 01 allows, and nothing else stands in its bytes.
 pub table-allowed : (t : List ℕ) → ((i : ℕ) → getD t i 0 < 256) → tableOk t ≡ true → HoldsNodes t (storedNodes t)
-table-allowed t b ok = record { allowed = whole t ok .0; head = table-long t ok; room = omega (arith, counted t ok, table-held t ok); bytes = bytes-are t ok b }
+table-allowed t b ok = record { allowed = whole t ok .0; head = table-long t ok; room = omega (arith, nodes-counted t, table-held t ok); bytes = bytes-are t ok b }
 
 -- The other way: a table that holds the nodes of an allowed tree passes, and these nodes are read of it.
 pub allowed-table : (t : List ℕ) (nodes : Nodes) → HoldsNodes t nodes → (tableOk t ≡ true) × (storedNodes t ≡ nodes)
