@@ -554,7 +554,7 @@ fn try_asked(
 }
 
 // Tries all rules on the first n nodes, right by right of those that are asked.
-pub fn try_rights(
+pub(crate) fn try_rights(
     asked: u8,
     policy: &[u8],
     own: &[u8],

@@ -91,7 +91,7 @@ fn search(policy: &[u8], words: &[u32], n: usize, s: &[u8], at: usize) -> Spot
 }
 
 // The number of the label of the record at byte `at` of s: its word's place, from 1 on, or 0 for one that is no word.
-pub fn number_of(policy: &[u8], words: &[u32], n: usize, s: &[u8], at: usize) -> usize
+pub(crate) fn number_of(policy: &[u8], words: &[u32], n: usize, s: &[u8], at: usize) -> usize
     requires { ⌜ Words (now policy) (now words) n × Text (now s) at ⌝ }
     ensures { λ r. ⌜ (r ≡ listedNumber (now (policy .entry)) (now (words .entry)) n (label (recAt (now (s .entry)) at))) × (r ≤ n) ⌝ }
 {
@@ -115,7 +115,7 @@ fn insert_word(words: &mut [u32], n: usize, i: usize, at: usize)
 }
 
 // Adds the text of the record at byte `at` of the policy, where it is new; how many words there are now.
-pub fn add_word(policy: &[u8], words: &mut [u32], n: usize, at: usize) -> usize
+pub(crate) fn add_word(policy: &[u8], words: &mut [u32], n: usize, at: usize) -> usize
     requires { ⌜ Words (now policy) (now words) n × (n < 2112) × Text (now policy) at × (at < 4294967296) ⌝ }
     ensures { λ r. ⌜ Added (now (policy .entry)) (now (words .entry)) n (now (words .exit)) r
         (λ (x : List ℕ). sameLabel x (label (recAt (now (policy .entry)) at))) × (r ≤ n + 1) ⌝ }
@@ -162,7 +162,7 @@ fn add_rule(policy: &[u8], k: usize, words: &mut [u32], n: usize) -> usize
 }
 
 // Adds the labels that the rules name.
-pub fn add_rules(policy: &[u8], words: &mut [u32], n: usize) -> usize
+pub(crate) fn add_rules(policy: &[u8], words: &mut [u32], n: usize) -> usize
     requires { ⌜ Sound (now policy) × Words (now policy) (now words) n × (n ≤ 64) ⌝ }
     ensures { λ r. ⌜ Added (now (policy .entry)) (now (words .entry)) n (now (words .exit)) r (named (now (policy .entry))) × (r ≤ n + 2048) ⌝ }
 {
@@ -193,7 +193,7 @@ fn add_own(policy: &[u8], own: &[u8], words: &mut [u32], n: usize) -> usize
 }
 
 // Sorts the words for the rights of a subject for which `$` stands for these subjects, and returns how many they are.
-pub fn sort_words(policy: &[u8], own: &[u8], words: &mut [u32]) -> usize
+pub(crate) fn sort_words(policy: &[u8], own: &[u8], words: &mut [u32]) -> usize
     requires { ⌜ Sound (now policy) × Subjects (now policy) (now own) × (length (now words) ≡ 2112) ⌝ }
     ensures { λ r. ⌜ Sorted (now (policy .entry)) (now (own .entry)) (now (words .exit)) r ⌝ }
 {
@@ -210,7 +210,7 @@ fn narrow(x: usize) -> u16
 }
 
 // Writes the number of the label of each of the first n records.
-pub fn number_nodes(
+pub(crate) fn number_nodes(
     policy: &[u8],
     words: &[u32],
     count: usize,

@@ -1,12 +1,14 @@
 -- Laws of bytes that are moved, shifted and cleared in place. Assumes nothing.
 use Prim.Native.Nat.{ℕ, suc, _+_, _-_, _≤_, _<_}
 use mathlib.Core.Path.{_≡_, sym, ap, _∙_}
-use mathlib.Core.List.{List, [], _∷_, _++_, append-assoc, append-nil}
+use mathlib.Core.List.{List, _∷_, _++_, append-assoc, append-nil}
 use native.Mathlib.Omega.{arith}
-use native.Mathlib.Nat.{add-zero, sub-self}
+use native.Mathlib.Nat.{sub-self}
 use native.Mathlib.Numerals.{add-one}
 use lib.ListN.{length, getD, take, drop, set, replicate, length-drop, replicate-append-replicate, take-append-drop, List·getD-append}
-use lib.Seq.{take-suc-set, take-suc, drop-set-lt, getD-drop, take-all, drop-drop, length-take-le, append-snoc, getD-take, set-at, drop-cons}
+use lib.Seq.{take-suc-set, take-suc, take-all, drop-drop, length-take-le, append-snoc, getD-take, set-at, drop-cons, paste, take-paste, drop-paste}
+use Rattle.rights.proofs.ListLaws.{copy-more}
+use Rattle.rights.proofs.EachLaws.{untouched}
 use Rattle.views.specs.How.Pass.{shifted}
 
 -- one more zero
@@ -27,39 +29,23 @@ clear-all t t₀ from i l e m h =
     let q : i ≡ length t₀ = omega arith in
     sym (take-all i t l) ∙ (rw (← q) h)
 
--- nothing moved yet
-pub move-none : (t : List ℕ) (to : ℕ) → take (to + 0) t ≡ take to t ++ []
-move-none t to = rw (add-zero, append-nil)
-
 -- equal from a on, and so from further on
 pub drop-more : (a n : ℕ) (x y : List ℕ) (b : ℕ) → b ≡ a + n → drop a x ≡ drop a y → drop b x ≡ drop b y
 drop-more a n x y b e h = rw e (sym (drop-drop n a x) ∙ ap (drop n) h ∙ drop-drop n a y)
 
--- one more byte of a record that moves down
-module _ (t t₀ : List ℕ) (from to j : ℕ) (below : to ≤ from) (inside : from + j < length t) (same : length t ≡ length t₀) where
-  moved-byte : drop (from + j) t ≡ drop (from + j) t₀ → getD t (from + j) 0 ≡ getD (drop from t₀) j 0
-  moved-byte e =
-      let z : from + j ≡ from + j + 0 = omega arith in
-      ap (λ (k : ℕ). getD t k 0) z
-      ∙ sym (getD-drop (from + j) t 0 0)
-      ∙ ap (λ (l : List ℕ). getD l 0 0) e
-      ∙ getD-drop (from + j) t₀ 0 0
-      ∙ ap (λ (k : ℕ). getD t₀ k 0) (sym z)
-      ∙ sym (getD-drop from t₀ j 0)
+-- bytes that move down: what stands behind them is as it was, one more of them, and all
+module _ (t t₀ : List ℕ) (from to j : ℕ) (below : to ≤ from) (e : t ≡ paste t₀ to (drop from t₀) j) (fits : from + j ≤ length t₀) where
+  some-left : j ≤ length (drop from t₀)
+  some-left = rw length-drop (omega arith)
 
-  pub move-front : take (to + j) t ≡ take to t₀ ++ take j (drop from t₀) → drop (from + j) t ≡ drop (from + j) t₀
-      → take (to + (j + 1)) (set t (to + j) (getD t (from + j) 0)) ≡ take to t₀ ++ take (j + 1) (drop from t₀)
-  move-front e d =
-      let s : to + (j + 1) ≡ suc (to + j) = omega arith in
-      let i : to + j < length t = omega arith in
-      let k : j < length (drop from t₀) = rw length-drop (omega arith) in
-      rw (s, take-suc-set t (to + j) _ i, e, append-assoc, moved-byte d, add-one j, take-suc (drop from t₀) j 0 k)
+  behind : drop (from + j) t ≡ drop (from + j) t₀
+  behind = drop-more (to + j) (from - to) t t₀ (from + j) (omega arith) (ap (drop (to + j)) e ∙ drop-paste t₀ to (drop from t₀) j (omega arith) some-left)
 
-  pub move-back : drop (from + j) t ≡ drop (from + j) t₀
-      → drop (from + (j + 1)) (set t (to + j) (getD t (from + j) 0)) ≡ drop (from + (j + 1)) t₀
-  move-back d =
-      let i : to + j < from + (j + 1) = omega arith in
-      rw (drop-set-lt (from + (j + 1)) t (to + j) _ i) (drop-more (from + j) 1 t t₀ (from + (j + 1)) (omega arith) d)
+  pub move-more : (n : ℕ) → j < n → from + n ≤ length t₀ → set t (to + j) (getD t (from + j) 0) ≡ paste t₀ to (drop from t₀) (j + 1)
+  move-more n h room = rw (untouched t₀ t (from + j) behind) (copy-more t t₀ t₀ to from j n h (omega arith) room e)
+
+  pub moved-down : (take (to + j) t ≡ take to t₀ ++ take j (drop from t₀)) × (drop (from + j) t ≡ drop (from + j) t₀)
+  moved-down = (ap (take (to + j)) e ∙ take-paste t₀ to (drop from t₀) j (omega arith) some-left, behind)
 
 -- nothing moved up yet
 pub shift-none : (t : List ℕ) (end by : ℕ) → t ≡ shifted t end end by

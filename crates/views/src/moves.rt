@@ -4,6 +4,7 @@ ghost use mathlib.Core.Path.{_≡_};
 ghost use mathlib.Core.List.{_++_};
 ghost use Prim.Native.Nat.{_+_, _-_, _^_, _≤_, _<_};
 ghost use lib.ListN.{length, take, drop, replicate};
+ghost use lib.Seq.{paste};
 ghost use Rattle.views.specs.Change.{le4};
 ghost use Rattle.views.specs.How.Pass.{shifted};
 
@@ -19,10 +20,9 @@ pub fn put_count(t: &mut [u8], n: usize)
 }
 
 // Moves the record at byte `from` down to byte `to`.
-pub fn move_record(t: &mut [u8], from: usize, to: usize)
+pub(crate) fn move_record(t: &mut [u8], from: usize, to: usize)
     requires { ⌜ (to ≤ from) × (from + 32 ≤ length (now t)) ⌝ }
-    ensures { λ _. ⌜ (take (to + 32) (now (t .exit)) ≡ take to (now (t .entry)) ++ take 32 (drop from (now (t .entry))))
-        × (drop (from + 32) (now (t .exit)) ≡ drop (from + 32) (now (t .entry))) ⌝ }
+    ensures { λ _. ⌜ now (t .exit) ≡ paste (now (t .entry)) to (drop from (now (t .entry))) 32 ⌝ }
 {
     let mut j = 0;
     while j < RECORD_BYTES {
@@ -32,7 +32,7 @@ pub fn move_record(t: &mut [u8], from: usize, to: usize)
 }
 
 // Zeros from byte `from` to the end.
-pub fn clear_from(t: &mut [u8], from: usize)
+pub(crate) fn clear_from(t: &mut [u8], from: usize)
     requires { ⌜ from ≤ length (now t) ⌝ }
     ensures { λ _. ⌜ now (t .exit) ≡ take from (now (t .entry)) ++ replicate (length (now (t .entry)) - from) 0 ⌝ }
 {
@@ -44,7 +44,7 @@ pub fn clear_from(t: &mut [u8], from: usize)
 }
 
 // Moves the bytes from `from` to `end` up by `by`.
-pub fn shift_up(t: &mut [u8], from: usize, end: usize, by: usize)
+pub(crate) fn shift_up(t: &mut [u8], from: usize, end: usize, by: usize)
     requires { ⌜ (from ≤ end) × (end + by ≤ length (now t)) ⌝ }
     ensures { λ _. ⌜ now (t .exit) ≡ shifted (now (t .entry)) from end by ⌝ }
 {

@@ -1,4 +1,6 @@
+use Prim.Native.Nat.{_+_, _*_}
 use mathlib.Core.Path.{refl}
+use Rattle.views.proofs.CopyLaws.{moved-down}
 use Rattle.views.proofs.TurnLaws.{front-asks, front-done, front-same}
 use borrow.Author.Needs.{needs}
 use Rattle.views.proofs.insert.step_front.Statement.{statement}
@@ -20,11 +22,12 @@ returns c =
     let s = to-start (at-tree-in-front .before) in
     let a = s .args in
     let f = at-tree-in-front .tree-in-front in
-    let g = at-move-record .move-record in (
+    let g = at-move-record .move-record in
+    let e = moved-down (g .last .0) (f .last .0) (4 + (a .gap + a .i) * 32) (4 + f .result * 32) 32 (search needs) (g .ensures) (search needs) in (
       front-done (a .n) (a .gap) (a .m) (a .i) (a .w) (a .t .now) (a .marks .now) (a .tree .now) (s .pre .0) (s .pre .1 .0) (s .pre .1 .1) (s .pre .1 .2)
-          (f .result) (f .last .0) (g .last .0) (search needs) (f .ensures .0) (f .ensures .1) (f .ensures .2) (g .ensures .0) (g .ensures .1),
+          (f .result) (f .last .0) (g .last .0) (search needs) (f .ensures .0) (f .ensures .1) (f .ensures .2) (e .0) (e .1),
       front-same (a .n) (a .gap) (a .m) (a .i) (a .w) (a .t .now) (a .marks .now) (a .tree .now) (s .pre .0) (s .pre .1 .0) (s .pre .1 .1) (s .pre .1 .2)
-          (f .result) (f .last .0) (g .last .0) (search needs) (f .ensures .0) (f .ensures .1) (f .ensures .2) (g .ensures .0) (g .ensures .1),
+          (f .result) (f .last .0) (g .last .0) (search needs) (f .ensures .0) (f .ensures .1) (f .ensures .2) (e .0) (e .1),
     )
 
 pub step-front-spec : {M : Type 1} → statement M

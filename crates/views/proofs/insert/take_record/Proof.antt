@@ -1,5 +1,7 @@
 use mathlib.Core.Path.{refl}
+use Prim.Native.Nat.{_+_, _*_}
 use lib.ListN.{getD}
+use Rattle.views.proofs.CopyLaws.{moved-down}
 use Rattle.views.proofs.TurnLaws.{push-marked, push-plain}
 use native.Mathlib.Omega.{arith}
 use borrow.Author.Needs.{needs}
@@ -17,14 +19,14 @@ returns : tie.Need-returns
 returns c =
     let at-move-record = to-move-record (c .before) in let start = to-start at-move-record in
     let a = start .args in
-    let e = at-move-record .move-record .ensures in
+    let e = moved-down _ (a .t .now) (4 + (a .gap + a .i) * 32) (4 + a .w * 32) 32 (omega arith) (at-move-record .move-record .ensures) (omega arith) in
     ((refl, refl, omega arith, push-marked (getD (a .marks .now) (a .i) 0) (a .l) (a .d) (a .st .now) (c .if1 .taken) (omega arith)), e)
 
 returns-2 : tie.Need-returns-2
 returns-2 c =
     let at-move-record = to-move-record (c .before) in let start = to-start at-move-record in
     let a = start .args in
-    let e = at-move-record .move-record .ensures in
+    let e = moved-down _ (a .t .now) (4 + (a .gap + a .i) * 32) (4 + a .w * 32) 32 (omega arith) (at-move-record .move-record .ensures) (omega arith) in
     ((refl, refl, omega arith, push-plain (getD (a .marks .now) (a .i) 0) (a .l) (a .d) (a .st .now) (search needs)), e)
 
 pub take-record-spec : {M : Type 1} → statement M

@@ -1,23 +1,22 @@
--- The first j bytes of the record are moved; those behind it are as they were.
-use Prim.Native.Nat.{_≤_, _-_, _+_}
+-- The first j bytes of the record are moved, and no other byte has changed.
+use Prim.Native.Nat.{_≤_, _-_}
 use mathlib.Core.Path.{_≡_, refl}
-use mathlib.Core.List.{_++_}
-use lib.ListN.{length, take, drop, length-set}
-use Rattle.views.proofs.CopyLaws.{move-none, move-front, move-back}
+use lib.ListN.{length, drop, length-set}
+use lib.Seq.{paste, paste-zero}
+use Rattle.views.proofs.CopyLaws.{move-more}
 use borrow.Author.Needs.{needs}
 use native.Mathlib.Omega.{arith}
 use Rattle.views.proofs.moves.move_record.Statement.{statement}
 use Rattle.views.proofs.moves.move_record.Tie as tie
 
 abbrev Inv-loop : tie.InvT-loop
-Inv-loop t₀ from to j₀ t j =
-    (j ≤ 32) × (length t ≡ length t₀) × (take (to + j) t ≡ take to t₀ ++ take j (drop from t₀)) × (drop (from + j) t ≡ drop (from + j) t₀)
+Inv-loop t₀ from to j₀ t j = (j ≤ 32) × (length t ≡ length t₀) × (t ≡ paste t₀ to (drop from t₀) j)
 
 abbrev μ-loop : tie.MeasureT-loop
 μ-loop t₀ from to j₀ t j = 32 - j
 
 loop-holds : tie.Need-loop-holds Inv-loop μ-loop
-loop-holds c = (search needs, refl, move-none (c .args .t .now) (c .args .to), refl)
+loop-holds c = (search needs, refl, paste-zero (c .args .t .now) (c .args .to) (drop (c .args .from) (c .args .t .now)))
 
 loop-again : tie.Need-loop-again Inv-loop μ-loop
 loop-again c =
@@ -26,15 +25,13 @@ loop-again c =
     let a = start .args in (
       omega arith,
       simp length-set (omega arith),
-      move-front (l .t) (a .t .now) (a .from) (a .to) (l .j) (omega arith) (omega arith) (omega arith) (l .inv .2) (l .inv .3),
-      move-back (l .t) (a .t .now) (a .from) (a .to) (l .j) (omega arith) (omega arith) (omega arith) (l .inv .3),
+      move-more (l .t) (a .t .now) (a .from) (a .to) (l .j) (omega arith) (l .inv .2) (omega arith) 32 (omega arith) (omega arith),
     )
 
 returns : tie.Need-returns Inv-loop μ-loop
 returns c =
-    let l = c .before .loop in
-    let e : l .j ≡ 32 = omega arith in
-    (rw e at (l .inv .2), rw e at (l .inv .3))
+    let e : c .before .loop .j ≡ 32 = omega arith in
+    rw e at (c .before .loop .inv .2)
 
 pub move-record-spec : {M : Type 1} → statement M
 move-record-spec =

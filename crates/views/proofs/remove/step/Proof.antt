@@ -1,3 +1,5 @@
+use Prim.Native.Nat.{_+_, _*_}
+use Rattle.views.proofs.CopyLaws.{moved-down}
 use Rattle.views.proofs.RemovalLaws.{step-below, step-marked, step-kept}
 use native.Mathlib.Omega.{arith}
 use borrow.Author.Needs.{needs}
@@ -27,7 +29,8 @@ returns-3 c =
     let at-move-record = c .before .before in let start = to-start (at-move-record .before .before .before) in
     let a = start .args in
     let m = at-move-record .move-record in
-    let r = step-kept (a .n) (a .i) (a .cut) (a .w) (a .t .now) (a .marks .now) (omega arith) (omega arith) (m .last .0) (omega arith) (omega arith) (m .ensures .0) (m .ensures .1) (omega arith) (search needs)
+    let e = moved-down (m .last .0) (a .t .now) (4 + a .i * 32) (4 + a .w * 32) 32 (omega arith) (m .ensures) (omega arith) in
+    let r = step-kept (a .n) (a .i) (a .cut) (a .w) (a .t .now) (a .marks .now) (omega arith) (omega arith) (m .last .0) (omega arith) (omega arith) (e .0) (e .1) (omega arith) (search needs)
     (start .pre .4) in
     (search needs, r .0, r .1)
 
