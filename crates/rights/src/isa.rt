@@ -6,7 +6,7 @@ ghost use mathlib.Core.Path.{_≡_};
 ghost use mathlib.Core.Bool.{true, cond};
 ghost use mathlib.Core.List.{List, [], _∷_, _++_};
 ghost use Prim.Native.Nat.{ℕ, _+_, _≤_, _<_};
-ghost use lib.ListN.{length, take};
+ghost use lib.ListN.{length, take, drop};
 ghost use Rattle.rights.specs.Isa.{standsFor};
 ghost use Rattle.rights.specs.PolicyBytes.{policyOf, subjectCount, isaCount};
 ghost use Rattle.rights.specs.PolicyCheck.{policyOk};
@@ -69,7 +69,7 @@ fn stands_for(roles: &[u8; 64], u: usize, k: usize) -> bool
 fn put_subject(on: bool, k: usize, m: usize, out: &mut [u8; 64]) -> usize
     requires { ⌜ (k < 64) × (m ≤ k) × (length (now out) ≡ 64) ⌝ }
     ensures { λ r. ⌜ (take r (now (out .exit)) ≡ cond on (take m (now (out .entry)) ++ (k ∷ [])) (take m (now (out .entry)))) × (r ≤ m + 1)
-        × (length (now (out .exit)) ≡ 64) ⌝ }
+        × (length (now (out .exit)) ≡ 64) × ((before : List ℕ) → drop m (now (out .entry)) ≡ drop m before → drop r (now (out .exit)) ≡ drop r before) ⌝ }
 {
     if on {
         out[m] = k as u8;
@@ -78,10 +78,10 @@ fn put_subject(on: bool, k: usize, m: usize, out: &mut [u8; 64]) -> usize
     m
 }
 
-// Writes the subjects for which `$` stands, and returns how many they are.
+// Writes the subjects for which `$` stands to the front of `out`, and returns how many they are.
 pub fn own_subjects(policy: &[u8], u: usize, roles: &[u8; 64], out: &mut [u8; 64]) -> usize
     requires { ⌜ (policyOk (now policy) ≡ true) × Roles (now policy) u (now roles) × (length (now out) ≡ 64) ⌝ }
-    ensures { λ r. ⌜ OwnFirst (now (policy .entry)) u (now (out .exit)) r ⌝ }
+    ensures { λ r. ⌜ OwnFirst (now (policy .entry)) u (now (out .exit)) r × (drop r (now (out .exit)) ≡ drop r (now (out .entry))) ⌝ }
 {
     let count = wide(policy[0]);
     let mut m = 0;

@@ -12,13 +12,13 @@ use crate::vocabulary::sort_words;
 ghost use mathlib.Core.Path.{_≡_};
 ghost use mathlib.Core.List.{_++_};
 ghost use mathlib.Core.Bool.{true};
-ghost use Prim.Native.Nat.{ℕ, _/_, _%_, _≤_, _<_};
+ghost use Prim.Native.Nat.{ℕ, _≤_, _<_};
 ghost use lib.ListN.{length, drop};
-ghost use lib.Dec.{eqb};
 ghost use Rattle.rights.specs.Table.{records, count, tableOk};
-ghost use Rattle.rights.specs.PolicyCheck.{policyOk};
+ghost use Rattle.rights.specs.Policy.{Right, bitOf};
+ghost use Rattle.rights.specs.PolicyCheck.{bitOk, policyOk};
 ghost use Rattle.rights.specs.PolicyBytes.{policyOf, subjectCount};
-ghost use Rattle.rights.specs.Rights.{rightsOn};
+ghost use Rattle.rights.specs.Rights.{rightsOn, holds};
 ghost use Rattle.rights.specs.How.Groups.{askedOn};
 ghost use Rattle.rights.specs.How.Roles.{Roles, Own};
 ghost use Rattle.rights.specs.How.Automaton.{Each};
@@ -86,8 +86,8 @@ pub fn rights_on(policy: &[u8], u: usize, table: &[u8], out: &mut [u8])
 
 // Whether a set of rights holds the right with this bit.
 pub fn holds_right(set: u8, right: u8) -> bool
-    requires { ⌜ 0 < right ⌝ }
-    ensures { λ r. ⌜ r ≡ eqb (set / right % 2) 1 ⌝ }
+    requires { ⌜ bitOk right ≡ true ⌝ }
+    ensures { λ r. ⌜ ((w : Right) → bitOf w ≡ right → r ≡ holds w set) ⌝ }
 {
     set / right % 2 == 1
 }

@@ -1,25 +1,29 @@
 -- The pass that marks what a change does: its step and its end. Assumes nothing.
-use Prim.Native.Nat.{ℕ, _+_, _*_, _-_, _%_, _≤_, _<_}
-use mathlib.Core.Bool.{Bool, true, false, cond, not, _&&_}
-use mathlib.Core.Path.{_≡_, refl, sym, ap, _∙_}
+use Prim.Native.Nat.{ℕ, zero, suc, _+_, _*_, _-_, _%_, _≤_, _<_}
+use mathlib.Core.Bool.{Bool, true, false, cond, not, _&&_, and-true}
+use mathlib.Core.Path.{_≡_, refl, sym, ap, ap₂, _∙_, fun-ext}
 use mathlib.Core.List.{List, _∷_, _++_, map}
 use native.Mathlib.Numerals.{add-one}
-use native.Mathlib.Nat.{sub-zero}
+use native.Mathlib.Nat.{sub-zero, zero-add}
 use native.Mathlib.Omega.{arith}
 use lib.Dec.{eqb, ltb}
-use lib.ListN.{length, take, drop, getD, set, length-set, replicate, getD-replicate}
-use lib.Seq.{drop-drop, getD-drop}
+use lib.ListN.{length, take, drop, getD, set, length-set, length-map, replicate, getD-replicate, take-append-drop, List·getD-append}
+use lib.Seq.{drop-drop, getD-drop, drop-at}
 use Rattle.rights.specs.Marks.{bit, marksOf, eachFrom}
-use Rattle.rights.specs.Policy.{insert}
+use Rattle.rights.specs.Policy.{read, insert, update}
 use Rattle.rights.specs.Rights.{holds}
 use Rattle.rights.specs.Table.{recordAt, level, label, count}
+use Rattle.rights.specs.How.Automaton.{Each}
+use Rattle.rights.specs.How.Selection.{Marked}
 use Rattle.rights.proofs.ListLaws.{byCase}
+use Rattle.rights.proofs.PassLaws.{marked-list}
 use Rattle.views.specs.Shown.{atParent, nearestFirst}
 use Rattle.views.specs.Done.{does, askedOf, doneMarks}
-use Rattle.views.specs.How.Numbers.{shownByNumbers, byNumbers}
+use Rattle.views.specs.How.Numbers.{shownByNumbers, byNumbers, asksWord}
 use Rattle.views.specs.declared.done.Change.{Change}
+use Rattle.views.specs.declared.done.Change.the-variants.{Rename, Update, Append, Before, After, Remove}
 use Rattle.views.proofs.FillLaws.{push-take, push-drop, filled}
-use Rattle.rights.proofs.MarkLaws.{each-step, each-end}
+use Rattle.rights.proofs.MarkLaws.{each-step, each-end, each-at, each-length}
 use Rattle.views.proofs.MarkLaws.{shown-step, marks-step}
 use Rattle.views.proofs.StoredLaws.{level-at}
 
@@ -161,3 +165,52 @@ module _ (c : Change) (word : List ℕ → Bool) (t ss xs m d₀ : List ℕ) (n 
   pub marking-gives : (o a b : List ℕ) (j i : ℕ) → n ≡ count t → n ≤ i → Marking o a b j i
       → o ≡ map bit (doneMarks c word t ss (shownByNumbers xs (count t) 0) (byNumbers xs (marksOf m) (count t) 0)) ++ drop (count t) d₀
   marking-gives o a b j i e h g = rw e at (marking-end o a b j i h g)
+
+-- Policy words: a change that asks for them does what it does whatever the label, but for policy words; the others do not look at labels
+unless : (s r u w : Bool) → s && (r && (u && not w)) ≡ (s && (r && (u && true))) && not w
+unless true true true w = refl
+unless true true false w = refl
+unless true false u w = refl
+unless false r u w = refl
+
+map-each : (f : ℕ → Bool) (i n : ℕ) → map bit (eachFrom f i n) ≡ eachFrom (λ k. bit (f k)) i n
+unfolding eachFrom
+map-each f i zero = refl
+map-each f i (suc n) = ap (λ l. bit (f i) ∷ l) (map-each f (suc i) n)
+
+module _ (word : List ℕ → Bool) (t ss : List ℕ) (bs ms : List Bool) where
+  abbrev doesWhere : (List ℕ → Bool) → Change → ℕ → Bool
+  doesWhere w c i = does c (askedOf w t ss bs ms i)
+
+  abbrev wordAt : ℕ → Bool
+  wordAt i = word (label (recordAt t i))
+
+  but-words : (c : Change) (i : ℕ) → doesWhere word c i ≡ doesWhere (λ _. false) c i && not (asksWord c && wordAt i)
+  but-words Rename i = unless (getD ms i false) (holds read (getD ss i 0)) (holds update (getD ss i 0)) (wordAt i)
+  but-words Update i = unless (askedOf word t ss bs ms i .shown && askedOf word t ss bs ms i .parentSelected) (holds read (getD ss i 0)) (holds update (getD ss i 0)) (wordAt i)
+  but-words Append i = sym (and-true _)
+  but-words Before i = sym (and-true _)
+  but-words After i = sym (and-true _)
+  but-words Remove i = sym (and-true _)
+
+  pub labels-unasked : (c : Change) → asksWord c ≡ false → doneMarks c (λ _. false) t ss bs ms ≡ doneMarks c word t ss bs ms
+  labels-unasked c e = ap (λ f. eachFrom f 0 (count t)) (fun-ext (λ i. sym (but-words c i ∙ rw e (and-true _))))
+
+  pub words-unmarked : (c : Change) → asksWord c ≡ true → (d₀ d d' : List ℕ) → count t ≤ length d
+      → d ≡ map bit (doneMarks c (λ _. false) t ss bs ms) ++ drop (count t) d₀
+      → Each (count t) d d' (λ i x. bit (not (eqb x 0) && not (wordAt i)))
+      → d' ≡ map bit (doneMarks c word t ss bs ms) ++ drop (count t) d₀
+  unfolding Marked
+  words-unmarked c asks d₀ d d' h e r =
+      let n = count t in
+      let f = doesWhere (λ _. false) c in
+      let long : length (map bit (eachFrom f 0 n)) ≡ n = length-map (eachFrom f 0 n) bit ∙ each-length f 0 n in
+      let was : (i : ℕ) → i < n → getD d i 0 ≡ bit (f i) =
+      λ i k. ap (λ (l : List ℕ). getD l i 0) e ∙ List·getD-append (map bit (eachFrom f 0 n)) (drop n d₀) 0 i (rw long k)
+      ∙ ap (λ (l : List ℕ). getD l i 0) (map-each f 0 n) ∙ each-at (λ j. bit (f j)) 0 0 n i k ∙ ap (λ (j : ℕ). bit (f j)) (zero-add i) in
+      let is : Marked d' (doesWhere word c) n =
+      λ i k.
+      let but : doesWhere word c i ≡ f i && not (wordAt i) = rw asks at (but-words c i) in
+      r .at i k ∙ ap bit (ap (λ (b : Bool). b && not (wordAt i)) (set-bit (getD d i 0) (f i) (was i k)) ∙ sym but) in
+      sym (take-append-drop n d')
+      ∙ ap₂ _++_ (marked-list d' (doesWhere word c) n (omega (arith, h, r .long)) is) (r .rest ∙ ap (drop n) e ∙ drop-at (map bit (eachFrom f 0 n)) (drop n d₀) n long)

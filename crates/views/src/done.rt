@@ -7,29 +7,24 @@ use rights::limits::READ;
 use rights::limits::RECORD_BYTES;
 use rights::limits::RECORDS_MAX;
 use rights::limits::UPDATE;
-use rights::limits::WORDS_MAX;
 use rights::marks::is_set;
 use rights::marks::mark_of;
 use rights::nodes::wide_number;
-use rights::policy::is_among;
-use rights::policy::sort_policy_words;
+use rights::policy::unmark_words;
 use rights::rights::holds_right;
 use rights::table::count_of;
 ghost use mathlib.Core.Path.{_≡_};
 ghost use mathlib.Core.Bool.{true, false, cond, not, _&&_};
-ghost use Prim.Native.Nat.{ℕ, _+_, _*_, _%_, _≤_, _<_};
+ghost use Prim.Native.Nat.{ℕ, _+_, _%_, _≤_, _<_};
 ghost use lib.Dec.{eqb, ltb};
 ghost use lib.ListN.{length, getD};
-ghost use Rattle.rights.specs.Policy.{read, update, policyWord};
-ghost use Rattle.rights.specs.PolicyBytes.{policyOf};
-ghost use Rattle.rights.specs.How.Places.{Text};
+ghost use Rattle.rights.specs.Policy.{read, update};
 ghost use Rattle.rights.specs.PolicyCheck.{policyOk};
 ghost use Rattle.rights.specs.Rights.{holds};
-ghost use Rattle.rights.specs.Table.{recordAt, label, count, tableOk};
+ghost use Rattle.rights.specs.Table.{count, tableOk};
 ghost use Rattle.rights.specs.Limits.{recordsMax};
-ghost use Rattle.rights.specs.How.Vocabulary.{PolicyWords};
 ghost use Rattle.views.specs.Done.{does};
-ghost use Rattle.views.specs.How.Numbers.{DoneBy};
+ghost use Rattle.views.specs.How.Numbers.{DoneWhere, DoneBy, asksWord};
 
 // Slots a level, 0 to 15: more than there are levels.
 const LAST_SLOT: usize = 15;
@@ -91,14 +86,6 @@ fn pass_down(slots: &mut [u8; 16], level: usize, v: u8)
     }
 }
 
-// Whether the label of record i is one of the k policy words.
-fn is_word(policy: &[u8], words: &[u32], k: usize, table: &[u8], i: usize) -> bool
-    requires { ⌜ PolicyWords (now policy) (now words) k × Text (now table) (4 + i * 32) ⌝ }
-    ensures { λ r. ⌜ r ≡ policyWord (policyOf (now (policy .entry))) (label (recordAt (now (table .entry)) i)) ⌝ }
-{
-    is_among(policy, words, k, table, COUNT_BYTES + i * RECORD_BYTES)
-}
-
 // Whether both hold.
 fn both(a: bool, b: bool) -> bool
     ensures { λ r. ⌜ r ≡ (a && b) ⌝ }
@@ -119,39 +106,22 @@ fn is_inner(may: bool, level: u8) -> bool
     false
 }
 
-// Whether record i, with these rights, is concerned and may be renamed.
-fn is_renamable(
-    concerned: bool,
-    policy: &[u8],
-    words: &[u32],
-    k: usize,
-    table: &[u8],
-    i: usize,
-    set: u8,
-) -> bool
-    requires { ⌜ PolicyWords (now policy) (now words) k × Text (now table) (4 + i * 32) ⌝ }
-    ensures { λ r. ⌜ r ≡ (concerned && (holds read set && (holds update set && not
-        (policyWord (policyOf (now (policy .entry))) (label (recordAt (now (table .entry)) i)))))) ⌝ }
+// Whether a node with these rights is concerned and may be renamed, whatever its label.
+fn is_renamable(concerned: bool, set: u8) -> bool
+    ensures { λ r. ⌜ r ≡ (concerned && (holds read set && holds update set)) ⌝ }
 {
     if concerned {
         if holds_right(set, READ) {
-            if holds_right(set, UPDATE) {
-                return !is_word(policy, words, k, table, i);
-            }
+            return holds_right(set, UPDATE);
         }
     }
     false
 }
 
-// Whether the change does record i: the user's rights on it, its level, whether it is shown and selected; whether its parent is selected
-// (chosen) and the user has insert on its parent (granting).
+// Whether the change does a node, whatever its label: the user's rights on it, its level, whether it is shown and selected; whether its parent is
+// selected (chosen) and the user has insert on its parent (granting).
 fn is_done(
     change: Change,
-    policy: &[u8],
-    words: &[u32],
-    k: usize,
-    table: &[u8],
-    i: usize,
     set: u8,
     level: u8,
     shown: bool,
@@ -159,21 +129,19 @@ fn is_done(
     chosen: bool,
     granting: bool,
 ) -> bool
-    requires { ⌜ PolicyWords (now policy) (now words) k × Text (now table) (4 + i * 32) ⌝ }
     ensures { λ r. ⌜ r ≡ does change (record {
       level = level;
       rights = set;
       shown = shown;
       selected = selected;
-      word = policyWord
-          (policyOf (now (policy .entry))) (label (recordAt (now (table .entry)) i));
+      word = false;
       parentSelected = chosen;
       parentInsert = granting;
     }) ⌝ }
 {
     match change {
-        Change::Rename => is_renamable(selected, policy, words, k, table, i, set),
-        Change::Update => is_renamable(both(shown, chosen), policy, words, k, table, i, set),
+        Change::Rename => is_renamable(selected, set),
+        Change::Update => is_renamable(both(shown, chosen), set),
         Change::Append => both(selected, holds_right(set, INSERT)),
         Change::Before => both(selected, is_inner(granting, level)),
         Change::After => both(selected, is_inner(granting, level)),
@@ -181,22 +149,18 @@ fn is_done(
     }
 }
 
-// Writes for each record whether the change does it, where words are the k policy words. The next shown node is j. A slot a level says of the
+// Writes for each record whether the change does it, whatever its label. The next shown node is j. A slot a level says of the
 // node above, which is the parent of the next node at that level, whether it is selected, and whether the user has insert on it.
-fn mark_by_words(
+fn mark_by_rights(
     change: Change,
-    policy: &[u8],
-    words: &[u32],
-    k: usize,
     table: &[u8],
     rights: &[u8],
     shown: &[u16],
     marks: &[u8],
     done: &mut [u8],
 )
-    requires { ⌜ PolicyWords (now policy) (now words) k × (tableOk (now table) ≡ true) × (count (now table) ≤ length (now rights))
-        × (count (now table) ≤ length (now done)) ⌝ }
-    ensures { λ _. ⌜ DoneBy change (now (policy .entry)) (now (table .entry)) (now (rights .entry)) (now (shown .entry))
+    requires { ⌜ (tableOk (now table) ≡ true) × (count (now table) ≤ length (now rights)) × (count (now table) ≤ length (now done)) ⌝ }
+    ensures { λ _. ⌜ DoneWhere change (λ _. false) (now (table .entry)) (now (rights .entry)) (now (shown .entry))
         (now (marks .entry)) (now (done .entry)) (now (done .exit)) ⌝ }
 {
     let n = count_of(table);
@@ -212,25 +176,26 @@ fn mark_by_words(
         let sel = is_marked(marks, j, on);
         let up = is_set(chosen[l]);
         let may = is_set(granting[l]);
-        let does = is_done(
-            change,
-            policy,
-            words,
-            k,
-            table,
-            i,
-            set,
-            level,
-            on,
-            sel,
-            up,
-            may,
-        );
+        let does = is_done(change, set, level, on, sel, up, may);
         done[i] = mark_of(does);
         pass_down(&mut chosen, l, mark_of(sel));
         pass_down(&mut granting, l, mark_of(holds_right(set, INSERT)));
         j = next_of(j, on, n);
         i += 1;
+    }
+}
+
+// Whether the change asks that a label be no policy word.
+fn asks_word(change: Change) -> bool
+    ensures { λ r. ⌜ r ≡ asksWord change ⌝ }
+{
+    match change {
+        Change::Rename => true,
+        Change::Update => true,
+        Change::Append => false,
+        Change::Before => false,
+        Change::After => false,
+        Change::Remove => false,
     }
 }
 
@@ -250,7 +215,8 @@ pub fn mark_done(
     ensures { λ _. ⌜ DoneBy change (now (policy .entry)) (now (table .entry)) (now (rights .entry)) (now (shown .entry))
         (now (marks .entry)) (now (done .entry)) (now (done .exit)) ⌝ }
 {
-    let mut words = [0u32; WORDS_MAX];
-    let k = sort_policy_words(policy, &mut words);
-    mark_by_words(change, policy, &words, k, table, rights, shown, marks, done);
+    mark_by_rights(change, table, rights, shown, marks, done);
+    if asks_word(change) {
+        unmark_words(policy, table, done);
+    }
 }

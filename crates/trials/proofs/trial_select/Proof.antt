@@ -35,7 +35,7 @@ select-requires c κs =
     let at-if1 = at-check-path .before in let at-may-select = at-if1 .before in let start = at-may-select .before .before .before .before .before .before in
     let e = sym (at-may-select .may-select .ensures) ∙ at-if1 .if1 .taken in
     let g = nodes-gives _ _ _ _ _ e in (
-      own-sound (own-part (at-own-subjects .own-subjects .ensures)) (policy-sound _ (asks-subject _ _ _ (g .0) .policy)),
+      own-sound (own-part (at-own-subjects .own-subjects .ensures .0)) (policy-sound _ (asks-subject _ _ _ (g .0) .policy)),
       nodes-fit _ _ _ _ _ e,
       is-path (pathOf (start .args .path .now)) _ (sym (at-check-path .check-path .ensures) ∙ at-enum-told .enum-told .given .1),
       g .2,
@@ -51,7 +51,7 @@ returns-2 : tie.Need-returns-2
 returns-2 c =
     let at-select = c .before .before in let at-own-subjects = at-select .before .before .before .before in let at-enum-told = at-own-subjects .before .before .before .before in let read = at-enum-told .before .before in
     nodes-done _ _ _ _ _ _ (sym (read .before .before .may-select .ensures) ∙ read .before .if1 .taken) _ (sym (read .check-path .ensures) ∙ at-enum-told .enum-told .given .1) _ _
-    (own-part (at-own-subjects .own-subjects .ensures)) (at-select .select .ensures)
+    (own-part (at-own-subjects .own-subjects .ensures .0)) (at-select .select .ensures)
 
 returns-3 : tie.Need-returns-3
 returns-3 c = nodes-refused _ _ _ _ _ _ (sym (c .before .may-select .ensures) ∙ c .if1 .left)

@@ -1,7 +1,7 @@
 -- What is shown, by the depth of the shown chain and by the numbers of the shown nodes, and how a change reads what is shown and selected off those numbers.
 -- proofs/ShownLaws.antt, proofs/ViewLaws.antt and proofs/DoneLaws.antt show that this is what `shown`, `view` and `inTable` say.
 use Prim.Native.Nat.{ℕ, zero, suc, _%_, _+_, min}
-use mathlib.Core.Bool.{Bool, false, cond, _&&_}
+use mathlib.Core.Bool.{Bool, true, false, cond, _&&_}
 use mathlib.Core.Path.{_≡_}
 use mathlib.Core.List.{List, [], _∷_, _++_, map}
 use lib.Dec.{eqb, leb}
@@ -13,6 +13,7 @@ use Rattle.rights.specs.Policy.{policyWord, read}
 use Rattle.rights.specs.PolicyBytes.{policyOf}
 use Rattle.views.specs.Done.{doneMarks}
 use Rattle.views.specs.declared.done.Change.{Change}
+use Rattle.views.specs.declared.done.Change.the-variants.{Rename, Update, Append, Before, After, Remove}
 use Rattle.rights.specs.Rights.{holds}
 use Rattle.views.specs.Shown.{Stored, storedLevel, granted, shown}
 
@@ -57,10 +58,22 @@ byNumbers xs ms zero i = []
 byNumbers xs ms (suc n) i =
     cond (isNext xs i) (getD ms 0 false ∷ byNumbers (drop 1 xs) (drop 1 ms) n (suc i)) (false ∷ byNumbers xs ms n (suc i))
 
--- What a change does, from the numbers of the shown nodes and their marks: in the first bytes of `done`, one a record; the others stay.
-abbrev pub DoneBy : Change → List ℕ → List ℕ → List ℕ → List ℕ → List ℕ → List ℕ → List ℕ → Type 0
-DoneBy c policy table rights shown marks done done' =
+-- What a change does, from the numbers of the shown nodes and their marks: in the first bytes of `done`, one a record; the others stay. First by the
+-- labels that count as policy words, then by a policy.
+abbrev pub DoneWhere : Change → (List ℕ → Bool) → List ℕ → List ℕ → List ℕ → List ℕ → List ℕ → List ℕ → Type 0
+DoneWhere c word table rights shown marks done done' =
     done'
-    ≡ map bit
-    (doneMarks c (policyWord (policyOf policy)) table rights (shownByNumbers shown (count table) 0) (byNumbers shown (marksOf marks) (count table) 0))
+    ≡ map bit (doneMarks c word table rights (shownByNumbers shown (count table) 0) (byNumbers shown (marksOf marks) (count table) 0))
     ++ drop (count table) done
+
+abbrev pub DoneBy : Change → List ℕ → List ℕ → List ℕ → List ℕ → List ℕ → List ℕ → List ℕ → Type 0
+DoneBy c policy table rights shown marks done done' = DoneWhere c (policyWord (policyOf policy)) table rights shown marks done done'
+
+-- the changes that ask whether a label is a policy word
+abbrev pub asksWord : Change → Bool
+asksWord Rename = true
+asksWord Update = true
+asksWord Append = false
+asksWord Before = false
+asksWord After = false
+asksWord Remove = false

@@ -51,7 +51,7 @@ asked-on-requires c κs =
     let table = store-held _ _ (g .0) .table in (
       user-asks (start .args .state .now) _ (at-wide .wide .ensures) _ (g .0) (g .1 .0) .policy,
       at-roles-of .roles-of .ensures,
-      own-part (at-own-subjects .own-subjects .ensures),
+      own-part (at-own-subjects .own-subjects .ensures .0),
       table,
       omega (arith, table-few _ table, g .3),
     )
@@ -75,7 +75,7 @@ returns c =
     let more = drop (count (a .table .now)) (a .rights .now) in
     let user = at-wide .wide .ensures in
     let e = asked-shown (a .state .now) (a .table .now) _ more _ (a .asked) user (at-asked-on .asked-on .ensures) (g .2) in (
-      user-own (a .state .now) _ user _ _ (at-own-subjects .own-subjects .ensures),
+      user-own (a .state .now) _ user _ _ (at-own-subjects .own-subjects .ensures .0),
       rw e at (r .0),
       rw e at (r .1),
       asked-held (a .state .now) (a .table .now) _ more _ (a .asked) user (at-asked-on .asked-on .ensures),

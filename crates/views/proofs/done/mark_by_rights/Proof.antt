@@ -1,90 +1,80 @@
 -- Before record i the shown nodes up to j have come: the slots say what the nodes above say, and the marks of the records before i are written.
 use Prim.Native.Nat.{ℕ, _+_, _*_, _-_, _<_}
-use mathlib.Core.Path.{_≡_, ap, _∙_}
+use mathlib.Core.Path.{_≡_, refl, ap, _∙_}
+use mathlib.Core.Bool.{false}
 use mathlib.Core.List.{List}
-use mathlib.Core.Bool.{Bool}
 use native.Mathlib.Omega.{arith}
 use borrow.Author.Needs.{needs}
 use lib.ListN.{getD}
 use Rattle.rights.specs.Marks.{bit}
-use Rattle.rights.specs.Policy.{policyWord}
-use Rattle.rights.specs.PolicyBytes.{policyOf}
-use Rattle.rights.specs.How.Places.{Text}
+use Rattle.rights.specs.Policy.{insert}
+use Rattle.rights.proofs.FiveRights.{bit-right}
 use Rattle.rights.specs.Table.{count}
 use Rattle.views.proofs.StoredLaws.{record-text}
 use Rattle.views.proofs.TableLaws.{facts}
 use Rattle.views.proofs.DonePassLaws.{Marking, marking-start, marking-more, marking-gives}
-use Rattle.views.proofs.done.mark_by_words.Statement.{statement}
-use Rattle.views.proofs.done.mark_by_words.Tie as tie
+use Rattle.views.proofs.done.mark_by_rights.Statement.{statement}
+use Rattle.views.proofs.done.mark_by_rights.Tie as tie
 
 abbrev Inv-loop : tie.InvT-loop
-Inv-loop change policy words k table rights shown marks done₀ n chosen₀ granting₀ j₀ i₀ done chosen granting j i =
-    (n ≡ count table) × Marking change (policyWord (policyOf policy)) table rights shown marks done₀ n done chosen granting j i
+Inv-loop change table rights shown marks done₀ n chosen₀ granting₀ j₀ i₀ done chosen granting j i =
+    (n ≡ count table) × Marking change (λ _. false) table rights shown marks done₀ n done chosen granting j i
 
 abbrev μ-loop : tie.MeasureT-loop
-μ-loop change policy words k table rights shown marks done₀ n chosen₀ granting₀ j₀ i₀ done chosen granting j i = n - i
+μ-loop change table rights shown marks done₀ n chosen₀ granting₀ j₀ i₀ done chosen granting j i = n - i
 
 -- the function's start, seen from the first call and from the loop
 abbrev start : tie.After-count-of Inv-loop μ-loop → tie.Start Inv-loop μ-loop
-start c = c .before .before .before .before .before .before .before .before
+start c = c .before .before .before .before .before .before
 
 abbrev table : tie.At-loop Inv-loop μ-loop → List ℕ
 table c = start (c .before) .args .table .now
 
-abbrev word : tie.Start Inv-loop μ-loop → List ℕ → Bool
-word s = policyWord (policyOf (s .args .policy .now))
-
--- the label and the level of the record that the loop is at
-record-known : (c : tie.In-loop Inv-loop μ-loop)
-    → Text (table (c .before)) (4 + c .before .loop .i * 32) × (getD (table (c .before)) (4 + c .before .loop .i * 32) 0 < 12)
-record-known c = record-text (table (c .before)) (start (c .before .before) .pre .1) (c .before .loop .i) (omega arith)
+-- the level of the record that the loop is at
+low : (c : tie.In-loop Inv-loop μ-loop) → getD (table (c .before)) (4 + c .before .loop .i * 32) 0 < 12
+low c = record-text (table (c .before)) (start (c .before .before) .pre .0) (c .before .loop .i) (omega arith) .1
 
 -- the places further back that answers read
 abbrev to-in-loop : tie.After-is-set2 Inv-loop μ-loop → tie.In-loop Inv-loop μ-loop
 to-in-loop c = c .before .before .before .before .before .before .before
 
 count-of-requires : tie.Need-count-of-requires Inv-loop μ-loop
-count-of-requires c κs = facts _ (c .before .before .before .before .before .before .before .pre .1) .head
+count-of-requires c κs = facts _ (c .before .before .before .before .before .pre .0) .head
 
 loop-holds : tie.Need-loop-holds Inv-loop μ-loop
 loop-holds c =
     let s = start c in
     let a = s .args in
-    (c .count-of .ensures, marking-start (a .change) (word s) (a .table .now) (a .rights .now) (a .shown .now) (a .marks .now) (a .done .now) (c .count-of .result))
+    (c .count-of .ensures, marking-start (a .change) (λ _. false) (a .table .now) (a .rights .now) (a .shown .now) (a .marks .now) (a .done .now) (c .count-of .result))
 
 mul-level : tie.Need-mul-level Inv-loop μ-loop
 mul-level c =
     let l = c .before .loop in
-    let g = facts (table (c .before)) (start (c .before .before) .pre .1) in
+    let g = facts (table (c .before)) (start (c .before .before) .pre .0) in
     omega arith
 
 add-level : tie.Need-add-level Inv-loop μ-loop
 add-level c =
     let l = c .before .loop in
-    let g = facts (table (c .before)) (start (c .before .before) .pre .1) in
+    let g = facts (table (c .before)) (start (c .before .before) .pre .0) in
     omega arith
 
 shared-slice-read-level : tie.Need-shared-slice-read-level Inv-loop μ-loop
 shared-slice-read-level c =
     let at-loop = c .before .before in
     let l = at-loop .loop in
-    let g = facts (table at-loop) (start (at-loop .before) .pre .1) in
+    let g = facts (table at-loop) (start (at-loop .before) .pre .0) in
     omega arith
 
 array-read-is-set : tie.Need-array-read-is-set Inv-loop μ-loop
 array-read-is-set c =
     let at-wide = c .before .before .before in
-    omega (arith, record-known (at-wide .before .before) .1, at-wide .wide .ensures)
+    omega (arith, low (at-wide .before .before), at-wide .wide .ensures)
 
 array-read-is-set-2 : tie.Need-array-read-is-set-2 Inv-loop μ-loop
 array-read-is-set-2 c =
     let at-wide = c .before .before .before .before in
-    omega (arith, record-known (at-wide .before .before) .1, at-wide .wide .ensures)
-
-is-done-requires : tie.Need-is-done-requires Inv-loop μ-loop
-is-done-requires c κs =
-    let in-loop = to-in-loop c in
-    (start (in-loop .before .before) .pre .0, record-known in-loop .0)
+    omega (arith, low (at-wide .before .before), at-wide .wide .ensures)
 
 next-of-requires : tie.Need-next-of-requires Inv-loop μ-loop
 next-of-requires c κs =
@@ -114,12 +104,12 @@ loop-again c =
     let e = l .inv .0 in
     let h = in-loop .loop-test .taken in (
       l .inv .0,
-      marking-more (a .change) (word s) (a .table .now) (a .rights .now) (a .shown .now) (a .marks .now) (a .done .now) (at-count-of .count-of .result)
+      marking-more (a .change) (λ _. false) (a .table .now) (a .rights .now) (a .shown .now) (a .marks .now) (a .done .now) (at-count-of .count-of .result)
           (l .done) (l .chosen) (l .granting) _ _ (l .j) (l .i) (at-wide .wide .result) _ _ (at-mark-of2 .mark-of2 .result) (at-mark-of3 .mark-of3 .result)
           (at-stands-at .stands-at .result) (at-is-marked .is-marked .result) (at-is-set .is-set .result) (at-is-set2 .is-set2 .result) (at-is-done .is-done .result)
-          (omega arith) (omega arith) (record-known in-loop .1) (at-wide .wide .ensures) (l .inv .1)
+          (omega arith) (omega arith) (low in-loop) (at-wide .wide .ensures) (l .inv .1)
           (at-stands-at .stands-at .ensures) (at-is-marked .is-marked .ensures) (at-is-set .is-set .ensures) (at-is-set2 .is-set2 .ensures) (at-is-done .is-done .ensures)
-          (at-mark-of .mark-of .ensures) (at-mark-of2 .mark-of2 .ensures) (at-mark-of3 .mark-of3 .ensures ∙ ap bit (at-holds-right .holds-right .ensures))
+          (at-mark-of .mark-of .ensures) (at-mark-of2 .mark-of2 .ensures) (at-mark-of3 .mark-of3 .ensures ∙ ap bit (at-holds-right .holds-right .ensures insert refl))
           (at-pass-down .pass-down .ensures) (at-pass-down2 .pass-down2 .ensures) (c .next-of .ensures),
     )
 
@@ -130,14 +120,14 @@ returns c =
     let s = start at-count-of in
     let a = s .args in
     let l = at-loop .loop in
-    marking-gives (a .change) (word s) (a .table .now) (a .rights .now) (a .shown .now) (a .marks .now) (a .done .now) (at-count-of .count-of .result) (l .done) (l .chosen) (l .granting) (l .j) (l .i) (l .inv .0) (omega arith) (l .inv .1)
+    marking-gives (a .change) (λ _. false) (a .table .now) (a .rights .now) (a .shown .now) (a .marks .now) (a .done .now) (at-count-of .count-of .result) (l .done) (l .chosen) (l .granting) (l .j) (l .i) (l .inv .0) (omega arith) (l .inv .1)
 
-pub mark-by-words-spec : {M : Type 1} → statement M
-mark-by-words-spec =
+pub mark-by-rights-spec : {M : Type 1} → statement M
+mark-by-rights-spec =
     tie.close
     (tie.spec Inv-loop μ-loop count-of-requires loop-holds mul-level add-level shared-slice-read-level
     (λ c κs. search needs) (λ c. search needs) (λ c κs. search needs) (λ c κs. search needs)
-    array-read-is-set (λ c κs. search needs) array-read-is-set-2 (λ c κs. search needs) is-done-requires
-    (λ c κs. search needs) (λ c. search needs) (λ c κs. search needs) (λ c κs. search needs) (λ c κs. search needs)
+    array-read-is-set (λ c κs. search needs) array-read-is-set-2 (λ c κs. search needs) (λ c κs. search needs)
+    (λ c κs. search needs) (λ c. search needs) (λ c κs. search needs) (λ c κs. search needs) (λ c κs. bit-right insert)
     (λ c κs. search needs) (λ c κs. search needs) next-of-requires (λ c. search needs) (λ c. search needs)
     loop-again (λ c. search needs) returns)
