@@ -32,7 +32,7 @@ pub enum Found {
 }
 
 // The subject of a name.
-pub fn find_name(policy: &[u8], name: &[u8]) -> Found
+pub(crate) fn find_name(policy: &[u8], name: &[u8]) -> Found
     requires { ⌜ policyOk (now policy) ≡ true ⌝ }
     ensures { λ r. ⌜ r ≡ subjectNamed (policyOf (now (policy .entry))) (now (name .entry)) ⌝ }
 {
@@ -48,7 +48,7 @@ pub fn find_name(policy: &[u8], name: &[u8]) -> Found
 }
 
 // The number of a subject that was found.
-pub fn number_in(found: Found) -> usize
+pub(crate) fn number_in(found: Found) -> usize
     ensures { λ r. ⌜ r ≡ numberIn found ⌝ }
 {
     let Found::Subject(u) = found else {
@@ -70,7 +70,7 @@ fn is_line(policy: &[u8], k: usize, n: usize, r: usize) -> bool
 }
 
 // Whether the isa line of subjects n and r is held already.
-pub fn isa_held(policy: &[u8], n: usize, r: usize) -> bool
+pub(crate) fn isa_held(policy: &[u8], n: usize, r: usize) -> bool
     requires { ⌜ policyOk (now policy) ≡ true ⌝ }
     ensures { λ v. ⌜ v ≡ isaHeld (policyOf (now (policy .entry))) n r ⌝ }
 {
@@ -86,7 +86,7 @@ pub fn isa_held(policy: &[u8], n: usize, r: usize) -> bool
 }
 
 // Whether a rule's path has a bracket: one stands after the test of a step.
-pub fn has_bracket(s: &[u8]) -> bool
+pub(crate) fn has_bracket(s: &[u8]) -> bool
     requires { ⌜ (pathOf (now s) ≡ bad → ⊥) ⌝ }
     ensures { λ r. ⌜ r ≡ hasBracket (now (s .entry)) ⌝ }
 {
@@ -117,7 +117,7 @@ fn axis_byte(axis: Axis) -> u8
 }
 
 // Whether a step of a rule's path names RESTRICTED.
-pub fn path_restricted(s: &[u8]) -> bool
+pub(crate) fn path_restricted(s: &[u8]) -> bool
     requires { ⌜ Plain (now s) ⌝ }
     ensures { λ r. ⌜ r ≡ pathRestricted (now (s .entry)) ⌝ }
 {
@@ -135,7 +135,7 @@ pub fn path_restricted(s: &[u8]) -> bool
 }
 
 // Adds a subject whose name is the label of n bytes at byte `at` of s.
-pub fn add_subject(policy: &mut [u8], s: &[u8], at: usize, n: usize)
+pub(crate) fn add_subject(policy: &mut [u8], s: &[u8], at: usize, n: usize)
     requires { ⌜ (policyOk (now policy) ≡ true) × (subjectCount (now policy) < 64) × (n ≤ labelMax) × (at + n ≤ length (now s)) ⌝ }
     ensures { λ _. ⌜ now (policy .exit) ≡ withSubject (now (policy .entry)) (take n (drop at (now (s .entry)))) ⌝ }
 {
@@ -146,7 +146,7 @@ pub fn add_subject(policy: &mut [u8], s: &[u8], at: usize, n: usize)
 }
 
 // Adds the isa line of subjects n and r.
-pub fn add_isa(policy: &mut [u8], n: usize, r: usize)
+pub(crate) fn add_isa(policy: &mut [u8], n: usize, r: usize)
     requires { ⌜ (policyOk (now policy) ≡ true) × (isaCount (now policy) < 128) × (n < subjectCount (now policy))
         × (r < subjectCount (now policy)) ⌝ }
     ensures { λ _. ⌜ now (policy .exit) ≡ withIsa (now (policy .entry)) n r ⌝ }
@@ -194,7 +194,7 @@ fn put_head(policy: &mut [u8], a: usize, accept: u8, bit: u8, who: u8, n: u8)
 }
 
 // Adds a rule: accept is 1 to accept and 0 to deny, bit the right's, who the subject's number, path the text of its path.
-pub fn add_rule(policy: &mut [u8], accept: u8, bit: u8, who: usize, path: &[u8])
+pub(crate) fn add_rule(policy: &mut [u8], accept: u8, bit: u8, who: usize, path: &[u8])
     requires { ⌜ (policyOk (now policy) ≡ true) × (ruleCount (now policy) < 128) × (who < subjectCount (now policy)) × Plain (now path) ⌝ }
     ensures { λ _. ⌜ now (policy .exit) ≡ withRule (now (policy .entry)) accept bit who (stepsIn (now (path .entry))) ⌝ }
 {

@@ -55,7 +55,7 @@ fn view_refusal(state: &[u8]) -> u8
 }
 
 // The refusal of a line that runs a path on the view.
-pub fn path_refusal(state: &[u8], path: &[u8]) -> u8
+pub(crate) fn path_refusal(state: &[u8], path: &[u8]) -> u8
     requires { ⌜ 2 ≤ length (now state) ⌝ }
     ensures { λ r. ⌜ r ≡ firstRefusal (onView (now (path .entry)) (now (state .entry))) ⌝ }
 {
@@ -127,7 +127,7 @@ pub fn view(state: &[u8], table: &[u8], area: &mut [u8]) -> Answer
 
 // Writes the asked rights of the user on each node, the numbers of the nodes that the user is shown and the marks of those that a path selects, and returns
 // how many are shown.
-pub fn select_user(
+pub(crate) fn select_user(
     state: &[u8],
     table: &[u8],
     path: &[u8],

@@ -45,7 +45,7 @@ pub const AREA_SHORT: u8 = 12;
 pub const BAD_STORE: u8 = 13;
 
 // The refusal of an answer of `need` bytes in an area of `room`.
-pub fn area_refusal(need: usize, room: usize) -> u8
+pub(crate) fn area_refusal(need: usize, room: usize) -> u8
     ensures { λ r. ⌜ r ≡ firstRefusal (areaCheck room need ∷ []) ⌝ }
 {
     if room < need {

@@ -67,7 +67,7 @@ fn session_ok(state: &[u8]) -> bool
 }
 
 // Whether a state is one that 13 lets pass, beside its table or alone, whatever was lent.
-pub fn state_ok(state: &[u8]) -> bool
+fn state_ok(state: &[u8]) -> bool
     ensures { λ r. ⌜ r ≡ stateOk (now (state .entry)) ⌝ }
 {
     if state.len() != STATE_BYTES {

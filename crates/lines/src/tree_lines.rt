@@ -37,7 +37,7 @@ ghost use Rattle.lines.specs.State.{stage, storeOk};
 ghost use Rattle.lines.specs.Work.{treeRestricted, labelCheck, insertChecks, rootChecks, workRoot, workChild};
 
 // The refusal of an insertion of a tree of m records at the marked places.
-pub fn insert_refusal(table: &[u8], marks: &[u8], tree: &[u8], m: usize, place: Place) -> u8
+pub(crate) fn insert_refusal(table: &[u8], marks: &[u8], tree: &[u8], m: usize, place: Place) -> u8
     requires { ⌜ (tableOk (now table) ≡ true) × (count (now table) ≤ length (now marks)) × (m * 32 ≤ length (now tree)) × (m ≤ recordsMax) ⌝ }
     ensures { λ r. ⌜ r ≡ firstRefusal (insertChecks place (marksOf (now (marks .entry))) m (now (tree .entry)) (now (table .entry))) ⌝ }
 {
@@ -63,7 +63,7 @@ fn record_restricted(tree: &[u8], at: usize) -> bool
 }
 
 // Whether one of the m records of a tree has that label (refusal 9).
-pub fn tree_restricted(tree: &[u8], m: usize) -> bool
+pub(crate) fn tree_restricted(tree: &[u8], m: usize) -> bool
     requires { ⌜ m * 32 ≤ length (now tree) ⌝ }
     ensures { λ r. ⌜ r ≡ treeRestricted m (now (tree .entry)) ⌝ }
 {
