@@ -45,7 +45,7 @@ module _ {E : Type 0} (lev : E → ℕ) where
   above-less j k [] h a = tt
   above-less j k (x ∷ y) h a = (omega (arith, a .0), above-less j k y h (a .1))
 
-  in-front : (k : ℕ) (y u : List E) → Front lev k u → putBehind lev k y u ≡ y ++ u
+  pub in-front : (k : ℕ) (y u : List E) → Front lev k u → putBehind lev k y u ≡ y ++ u
   unfolding putBehind
   in-front k y [] f = sym (append-nil y)
   in-front k y (x ∷ u) f = rw (le-ltb k (lev x) f)

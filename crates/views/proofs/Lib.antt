@@ -19,5 +19,6 @@ pub mod DepthLaws
 pub mod NestedLaws
 pub mod TableKept
 pub mod NodeLaws
+pub mod StoredTreeLaws
 pub mod KeptLaws
 pub mod AskedLaws

@@ -148,7 +148,7 @@ module _ {E : Type 0} (lev : E → ℕ) where
       record { below = z ∷ s .below; after = s .after; is = rw e (ap (λ (r : List E). z ∷ r) (s .is)); deeper = (omega (arith, ltb-true l (lev z) e), s .deeper); next = s .next })
       (λ e. record { below = []; after = z ∷ u; is = rw e; deeper = tt; next = ltb-false l (lev z) e })
 
-  front-less : (j k : ℕ) (t : List E) → j ≤ k → Front lev j t → Front lev k t
+  pub front-less : (j k : ℕ) (t : List E) → j ≤ k → Front lev j t → Front lev k t
   front-less j k [] h f = tt
   front-less j k (x ∷ t) h f = omega (arith, h, f)
 

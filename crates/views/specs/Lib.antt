@@ -2,4 +2,5 @@ pub mod Shown
 pub mod Done
 pub mod Change
 pub mod Nodes
+pub mod StoredTree
 pub mod How
