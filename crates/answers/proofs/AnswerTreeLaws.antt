@@ -12,7 +12,8 @@ use Rattle.rights.specs.Nodes.{Node, node, levelAt, TreeShaped}
 use Rattle.answers.specs.Answer.{opening, closing, nextLevel, childLines, viewText}
 use Rattle.rights.specs.Bytes.{bytes}
 use Rattle.rights.specs.Tree.{Tree, tree, Trees, none, more, writeTree, writeTrees, nodesOf, nodesIn}
-use Rattle.answers.specs.AnswerTree.{linesOf, treeText}
+use Rattle.answers.specs.AnswerTree.{linesOf, treeText, Printed}
+use Rattle.rights.specs.PathText.{decimal}
 
 -- what stands before a tree of level l
 abbrev start : ℕ → List ℕ
@@ -136,3 +137,21 @@ tree-of-view (node l x ∷ ns) h n =
     go ([], e, q) = absurd (omega arith)
     go (f ∷ [], e, q) = (tree x f, let z : l ≡ 0 = n .root in rw z (ap (node 0 x ∷_) (sym (append-nil (nodesIn 1 f)) ∙ q)))
     go (f ∷ (g ∷ gs), e, q) = absurd (omega arith)
+
+-- So is what is printed of a view that shows something.
+pub view-printed : (vs : List Node) → 0 < length vs → TreeShaped vs → Printed vs (viewText vs)
+unfolding treeText
+view-printed vs h n = go (tree-of-view vs h n)
+  where
+    go : (t : Tree) × (nodesOf 0 t ≡ vs) → Printed vs (viewText vs)
+    go (tree l ts, e) = record {
+      label = l;
+      children = ts;
+      nodes = sym e;
+      is = ap viewText (sym e) ∙ view-of-tree (tree l ts) ∙ rw e (append-assoc (bytes "(root ") (l ++ bytes ")\n") _ ∙ ap (λ (u : List ℕ). bytes "(root " ++ u) (append-assoc l (bytes ")\n") _));
+    }
+
+-- and nothing but this where nothing is shown
+pub view-empty : viewText [] ≡ bytes "(end 0)\n"
+unfolding viewText decimal
+view-empty = refl

@@ -12,12 +12,16 @@ use Rattle.forms.specs.Form.{readForm}
 use Rattle.forms.specs.Text.{lineOk}
 use Rattle.lines.specs.State.{stage, storeOk}
 use Rattle.lines.specs.Effect.{stateAfter, tableAfter, Work, guarded, checksIn, performed}
-use Rattle.lines.specs.Outcome.{says, refuses, Outcome}
+use Rattle.lines.specs.Outcome.{Reply, says, refuses, Outcome}
 use Rattle.lines.specs.Refusal.{areaCheck}
 use Rattle.store.specs.Line.{stageOf, inStage, lineChecks, step}
 use Rattle.guarantee.proofs.CheckLaws.{passed-both, Refused, Went, checked-cases}
 use Rattle.guarantee.proofs.Sound.{EffectSound}
 use Rattle.guarantee.proofs.FormLaws.{workIn, read-law}
+
+abbrev saidBy : Reply → List ℕ
+saidBy (says b) = b
+saidBy (refuses n) = []
 
 module _ (choice : Choice) (s t line : List ℕ) where
   -- the work of the form that was read
@@ -74,6 +78,10 @@ module _ (choice : Choice) (s t line : List ℕ) where
         go : Refused s t (step choice s t line room) ⊎ Accepted room → Accepted room
         go (inl x) = absurd (let q : refuses (x .number) ≡ says b = sym (ap (λ (o : Outcome). o .reply) (x .is)) ∙ e in let z : _≡_ {A = ℕ} 0 1 = cc in omega arith)
         go (inr x) = x
+
+    -- and says what the work of its form says
+    pub answer-is : (b : List ℕ) → step choice s t line room .reply ≡ says b → b ≡ lineWork .text
+    answer-is b e = ap saidBy (sym e ∙ ap (λ (o : Outcome). o .reply) (accepted b e .is))
 
     -- What holds of the store before, and of the store after every effect that is sound, holds after every line.
     pub after-line : (Q : List ℕ → List ℕ → Type 0) → Q s t

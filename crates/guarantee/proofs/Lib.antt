@@ -21,6 +21,8 @@ pub mod KeptNodes
 pub mod Identity
 pub mod RightsKept
 pub mod RunKept
+pub mod InsertionStep
+pub mod ViewStep
 pub mod Demand
 pub mod Cases
 pub mod Demand3

@@ -70,7 +70,7 @@ module _ (s t : List ℕ) (h : Held s t) where
       let e = agree (eqb (stage s) 4) (leb 1 (userByte s)) (h .logged) ∙ ne-eqb (stage s) 4 (λ q. omega arith) in
       omega (arith, leb-false 1 (userByte s) e)
 
-  root-held : 2 ≤ stage s → 1 ≤ count t
+  pub root-held : 2 ≤ stage s → 1 ≤ count t
   root-held l = leb-true 1 (count t) (agree (leb 2 (stage s)) (leb 1 (count t)) (h .root) ∙ le-leb 2 (stage s) l)
 
   no-root : stage s < 2 → leb 1 (count t) ≡ false

@@ -18,8 +18,9 @@ use Rattle.rights.specs.Nodes.{Node, node, Nodes, levelOf, levelAt, TreeShaped}
 use Rattle.rights.specs.How.Numbers.{recordPlace, seen, viewOf, Fits}
 use Rattle.rights.proofs.TableLaws.{both, record-levels}
 use Rattle.rights.proofs.ListLaws.{byCase}
-use Rattle.views.specs.Shown.{Stored, storedFrom, stored, storedLevel, granted, shown, carried, view}
+use Rattle.views.specs.Shown.{Stored, storedFrom, stored, storedLevel, grants, granted, shown, carried, view}
 use Rattle.views.specs.Nodes.{All}
+use Rattle.views.specs.StoredTree.{nodeIn, storedNodes}
 use Rattle.views.specs.How.Numbers.{isShownAt, shownFrom, shownNumber, shownNumbers}
 use Rattle.views.proofs.StoredLaws.{record-text, table-by-depth}
 use Rattle.views.proofs.TableLaws.{facts}
@@ -177,6 +178,43 @@ nested-from i (r ∷ rs) (s ∷ ss) e =
 -- the view of a table is a tree, or nothing
 pub view-nested : (t ss : List ℕ) → tableOk t ≡ true → TreeShaped (view (stored t ss))
 view-nested t ss ok = rw (table-by-depth t ss ok) (nested-from 0 (records t) ss (facts t ok .nested))
+
+-- nothing, if the root is hidden: "the user has read or position on it and its parent is shown (the root's counts as shown)"
+hidden-from : (i : ℕ) (rs : List (List ℕ)) (ss : List ℕ) → recordsOk 0 0 rs ≡ true → grants (getD ss 0 0) ≡ false → viewFrom 0 (storedFrom i rs ss) ≡ []
+unfolding storedFrom shownFrom keep
+hidden-from i [] ss e h = refl
+hidden-from i (r ∷ rs) [] e h = refl
+hidden-from i (r ∷ rs) (s ∷ ss) e h = let z : min 0 (level r) ≡ 0 = omega arith in rw (h, z) (hidden-root (level r + 1) (suc i) rs ss (levels 0 0 r rs e .2))
+
+pub view-hidden : (t ss : List ℕ) → tableOk t ≡ true → grants (getD ss 0 0) ≡ false → view (stored t ss) ≡ []
+view-hidden t ss ok h = rw (table-by-depth t ss ok) (hidden-from 0 (records t) ss (facts t ok .nested) h)
+
+-- and something otherwise
+shown-from : (i : ℕ) (rs : List (List ℕ)) (ss : List ℕ) → recordsOk 0 0 rs ≡ true → 0 < length rs → 0 < length ss → grants (getD ss 0 0) ≡ true
+    → 0 < length (viewFrom 0 (storedFrom i rs ss))
+unfolding storedFrom shownFrom keep
+shown-from i [] ss e h k g = absurd (omega arith)
+shown-from i (r ∷ rs) [] e h k g = absurd (omega arith)
+shown-from i (r ∷ rs) (s ∷ ss) e h k g = rw (g, le-leb (level r) 0 (levels 0 0 r rs e .1)) (omega arith)
+
+pub view-rooted : (t ss : List ℕ) → tableOk t ≡ true → 0 < length (records t) → 0 < length ss → grants (getD ss 0 0) ≡ true → 0 < length (view (stored t ss))
+view-rooted t ss ok h k g = rw (table-by-depth t ss ok) (shown-from 0 (records t) ss (facts t ok .nested) h k g)
+
+-- and so is the stored tree
+linked-stored : (l high : ℕ) (rs : List (List ℕ)) → high ≤ suc l → recordsOk 1 high rs ≡ true → Linked l (map nodeIn rs)
+linked-stored l high [] h e = tt
+linked-stored l high (r ∷ rs) h e =
+    let w = levels 1 high r rs e in
+    (w .0, omega arith, linked-stored (level r) (level r + 1) rs (omega arith) (w .2))
+
+nested-stored : (rs : List (List ℕ)) → recordsOk 0 0 rs ≡ true → TreeShaped (map nodeIn rs)
+nested-stored [] e = nothing-nested
+nested-stored (r ∷ rs) e =
+    let w = levels 0 0 r rs e in
+    linked-nested (nodeIn r) (map nodeIn rs) (omega (arith, w .1)) (linked-stored (level r) (level r + 1) rs (omega arith) (w .2))
+
+pub stored-nested : (t : List ℕ) → tableOk t ≡ true → TreeShaped (storedNodes t)
+stored-nested t ok = nested-stored (records t) (facts t ok .nested)
 
 -- What the passes of a selection ask of the numbers
 

@@ -1,12 +1,13 @@
 -- The stored tree, and where an insertion puts a tree in it (document 01, "Changes"): "The tree lands directly beside it, or as last child in the stored tree."
 -- A node's number is its place in document order, which is that of its record in the table.
-use Prim.Native.Nat.{ℕ, suc, _+_}
+use Prim.Native.Nat.{ℕ, suc, _+_, _*_}
 use mathlib.Core.Path.{_≡_}
 use mathlib.Core.Bool.{Bool, true, false, _&&_}
 use mathlib.Core.List.{List, map}
-use lib.ListN.{length}
+use lib.ListN.{length, getD}
+use Rattle.rights.specs.Marks.{markCount}
 use Rattle.rights.specs.Nodes.{Node, node, Nodes}
-use Rattle.rights.specs.Table.{records, level, label}
+use Rattle.rights.specs.Table.{records, level, label, count}
 use Rattle.rights.specs.Tree.{Tree, tree, Trees, none, more, nodesOf}
 use Rattle.views.specs.declared.insert.Place.{Place}
 use Rattle.views.specs.declared.insert.Place.the-variants.{Append, After, Before}
@@ -62,3 +63,10 @@ module _ (place : Place) (done : ℕ → Bool) (new : Tree) where
         (more (inserted n t)
         (landing (isAfter place && done n) new
         (insertedAmong (n + size t) ts last)))
+
+-- What an insertion of the tree `new` makes of the table t, at the nodes that are marked as done: t holds a tree, and t' holds it with `new` inserted at every node that
+-- is done and at no other; it has D × tree size records more.
+pub record Lands (place : Place) (done : List Bool) (new : Tree) (t t' : List ℕ) : Type 0 where
+  pub held : (u : Tree) × HoldsTree t u
+  pub lands : (u : Tree) → HoldsTree t u → HoldsTree t' (inserted place (λ n. getD done n false) new 0 u)
+  pub counted : count t' ≡ count t + markCount done * size new

@@ -1,0 +1,140 @@
+-- Every accepted insertion, from the table before the line to the table after it: "The tree lands directly beside it, or as last child in the stored tree." Assumes
+-- nothing.
+use Prim.Native.Nat.{ℕ, zero, suc, _+_, _*_, _≤_, min}
+use mathlib.Core.Path.{_≡_, refl, sym, ap, ap₂, subst, _∙_}
+use mathlib.Core.Bool.{Bool, true, and-eq-true-iff}
+use mathlib.Core.List.{List, [], _∷_, map}
+use native.Mathlib.Omega.{arith}
+use borrow.Author.Tests.{leb-true}
+use lib.ListN.{length, take, length-map}
+use lib.Seq.{take-all}
+use Rattle.rights.specs.Marks.{markCount}
+use Rattle.rights.specs.Nodes.{Node, node}
+use Rattle.rights.specs.Record.{noSpare}
+use Rattle.rights.specs.Table.{count, records, tableOk}
+use Rattle.rights.specs.Tree.{Tree, nodesOf}
+use Rattle.rights.proofs.RecordOfLaws.{level-made, label-made}
+use Rattle.views.specs.Change.{chunks}
+use Rattle.views.specs.StoredTree.{nodeIn, storedNodes, HoldsTree, size, Lands}
+use Rattle.views.specs.declared.done.Change.{Change}
+use Rattle.views.specs.declared.done.Change.the-variants as change
+use Rattle.views.specs.declared.insert.Place.{Place}
+use Rattle.views.specs.declared.insert.Place.the-variants as place
+use Rattle.views.proofs.StoredTreeLaws.{placed-in-tree}
+use Rattle.views.proofs.TableKept.{length-records, length-placed}
+use Rattle.views.proofs.ViewLaws.{stored-nested}
+use Rattle.answers.specs.Answer.{okText, doneText}
+use Rattle.answers.specs.AnswerChoice.{Choice}
+use Rattle.answers.proofs.AnswerTreeLaws.{tree-of-view}
+use Rattle.forms.specs.Form.{readForm, treeIn}
+use Rattle.forms.specs.Text.{lineOk}
+use Rattle.forms.specs.Tree.{held, recordsOf}
+use Rattle.forms.specs.declared.form.Part.{Part}
+use Rattle.forms.specs.declared.form.Form.{Form}
+use Rattle.forms.specs.declared.form.Form.the-variants as form
+use Rattle.forms.proofs.TreeTextLaws.{UpTo, levels-held}
+use Rattle.lines.specs.Effect.{Effect, insertion, tableAfter}
+use Rattle.lines.specs.Outcome.{says, Outcome}
+use Rattle.lines.specs.UserView.{marksIn, doneIn}
+use Rattle.lines.specs.Work.{rootAlone}
+use Rattle.lines.proofs.ChangeLaws.{done-size}
+use Rattle.lines.proofs.StateLaws.{store-held}
+use Rattle.lines.specs.State.{stageD, stage}
+use Rattle.store.specs.Line.{bytesOf, step}
+use Rattle.store.proofs.FormParts.{TreePart, Fits, form-fits}
+use Rattle.guarantee.proofs.Accepted.{Accepted, lineWork, accepted, answer-is}
+use Rattle.guarantee.proofs.FormLaws.{workIn}
+use Rattle.guarantee.proofs.Sound.{EffectSound, InsertSound}
+use Rattle.guarantee.proofs.StoreKept.{root-held}
+use Rattle.guarantee.proofs.TableAfter.{table-after, recordsAfter}
+use Rattle.guarantee.proofs.TreeRecords.{nodeRecords, tree-records}
+
+-- A table that passes and has a root holds a tree.
+pub table-tree : (t : List ℕ) → tableOk t ≡ true → 1 ≤ count t → (u : Tree) × HoldsTree t u
+table-tree t ok h =
+    let x = tree-of-view (storedNodes t) (omega (arith, h, length-map (records t) nodeIn, length-records t)) (stored-nested t ok) in
+    (x .0, sym (x .1))
+
+-- what the records of nodes say
+nodes-back : (ns : List Node) → UpTo 255 ns → map nodeIn (nodeRecords ns) ≡ ns
+nodes-back [] u = refl
+nodes-back (node l x ∷ ns) u =
+    let e : held l ≡ l = omega (arith, u .0) in
+    ap₂ (λ (n : Node) (r : List Node). n ∷ r) (ap₂ node (level-made (held l) x noSpare ∙ e) (label-made (held l) x noSpare)) (nodes-back ns (u .1))
+
+short-line : (line : List ℕ) → lineOk line ≡ true → length line ≤ 1024
+unfolding lineOk
+short-line line ok = let f = simp (lineOk, and-eq-true-iff) at ok in leb-true (length line) 1024 (f .0)
+
+-- the records of the line's tree are its nodes
+line-tree : (line : List ℕ) (m : ℕ) (new : Tree) → lineOk line ≡ true → TreePart line m → treeIn line ≡ nodesOf 0 new
+    → (map nodeIn (chunks m (recordsOf (treeIn line))) ≡ nodesOf 0 new) × (m ≡ size new)
+line-tree line m new ok x e =
+    let h : UpTo 255 (nodesOf 0 (x .is)) = levels-held (x .is) (x .good) (omega (arith, x .short, short-line line ok)) in
+    (ap (map nodeIn) (tree-records line m x) ∙ nodes-back (nodesOf 0 (x .is)) h ∙ sym (x .nodes) ∙ e, x .size ∙ ap length e)
+
+root-marked : (n : ℕ) → 1 ≤ n → markCount (take n rootAlone) ≡ markCount rootAlone
+root-marked zero h = absurd (omega arith)
+root-marked (suc zero) h = refl
+root-marked (suc (suc n)) h = refl
+
+module _ (choice : Choice) (s t line : List ℕ) (room : ℕ) (text : List ℕ) (answered : step choice s t line room .reply ≡ says text) where
+  taken : Accepted choice s t line room
+  taken = accepted choice s t line room text answered
+
+  module _ (new : Tree) (said : treeIn line ≡ nodesOf 0 new) where
+    lands-by : (at : Place) (ms : List Bool) (m g : ℕ) → lineWork choice s t line .effect ≡ insertion at ms m (recordsOf (treeIn line)) g → TreePart line m
+        → (1 ≤ count t → markCount (take (count t) ms) ≡ markCount ms) → Lands at ms new t (step choice s t line room .table)
+    lands-by at ms m g e x c =
+        let h = store-held s t (taken .passes) in
+        let tree : List ℕ = recordsOf (treeIn line) in
+        let sound : InsertSound s t at ms m tree g = subst (λ (f : Effect). EffectSound (readForm line) line s t f) e (taken .sound) in
+        let a = table-after (readForm line) line s t (h .table) (insertion at ms m tree g) sound in
+        let t' : step choice s t line room .table ≡ tableAfter (insertion at ms m tree g) t = ap (λ (o : Outcome). o .table) (taken .is) ∙ ap (λ (f : Effect). tableAfter f t) e in
+        let y = line-tree line m new (taken .bytes) x said in
+        let r : 1 ≤ count t = root-held s t h (sound .rooted) in
+        record {
+          held = table-tree t (h .table) r;
+          lands = λ u k. rw t' (ap (map nodeIn) (a .held) ∙ placed-in-tree at m tree ms (records t) new u k (y .0) (sound .spared));
+          counted =
+              rw t' (sym (length-records (tableAfter (insertion at ms m tree g) t)) ∙ ap length (a .held) ∙ length-placed at t ms tree m ∙ ap₂ (λ (d n : ℕ). count t + d * n) (c r) (y .1));
+        }
+
+    all-marks : (c : Change) (path : List ℕ) → markCount (take (count t) (doneIn c s t path)) ≡ markCount (doneIn c s t path)
+    all-marks c path = ap markCount (take-all (count t) (doneIn c s t path) (omega (arith, done-size c s t path)))
+
+    marked-by : (c : Change) (at : Place) (p : Part) (m : ℕ) (f : Form) → readForm line ≡ f
+        → workIn choice line f s t .effect ≡ insertion at (doneIn c s t (bytesOf line p)) m (recordsOf (treeIn line)) (stage s)
+        → workIn choice line f s t .text ≡ doneText (markCount (marksIn s t (bytesOf line p))) (markCount (doneIn c s t (bytesOf line p)))
+        → TreePart line m
+        → Lands at (doneIn c s t (bytesOf line p)) new t (step choice s t line room .table)
+        × (text ≡ doneText (markCount (marksIn s t (bytesOf line p))) (markCount (doneIn c s t (bytesOf line p))))
+    marked-by c at p m f q e d x = (
+      lands-by at (doneIn c s t (bytesOf line p)) m (stage s) (ap (λ (f : Form). workIn choice line f s t .effect) q ∙ e) x (λ r. all-marks c (bytesOf line p)),
+      answer-is choice s t line room text answered ∙ ap (λ (f : Form). workIn choice line f s t .text) q ∙ d,
+    )
+
+    -- An accepted `(append P TREE)` leaves the stored tree with TREE as the last child of every node that is done, and of no other, and says how many these are.
+    pub append-lands : (p : Part) (m : ℕ) → readForm line ≡ form.Append p m
+        → Lands place.Append (doneIn change.Append s t (bytesOf line p)) new t (step choice s t line room .table)
+        × (text ≡ doneText (markCount (marksIn s t (bytesOf line p))) (markCount (doneIn change.Append s t (bytesOf line p))))
+    append-lands p m q = marked-by change.Append place.Append p m (form.Append p m) q refl refl (subst (Fits line) q (form-fits line))
+
+    -- An accepted `(before P TREE)`: directly before every node that is done.
+    pub before-lands : (p : Part) (m : ℕ) → readForm line ≡ form.Before p m
+        → Lands place.Before (doneIn change.Before s t (bytesOf line p)) new t (step choice s t line room .table)
+        × (text ≡ doneText (markCount (marksIn s t (bytesOf line p))) (markCount (doneIn change.Before s t (bytesOf line p))))
+    before-lands p m q = marked-by change.Before place.Before p m (form.Before p m) q refl refl (subst (Fits line) q (form-fits line))
+
+    -- An accepted `(after P TREE)`: directly after every node that is done.
+    pub after-lands : (p : Part) (m : ℕ) → readForm line ≡ form.After p m
+        → Lands place.After (doneIn change.After s t (bytesOf line p)) new t (step choice s t line room .table)
+        × (text ≡ doneText (markCount (marksIn s t (bytesOf line p))) (markCount (doneIn change.After s t (bytesOf line p))))
+    after-lands p m q = marked-by change.After place.After p m (form.After p m) q refl refl (subst (Fits line) q (form-fits line))
+
+    -- An accepted `(child TREE)`: "last child of the root".
+    pub child-lands : (m : ℕ) → readForm line ≡ form.Child m → Lands place.Append rootAlone new t (step choice s t line room .table) × (text ≡ okText)
+    child-lands m q = (
+      lands-by place.Append rootAlone m stageD (ap (λ (f : Form). workIn choice line f s t .effect) q) (subst (Fits line) q (form-fits line)) (root-marked (count t)),
+      answer-is choice s t line room text answered ∙ ap (λ (f : Form). workIn choice line f s t .text) q,
+    )
