@@ -5,3 +5,4 @@ pub mod ReaderLaws
 pub mod FormLaws
 pub mod TreeTextLaws
 pub mod FormTextLaws
+pub mod CommandLaws

@@ -1,8 +1,8 @@
 -- How a line's form is read (document 01, "Lines"): its word, then the parts of the word's shape. What is read stands in FormText.
-use Prim.Native.Nat.{ℕ, suc, _+_}
+use Prim.Native.Nat.{ℕ, suc, _+_, _-_}
 use mathlib.Core.Bool.{Bool, cond, _&&_}
 use mathlib.Core.List.{List, [], _∷_, _++_}
-use lib.ListN.{length, getD}
+use lib.ListN.{length, getD, take, drop}
 use lib.Dec.{leb, eqb}
 use Rattle.rights.specs.Bytes.{byteAt}
 use Rattle.rights.specs.Labels.{labelByte}
@@ -53,6 +53,10 @@ part a b = record { at = a + 1; end = b }
 -- the part that stands after place i
 abbrev pub partAt : (ℕ → ℕ) → ℕ → Part
 partAt e i = part (e i) (e (suc i))
+
+-- the bytes of a part of a line
+abbrev pub bytesOf : List ℕ → Part → List ℕ
+bytesOf line p = take (p .end - p .at) (drop (p .at) line)
 
 -- where the tree of a shape stands, whose first part stands after place i
 unfoldable pub treePlace : List Kind → ℕ → (ℕ → ℕ) → Read

@@ -7,4 +7,5 @@ pub mod Layout
 pub mod Form
 pub mod TreeText
 pub mod FormText
+pub mod Command
 pub mod How

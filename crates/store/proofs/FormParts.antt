@@ -1,11 +1,10 @@
 -- What the parts of a form that was read are: a new label is a good one, a right is one of the five, a tree is a good tree.
 -- Assumes nothing.
-use Prim.Native.Nat.{ℕ, suc, _+_, _-_, _*_, _≤_}
+use Prim.Native.Nat.{ℕ, suc, _+_, _*_, _≤_}
 use mathlib.Core.Path.{_≡_, refl, ap}
 use mathlib.Core.List.{List, [], _∷_, _++_}
 use native.Mathlib.Omega.{arith}
-use lib.ListN.{length, drop, length-append, length-drop}
-use lib.Seq.{take-at}
+use lib.ListN.{length, length-append}
 use Rattle.rights.specs.Policy.{Right, bitOf}
 use mathlib.Core.Logic.{_⊎_, inl, inr}
 use Rattle.forms.specs.declared.layout.Word.{Word}
@@ -19,10 +18,10 @@ use Rattle.forms.specs.TreeText.{GoodTree, GoodTrees, GoodLabel}
 use Rattle.forms.specs.Kind.{Kind}
 use Rattle.forms.specs.Kind as kind
 use Rattle.forms.specs.Layout.{shapeOf}
-use Rattle.forms.specs.Form.{part, placeIn, formWith, readForm, treeIn}
-use Rattle.forms.specs.FormText.{Value, Values, Said, writeValue, writeValues, GoodValue, GoodValues, write, Good, nodesOr, nodesSaid}
-use Rattle.store.specs.Line.{bytesOf}
-use Rattle.forms.proofs.FormTextLaws.{right-reads, part-after, values-stop, placesOf, endOf, after-word, written-form, written-tree, read-or-none}
+use Rattle.forms.specs.Form.{part, bytesOf, placeIn, formWith, readForm, treeIn}
+use Rattle.forms.specs.FormText.{Values, Said, writeValue, GoodValue, GoodValues, write, Good, nodesOr, nodesSaid}
+use Rattle.forms.proofs.FormTextLaws.{right-reads, values-stop, placesOf, endOf, after-word, written-form, written-tree, read-or-none}
+use Rattle.forms.proofs.CommandLaws.{PartSaid, AllSaid, all-said}
 
 -- a part that holds a good label
 abbrev pub LabelPart : List ℕ → Part → Type 0
@@ -55,29 +54,6 @@ Fits s (form.Before p m) = TreePart s m
 Fits s (form.After p m) = TreePart s m
 Fits s (form.Remove p) = Unit {0}
 Fits s form.NoForm = Unit {0}
-
--- the part of kind k at place a, after a space: it stands within the line and holds what it says, and the parts ks follow it
-record PartSaid (s : List ℕ) (a : ℕ) (k : Kind) (v : Value k) (ks : List Kind) (vs : Values ks) : Type 0 where
-  inside : a + 1 + length (writeValue k v) ≤ length s
-  holds : bytesOf s (part a (a + 1 + length (writeValue k v))) ≡ writeValue k v
-  follows : drop (a + 1) s ≡ writeValue k v ++ writeValues ks vs
-
-abbrev AllSaid : List ℕ → ℕ → (ks : List Kind) → Values ks → Type 0
-AllSaid s a [] vs = Unit {0}
-AllSaid s a (k ∷ ks) (v, vs) = PartSaid s a k v ks vs × AllSaid s (a + 1 + length (writeValue k v)) ks vs
-
-all-said : (s : List ℕ) (a : ℕ) (ks : List Kind) (vs : Values ks) → drop a s ≡ writeValues ks vs → AllSaid s a ks vs
-all-said s a [] vs e = tt
-all-said s a (k ∷ ks) (v, vs) e =
-    let d = part-after k v s a (writeValues ks vs) e in
-    let z : a + 1 + length (writeValue k v) - (a + 1) ≡ length (writeValue k v) = omega arith in (
-      record {
-        inside = omega (arith, length-drop a s, ap length e, length-append (writeValue k v) (writeValues ks vs));
-        holds = rw (z, d .0) (take-at (writeValue k v) (writeValues ks vs) (length (writeValue k v)) refl);
-        follows = d .0;
-      },
-      all-said s (a + 1 + length (writeValue k v)) ks vs (d .1),
-    )
 
 -- a node takes three bytes or more of the text
 mutual

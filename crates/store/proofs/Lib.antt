@@ -1,3 +1,4 @@
 pub mod FormParts
 pub mod LineLaws
 pub mod ChecksOrdered
+pub mod ClauseLaws

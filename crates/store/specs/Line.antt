@@ -1,17 +1,16 @@
 -- One line of any form: `step` (document 01, "Lines", "Who can be turned down"). "13 is tested first, then 1 to 12 rising."
-use Prim.Native.Nat.{ℕ, _-_}
+use Prim.Native.Nat.{ℕ}
 use mathlib.Core.Bool.{Bool, true, cond, not, _&&_, Bool·beq}
 use mathlib.Core.List.{List, [], _∷_, _++_}
 use lib.Dec.{leb, ltb, eqb}
-use lib.ListN.{take, drop}
 use Rattle.views.specs.declared.done.Change.the-variants as change
 use Rattle.views.specs.declared.insert.Place.the-variants as place
-use Rattle.forms.specs.declared.form.Part.{Part}
 use Rattle.forms.specs.declared.form.Form.{Form}
 use Rattle.forms.specs.declared.form.Form.the-variants as form
 use Rattle.forms.specs.Text.{lineOk}
 use Rattle.forms.specs.Tree.{recordsOf}
 use Rattle.forms.specs.Form.{readForm, treeIn}
+pub use Rattle.forms.specs.Form.{bytesOf}
 use Rattle.answers.specs.AnswerChoice.{Choice}
 use Rattle.lines.specs.State.{stageA, stageB, stageC, stageD, stageE, stage, storeOk}
 use Rattle.lines.specs.Outcome.{Outcome}
@@ -51,10 +50,6 @@ inStage k g = leb g k && Bool·beq (ltb stageC k) (leb stageC g)
 -- "2 no form listed above": it belongs to no stage
 abbrev pub isNoForm : Form → Bool
 isNoForm f = eqb (stageOf f) noStage
-
--- the bytes of a part of a line
-abbrev pub bytesOf : List ℕ → Part → List ℕ
-bytesOf line p = take (p .end - p .at) (drop (p .at) line)
 
 -- 1 for accept, 0 for deny
 abbrev pub acceptByte : Bool → ℕ

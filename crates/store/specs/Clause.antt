@@ -1,0 +1,72 @@
+-- What each form does, on the values that its line writes (document 01, "Lines", "Changes", "What is written", "Who can be turned down"): one clause a form.
+-- Law step-written: the answer to a line that writes a command is the command's clause; no other line is any (law step-unwritten).
+use Prim.Native.Nat.{ℕ}
+use mathlib.Core.Bool.{not}
+use mathlib.Core.List.{List, [], _∷_}
+use lib.ListN.{length}
+use Rattle.rights.specs.Policy.{bitOf}
+use Rattle.rights.specs.Tree.{Tree, nodesOf}
+use Rattle.views.specs.declared.done.Change.the-variants as change
+use Rattle.views.specs.declared.insert.Place.the-variants as place
+use Rattle.forms.specs.Text.{lineOk}
+use Rattle.forms.specs.Tree.{recordsOf}
+use Rattle.forms.specs.Command.{Command, written}
+use Rattle.forms.specs.Command as command
+use Rattle.answers.specs.AnswerChoice.{Choice}
+use Rattle.lines.specs.State.{stageA, stageB, stageC, stageD, stageE, stage, storeOk}
+use Rattle.lines.specs.Refusal.{Check, check, badStore, badLine, wrongStage}
+use Rattle.lines.specs.Effect.{Work}
+use Rattle.lines.specs.Work.{workSubject, workIsa, workRule, workRoot, workChild, workUser, workView, workAsk, workRename, workInsert, workRemove}
+use Rattle.lines.specs.declared.queries.Ask.the-variants as ask
+use Rattle.store.specs.Line.{inStage, acceptByte}
+
+-- "Stages, in order"
+abbrev pub stageFor : Command → ℕ
+stageFor (command.subject n) = stageA
+stageFor (command.isa n r) = stageA
+stageFor (command.rule a r p n) = stageB
+stageFor (command.root l) = stageC
+stageFor (command.child u) = stageD
+stageFor (command.user n) = stageE
+stageFor command.view = stageE
+stageFor (command.query p) = stageE
+stageFor (command.find p) = stageE
+stageFor (command.rename p l) = stageE
+stageFor (command.update p l) = stageE
+stageFor (command.append p u) = stageE
+stageFor (command.before p u) = stageE
+stageFor (command.after p u) = stageE
+stageFor (command.remove p) = stageE
+
+-- how many nodes a tree has, and their records, the root at level 0
+abbrev pub sizeOf : Tree → ℕ
+sizeOf u = length (nodesOf 0 u)
+
+abbrev pub treeBytes : Tree → List ℕ
+treeBytes u = recordsOf (nodesOf 0 u)
+
+-- the form's own checks, its answer and its effect on the state s and the table t, at a choice of `find`
+abbrev pub clause : Choice → Command → List ℕ → List ℕ → Work
+clause choice (command.subject n) s t = workSubject s n
+clause choice (command.isa n r) s t = workIsa s n r
+clause choice (command.rule a r p n) s t = workRule s (acceptByte a) (bitOf r) p n
+clause choice (command.root l) s t = workRoot t l
+clause choice (command.child u) s t = workChild t (sizeOf u) (treeBytes u)
+clause choice (command.user n) s t = workUser s n
+clause choice command.view s t = workView s t
+clause choice (command.query p) s t = workAsk choice ask.Query s t p
+clause choice (command.find p) s t = workAsk choice ask.Find s t p
+clause choice (command.rename p l) s t = workRename change.Rename s t p l
+clause choice (command.update p l) s t = workRename change.Update s t p l
+clause choice (command.append p u) s t = workInsert place.Append s t p (sizeOf u) (treeBytes u)
+clause choice (command.before p u) s t = workInsert place.Before s t p (sizeOf u) (treeBytes u)
+clause choice (command.after p u) s t = workInsert place.After s t p (sizeOf u) (treeBytes u)
+clause choice (command.remove p) s t = workRemove s t p
+
+-- the checks in front of a form's own: 13, 1 and 3
+abbrev pub frontChecks : Command → List ℕ → List ℕ → List Check
+frontChecks c s t =
+    check badStore (not (storeOk s t))
+    ∷ check badLine (not (lineOk (written c)))
+    ∷ check wrongStage (not (inStage (stageFor c) (stage s)))
+    ∷ []
