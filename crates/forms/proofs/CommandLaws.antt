@@ -1,12 +1,18 @@
 -- A command that is written is read as its own form with its own values; every other line is no form (refusal 2). Assumes nothing.
-use Prim.Native.Nat.{ℕ, _+_, _-_, _≤_}
-use mathlib.Core.Path.{_≡_, refl, sym, ap, ap₂, subst, _∙_}
-use mathlib.Core.Bool.{Bool}
+use Prim.Native.Nat.{ℕ, _+_, _-_, _≤_, _<_}
+use mathlib.Core.Path.{_≡_, refl, sym, ap, ap₂, subst, fun-ext, _∙_}
+use mathlib.Core.Bool.{Bool, true, Bool·beq}
 use mathlib.Core.List.{List, [], _∷_, _++_}
-use mathlib.Core.Logic.{_↔_}
+use mathlib.Core.Logic.{_⊎_, inl, inr, ⊎-elim, _↔_}
 use native.Mathlib.Omega.{arith}
 use lib.ListN.{length, drop, length-append, length-drop}
 use lib.Seq.{take-at}
+use lib.Dec.{T}
+use borrow.Author.Tests.{le-leb, lt-leb}
+use Rattle.rights.specs.Bytes.{all}
+use Rattle.rights.proofs.RangeLaws.{on-range, beq-eq, lt-or-ge}
+use Rattle.forms.specs.Part.{pathByte}
+use Rattle.forms.specs.Text.{lineByte}
 use Rattle.rights.specs.Policy.{Right, bitOf}
 use Rattle.rights.specs.Tree.{nodesOf}
 use Rattle.forms.specs.declared.layout.Word.{Word}
@@ -18,9 +24,9 @@ use Rattle.forms.specs.Kind.{Kind, Path, Label, Sign, Right as RightKind
 use Rattle.forms.specs.Layout.{letters, shapeOf}
 use Rattle.forms.specs.Form.{part, partAt, bytesOf, placeIn, formWith, readForm, treeIn}
 use Rattle.forms.specs.FormText.{Value, Values, Said, writeValue, writeValues, write, GoodValue, GoodValues, Good, nodesOr, nodesSaid}
-use Rattle.forms.specs.Command.{Command, written, GoodCommand}
+use Rattle.forms.specs.Command.{Command, written, GoodCommand, GoodPath, runByte}
 use Rattle.forms.specs.Command as command
-use Rattle.forms.proofs.FormTextLaws.{sign-reads, right-reads, part-after, values-stop, placesOf, endOf, after-word, written-form, written-tree, read-said, refused-none, unique}
+use Rattle.forms.proofs.FormTextLaws.{sign-reads, right-reads, part-after, values-stop, placesOf, endOf, after-word, written-form, written-tree, read-or-none, refused-none, unique}
 
 -- The part of kind k at place a, after a space: it stands within the line and holds what it says, and the parts ks follow it
 pub record PartSaid (s : List ℕ) (a : ℕ) (k : Kind) (v : Value k) (ks : List Kind) (vs : Values ks) : Type 0 where
@@ -44,6 +50,24 @@ all-said s a (k ∷ ks) (v, vs) e =
       },
       all-said s (a + 1 + length (writeValue k v)) ks vs (d .1),
     )
+
+-- a byte of a path is one that the reader takes for one
+path-byte : (b : ℕ) → pathByte b ≡ runByte b
+unfolding pathByte runByte lineByte
+path-byte b = go (lt-or-ge b 127)
+  where
+    go : (b < 127) ⊎ (127 ≤ b) → pathByte b ≡ runByte b
+    go (inl h) = beq-eq (pathByte b) (runByte b) (subst T (on-range (λ a. Bool·beq (pathByte a) (runByte a)) true 0 127 tt b (omega arith) (omega arith)) tt)
+    go (inr h) = rw (le-leb 33 b (omega arith), le-leb 42 b (omega arith), le-leb 32 b (omega arith), lt-leb b 39 (omega arith), lt-leb b 126 (omega arith))
+
+runs-same : (p : List ℕ) → all pathByte p ≡ all runByte p
+runs-same p = ap (λ f. all f p) (fun-ext path-byte)
+
+run-read : (p : List ℕ) → GoodPath p → (1 ≤ length p) × (all pathByte p ≡ true)
+run-read p g = (g .0, runs-same p ∙ g .1)
+
+read-run : (p : List ℕ) → (1 ≤ length p) × (all pathByte p ≡ true) → GoodPath p
+read-run p g = (g .0, sym (runs-same p) ∙ g .1)
 
 -- a command as its word and what its parts say
 abbrev said : Command → Said
@@ -91,19 +115,19 @@ command-law : (c : Command) → CommandLaw c
 unfolding written write writeValue GoodCommand GoodValue
 command-law (command.subject n) = record { text = refl; good = λ g. record { word = omega arith; values = (g, tt) }; back = refl }
 command-law (command.isa n r) = record { text = refl; good = λ g. record { word = omega arith; values = (g .0, (g .1, tt)) }; back = refl }
-command-law (command.rule a r p n) = record { text = refl; good = λ g. record { word = omega arith; values = (tt, (tt, (g .0, (g .1, tt)))) }; back = refl }
+command-law (command.rule a r p n) = record { text = refl; good = λ g. record { word = omega arith; values = (tt, (tt, (run-read p (g .0), (g .1, tt)))) }; back = refl }
 command-law (command.root l) = record { text = refl; good = λ g. record { word = omega arith; values = (g, tt) }; back = refl }
 command-law (command.child t) = record { text = refl; good = λ g. record { word = omega arith; values = (g, tt) }; back = refl }
 command-law (command.user n) = record { text = refl; good = λ g. record { word = omega arith; values = (g, tt) }; back = refl }
 command-law command.view = record { text = refl; good = λ g. record { word = omega arith; values = tt }; back = refl }
-command-law (command.query p) = record { text = refl; good = λ g. record { word = omega arith; values = (g, tt) }; back = refl }
-command-law (command.find p) = record { text = refl; good = λ g. record { word = omega arith; values = (g, tt) }; back = refl }
-command-law (command.rename p l) = record { text = refl; good = λ g. record { word = omega arith; values = (g .0, (g .1, tt)) }; back = refl }
-command-law (command.update p l) = record { text = refl; good = λ g. record { word = omega arith; values = (g .0, (g .1, tt)) }; back = refl }
-command-law (command.append p t) = record { text = refl; good = λ g. record { word = omega arith; values = (g .0, (g .1, tt)) }; back = refl }
-command-law (command.before p t) = record { text = refl; good = λ g. record { word = omega arith; values = (g .0, (g .1, tt)) }; back = refl }
-command-law (command.after p t) = record { text = refl; good = λ g. record { word = omega arith; values = (g .0, (g .1, tt)) }; back = refl }
-command-law (command.remove p) = record { text = refl; good = λ g. record { word = omega arith; values = (g, tt) }; back = refl }
+command-law (command.query p) = record { text = refl; good = λ g. record { word = omega arith; values = (run-read p g, tt) }; back = refl }
+command-law (command.find p) = record { text = refl; good = λ g. record { word = omega arith; values = (run-read p g, tt) }; back = refl }
+command-law (command.rename p l) = record { text = refl; good = λ g. record { word = omega arith; values = (run-read p (g .0), (g .1, tt)) }; back = refl }
+command-law (command.update p l) = record { text = refl; good = λ g. record { word = omega arith; values = (run-read p (g .0), (g .1, tt)) }; back = refl }
+command-law (command.append p t) = record { text = refl; good = λ g. record { word = omega arith; values = (run-read p (g .0), (g .1, tt)) }; back = refl }
+command-law (command.before p t) = record { text = refl; good = λ g. record { word = omega arith; values = (run-read p (g .0), (g .1, tt)) }; back = refl }
+command-law (command.after p t) = record { text = refl; good = λ g. record { word = omega arith; values = (run-read p (g .0), (g .1, tt)) }; back = refl }
+command-law (command.remove p) = record { text = refl; good = λ g. record { word = omega arith; values = (run-read p g, tt) }; back = refl }
 
 -- and of each word with values
 record WordCommand (w : Word) (vs : Values (shapeOf w)) : Type 0 where
@@ -114,19 +138,19 @@ word-command : (w : Word) (vs : Values (shapeOf w)) → WordCommand w vs
 unfolding GoodCommand GoodValue
 word-command word.Subject (n, tt) = record { back = λ l. refl; good = λ g. g .0 }
 word-command word.Isa (n, (r, tt)) = record { back = λ l. refl; good = λ g. (g .0, g .1 .0) }
-word-command word.Rule (a, (r, (p, (n, tt)))) = record { back = λ l. refl; good = λ g. (g .1 .1 .0, g .1 .1 .1 .0) }
+word-command word.Rule (a, (r, (p, (n, tt)))) = record { back = λ l. refl; good = λ g. (read-run p (g .1 .1 .0), g .1 .1 .1 .0) }
 word-command word.Root (l, tt) = record { back = λ l. refl; good = λ g. g .0 }
 word-command word.Child (t, tt) = record { back = λ l. refl; good = λ g. g .0 }
 word-command word.User (n, tt) = record { back = λ l. refl; good = λ g. g .0 }
 word-command word.View tt = record { back = λ l. refl; good = λ g. tt }
-word-command word.Query (p, tt) = record { back = λ l. refl; good = λ g. g .0 }
-word-command word.Find (p, tt) = record { back = λ l. refl; good = λ g. g .0 }
-word-command word.Rename (p, (l, tt)) = record { back = λ l. refl; good = λ g. (g .0, g .1 .0) }
-word-command word.Update (p, (l, tt)) = record { back = λ l. refl; good = λ g. (g .0, g .1 .0) }
-word-command word.Append (p, (t, tt)) = record { back = λ l. refl; good = λ g. (g .0, g .1 .0) }
-word-command word.Before (p, (t, tt)) = record { back = λ l. refl; good = λ g. (g .0, g .1 .0) }
-word-command word.After (p, (t, tt)) = record { back = λ l. refl; good = λ g. (g .0, g .1 .0) }
-word-command word.Remove (p, tt) = record { back = λ l. refl; good = λ g. g .0 }
+word-command word.Query (p, tt) = record { back = λ l. refl; good = λ g. read-run p (g .0) }
+word-command word.Find (p, tt) = record { back = λ l. refl; good = λ g. read-run p (g .0) }
+word-command word.Rename (p, (l, tt)) = record { back = λ l. refl; good = λ g. (read-run p (g .0), g .1 .0) }
+word-command word.Update (p, (l, tt)) = record { back = λ l. refl; good = λ g. (read-run p (g .0), g .1 .0) }
+word-command word.Append (p, (t, tt)) = record { back = λ l. refl; good = λ g. (read-run p (g .0), g .1 .0) }
+word-command word.Before (p, (t, tt)) = record { back = λ l. refl; good = λ g. (read-run p (g .0), g .1 .0) }
+word-command word.After (p, (t, tt)) = record { back = λ l. refl; good = λ g. (read-run p (g .0), g .1 .0) }
+word-command word.Remove (p, tt) = record { back = λ l. refl; good = λ g. read-run p (g .0) }
 word-command word.Other tt = record { back = λ l. absurd (omega arith); good = λ g. tt }
 
 -- c's form, its parts standing where c's values are written
@@ -186,22 +210,21 @@ written-read c g =
     (subst (FormSays (write f) c) (sym (written-form f (x .good g)))
     (form-says (write f) (endOf f) c (all-said (write f) (endOf f) (shapeOf (f .word)) (f .values) (after-word f)) (written-tree f (x .good g))))
 
--- What is read as a form is a good command, written.
-pub read-command : (s : List ℕ) → (readForm s ≡ form.NoForm → ⊥) → (c : Command) × GoodCommand c × (s ≡ written c)
-read-command s h =
-    let x = read-said s h in
-    let c = commandOf (x .0 .word) (x .0 .values) in
-    let y = word-command (x .0 .word) (x .0 .values) in
-    (c, y .good (x .1 .values), x .2 ∙ sym (command-law c .text ∙ ap write (y .back (x .1 .word))))
+-- A line is a good command, written, or no form.
+pub command-or-none : (s : List ℕ) → (readForm s ≡ form.NoForm) ⊎ ((c : Command) × GoodCommand c × (s ≡ written c))
+command-or-none s =
+    ⊎-elim inl
+    (λ (f, g, q).
+    let c = commandOf (f .word) (f .values) in
+    let y = word-command (f .word) (f .values) in
+    inr (c, y .good (g .values), q ∙ sym (command-law c .text ∙ ap write (y .back (g .word)))))
+    (read-or-none s)
 
 -- A line is refused with 2 exactly if no good command is written so.
 pub none-written : (s : List ℕ) → (readForm s ≡ form.NoForm) ↔ ((c : Command) → GoodCommand c → s ≡ written c → ⊥)
 none-written s = (
   λ e c g q. refused-none s .0 e (said c) (command-law c .good g) (q ∙ command-law c .text),
-  λ h. refused-none s .1 λ f g q.
-      let y = word-command (f .word) (f .values) in
-      let c = commandOf (f .word) (f .values) in
-      h c (y .good (g .values)) (q ∙ sym (command-law c .text ∙ ap write (y .back (g .word)))),
+  λ h. ⊎-elim (λ e. e) (λ (c, g, q). absurd (h c g q)) (command-or-none s),
 )
 
 -- At most one good command is written so.

@@ -2,13 +2,14 @@
 -- Nothing here speaks of how a line is read.
 use Prim.Native.Nat.{ℕ, _≤_}
 use mathlib.Core.Path.{_≡_}
-use mathlib.Core.Bool.{Bool, true, cond}
+use mathlib.Core.Bool.{Bool, true, not, cond, _&&_, _||_}
 use mathlib.Core.List.{List, _++_}
+use lib.Dec.{eqb}
 use lib.ListN.{length}
 use Rattle.rights.specs.Bytes.{bytes, all}
 use Rattle.rights.specs.Policy.{Right}
 use Rattle.rights.specs.Tree.{Tree, writeTree}
-use Rattle.forms.specs.Part.{pathByte}
+use Rattle.forms.specs.Text.{lineByte}
 use Rattle.forms.specs.TreeText.{GoodLabel, GoodTree}
 use Rattle.forms.specs.FormText.{writeRight}
 
@@ -49,9 +50,12 @@ written (before p t) = bytes "(before " ++ (p ++ (bytes " " ++ (writeTree t ++ b
 written (after p t) = bytes "(after " ++ (p ++ (bytes " " ++ (writeTree t ++ bytes ")")))
 written (remove p) = bytes "(remove " ++ (p ++ bytes ")")
 
--- "any run of one or more bytes without space or parenthesis passes as a path"
+-- "any run of one or more bytes without space or parenthesis passes as a path"; each byte of a line is 32 to 126
+unfoldable pub runByte : ℕ → Bool
+runByte b = lineByte b && not (eqb b 32 || (eqb b 40 || eqb b 41))
+
 abbrev pub GoodPath : List ℕ → Type 0
-GoodPath p = (1 ≤ length p) × (all pathByte p ≡ true)
+GoodPath p = (1 ≤ length p) × (all runByte p ≡ true)
 
 -- What may be written: "Labels also serve as subject names."
 unfoldable pub GoodCommand : Command → Type 0

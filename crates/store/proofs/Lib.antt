@@ -4,3 +4,5 @@ pub mod ChecksOrdered
 pub mod ClauseLaws
 pub mod ConditionLaws
 pub mod NameRows
+pub mod TreeRows
+pub mod RefusalsLaws
