@@ -68,7 +68,7 @@ example =
     ∷ ok "(user SHA)"
     ∷ []
 
--- "★ The first view above. ★ Its update. ★ Its last rename."
+-- "★ The first view above. ★ Its update. ★ Its last rename." A second view shows what the update did.
 abbrev pub exampleAnswered : Case
 exampleAnswered =
     record {
@@ -77,6 +77,7 @@ exampleAnswered =
           example
           ++ ("(view)" gives "(root school)\n(child (mon (lesson (class (10B)) (room (R12)) (note (RESTRICTED)))))\n(end 9)\n"
           ∷ "(update //room R14)" gives "(done 1 1)\n"
+          ∷ "(view)" gives "(root school)\n(child (mon (lesson (class (10B)) (room (R14)) (note (RESTRICTED)))))\n(end 9)\n"
           ∷ "(query //lesson/*)" gives "(hit 3 class)\n(hit 3 room)\n(hit 3 note)\n(end 3)\n"
           ∷ "(rename //note/* cold)" gives "(done 1 0)\n"
           ∷ []);
