@@ -1,6 +1,6 @@
 -- A line is refused and leaves all as it was, or it is accepted: then its effect is sound, and this is its answer and what it leaves. Assumes nothing.
 use Prim.Native.Nat.{ℕ, _≤_}
-use mathlib.Core.Path.{_≡_, sym, ap, _∙_}
+use mathlib.Core.Path.{_≡_, refl, sym, ap, _∙_}
 use mathlib.Core.Bool.{true}
 use mathlib.Core.List.{List, [], _∷_}
 use mathlib.Core.Logic.{_⊎_, inl, inr}
@@ -12,7 +12,8 @@ use Rattle.forms.specs.Form.{readForm}
 use Rattle.forms.specs.Text.{lineOk}
 use Rattle.lines.specs.State.{stage, storeOk}
 use Rattle.lines.specs.Effect.{stateAfter, tableAfter, Work, guarded, checksIn, performed}
-use Rattle.lines.specs.Outcome.{Reply, says, refuses, Outcome}
+use Rattle.lines.specs.Outcome.{Reply, says, refuses, Outcome, answerOf}
+use Rattle.lines.specs.declared.line.Answer.the-variants as answer
 use Rattle.lines.specs.Refusal.{areaCheck}
 use Rattle.store.specs.Line.{stageOf, inStage, lineChecks, step}
 use Rattle.guarantee.proofs.CheckLaws.{passed-both, Refused, Went, checked-cases}
@@ -82,6 +83,13 @@ module _ (choice : Choice) (s t line : List ℕ) where
     -- and says what the work of its form says
     pub answer-is : (b : List ℕ) → step choice s t line room .reply ≡ says b → b ≡ lineWork .text
     answer-is b e = ap saidBy (sym e ∙ ap (λ (o : Outcome). o .reply) (accepted b e .is))
+
+    pub taken : (n : ℕ) → answerOf (step choice s t line room .reply) ≡ answer.Accepted n → Accepted room
+    taken n e = go (step choice s t line room .reply) refl
+      where
+        go : (r : Reply) → step choice s t line room .reply ≡ r → Accepted room
+        go (says b) q = accepted b q
+        go (refuses k) q = absurd (let y : answer.Refused k ≡ answer.Accepted n = sym (ap answerOf q) ∙ e in let z : _≡_ {A = ℕ} 0 1 = cc in omega arith)
 
     -- What holds of the store before, and of the store after every effect that is sound, holds after every line.
     pub after-line : (Q : List ℕ → List ℕ → Type 0) → Q s t

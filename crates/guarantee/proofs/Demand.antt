@@ -1,12 +1,14 @@
--- Demand 3, its first sentence (document 01, "What demand 3 compares"; specs/Alike.antt): two stores that look the same to a reader give the same answers to every
+-- Demand 3, its first sentence (document 01, "What demand 3 compares"; specs/Demand3.antt): two stores that look the same to a reader give the same answers to every
 -- list of lines, and look the same after each. Assumes nothing.
 use Prim.Native.Nat.{ℕ, _≤_, _<_}
 use mathlib.Core.Path.{_≡_, refl, ap, sym, _∙_, subst}
 use mathlib.Core.Bool.{Bool, true}
 use mathlib.Core.List.{List, [], _∷_}
-use mathlib.Core.Logic.{inl, inr}
+use mathlib.Core.Logic.{_⊎_, inl, inr}
+use native.Mathlib.Omega.{arith}
 use borrow.Author.Tests.{le-leb, le-ltb}
-use lib.ListN.{length}
+use lib.ListN.{length, take, drop}
+use lib.Seq.{take-append-seam}
 use Rattle.rights.specs.Marks.{keep}
 use Rattle.rights.specs.Policy.{Policy, policyWord}
 use Rattle.rights.specs.PolicyBytes.{policyOf}
@@ -18,16 +20,21 @@ use Rattle.answers.specs.AnswerChoice.{Choice}
 use Rattle.lines.specs.PolicyEdit.{subjectNamed}
 use Rattle.lines.specs.State.{stageC, stageE, stage, policyIn, storeOk}
 use Rattle.lines.specs.Effect.{performed}
-use Rattle.lines.specs.Outcome.{says, refuses}
+use Rattle.lines.specs.Outcome.{Reply, says, refuses, Outcome, answerOf, areaAfter, Made}
+use Rattle.lines.specs.declared.line.Answer.the-variants as answer
+use Rattle.forms.specs.Form.{treeIn}
+use Rattle.forms.specs.Tree.{recordsOf}
+use Rattle.forms.specs.declared.form.Form.{Form}
 use Rattle.lines.specs.Refusal.{tableFull, checked}
-use Rattle.store.specs.Line.{inStage, bytesOf, step}
+use Rattle.store.specs.Line.{inStage, bytesOf, workOf, step}
 use Rattle.lines.specs.declared.policy_edit.Found.the-variants as found
 use Rattle.rights.proofs.LabelLaws.{same-self as label-self}
 use Rattle.lines.proofs.StateLaws.{store-held}
-use Rattle.guarantee.specs.Alike.{SamePolicy, shownTo, Behind, Alike, UserIs, Input, outcome, LogsIn, Begins, AnswersAlike}
+use Rattle.guarantee.specs.Alike.{SamePolicy, shownTo, Behind, Alike, UserIs, Input, outcome, LogsIn}
+use Rattle.guarantee.specs.Demand3.{Call, Promised, SameAnswer, AnswersAlike}
 use Rattle.guarantee.proofs.SamePolicy.{same-named, same-rights-on}
 use Rattle.guarantee.proofs.SessionKept.{store-kept, policy-kept, rooted-kept, logged-in, user-is-kept, user-is-logged}
-use Rattle.guarantee.proofs.Accepted.{accepted}
+use Rattle.guarantee.proofs.Accepted.{taken}
 use Rattle.guarantee.proofs.LowTable.{lowOf, low-of-alike, alike-of-low}
 use Rattle.guarantee.proofs.TableAfter.{table-nested}
 use Rattle.guarantee.proofs.LineAlike.{Tied, user-declared, same-self}
@@ -40,8 +47,8 @@ store-nested s t e = table-nested t (store-held s t e .table)
 module _ (u : ℕ) (s t s' t' : List ℕ) (declared : u < length (policyIn s .names)) where
   pub alike-low : Alike u s t s' t' → lowOf (policyIn s) u (records t) ≡ lowOf (policyIn s) u (records t')
   alike-low a =
-      let r = same-rights-on (policyIn s) (policyIn s') (a .policy) u (records t') in
-      low-of-alike (policyIn s) u declared (records t) (records t') (store-nested s t (a .passes)) (store-nested s' t' (a .passes'))
+      let r = same-rights-on (policyIn s) (policyIn s') (a .start .policy) u (records t') in
+      low-of-alike (policyIn s) u declared (records t) (records t') (store-nested s t (a .start .passes)) (store-nested s' t' (a .start .passes'))
       (a .looks ∙ sym (ap (λ ss. view (stored t' ss)) r))
       (subst (λ ss. Behind (policyWord (policyIn s)) (shownTo u s t) (keep (shown (stored t' ss)) (stored t' ss))) (sym r) (a .behind))
 
@@ -51,11 +58,7 @@ module _ (u : ℕ) (s t s' t' : List ℕ) (declared : u < length (policyIn s .na
       let r = same-rights-on (policyIn s) (policyIn s') p u (records t') in
       let b = alike-of-low (policyIn s) u declared (records t) (records t') (store-nested s t ok) (store-nested s' t' ok') e in
       record {
-        passes = ok;
-        passes' = ok';
-        rooted = g;
-        rooted' = g';
-        policy = p;
+        start = record { passes = ok; passes' = ok'; rooted = g; rooted' = g'; policy = p };
         looks = b .0 ∙ ap (λ ss. view (stored t' ss)) r;
         behind = subst (λ ss. Behind (policyWord (policyIn s)) (shownTo u s t) (keep (shown (stored t' ss)) (stored t' ss))) r (b .1);
       }
@@ -67,11 +70,7 @@ behind-self word (x ∷ xs) = ((λ a b. inl (label-self (label (x .bytes)))), be
 
 pub alike-self : (u : ℕ) (s t : List ℕ) → storeOk s t ≡ true → stageC ≤ stage s → Alike u s t s t
 alike-self u s t ok g = record {
-  passes = ok;
-  passes' = ok;
-  rooted = g;
-  rooted' = g;
-  policy = same-self (policyIn s);
+  start = record { passes = ok; passes' = ok; rooted = g; rooted' = g; policy = same-self (policyIn s) };
   looks = refl;
   behind = behind-self (policyWord (policyIn s)) (shownTo u s t);
 }
@@ -85,25 +84,26 @@ module _ (choice : Choice) (u : ℕ) (s t s' t' : List ℕ) (a : Alike u s t s' 
   next-alike : u < length (policyIn s .names)
       → lowOf (policyIn s) u (records (outcome choice s t i .table)) ≡ lowOf (policyIn s) u (records (outcome choice s' t' i .table)) → Next
   next-alike d e =
-      let k : policyIn (outcome choice s t i .state) ≡ policyIn s = ap policyOf (policy-kept choice s t (i .line) (i .room) (a .rooted)) in
-      let k' : policyIn (outcome choice s' t' i .state) ≡ policyIn s' = ap policyOf (policy-kept choice s' t' (i .line) (i .room) (a .rooted')) in
+      let k : policyIn (outcome choice s t i .state) ≡ policyIn s = ap policyOf (policy-kept choice s t (i .line) (i .room) (a .start .rooted)) in
+      let k' : policyIn (outcome choice s' t' i .state) ≡ policyIn s' = ap policyOf (policy-kept choice s' t' (i .line) (i .room) (a .start .rooted')) in
       low-alike u (outcome choice s t i .state) (outcome choice s t i .table) (outcome choice s' t' i .state) (outcome choice s' t' i .table)
       (subst (λ (P : Policy). u < length (P .names)) (sym k) d)
-      (store-kept choice s t (i .line) (i .room) (a .passes))
-      (store-kept choice s' t' (i .line) (i .room) (a .passes'))
-      (rooted-kept choice s t (i .line) (i .room) (a .rooted))
-      (rooted-kept choice s' t' (i .line) (i .room) (a .rooted'))
-      (subst (λ (P : Policy). SamePolicy P (policyIn (outcome choice s' t' i .state))) (sym k) (subst (λ (Q : Policy). SamePolicy (policyIn s) Q) (sym k') (a .policy)))
+      (store-kept choice s t (i .line) (i .room) (a .start .passes))
+      (store-kept choice s' t' (i .line) (i .room) (a .start .passes'))
+      (rooted-kept choice s t (i .line) (i .room) (a .start .rooted))
+      (rooted-kept choice s' t' (i .line) (i .room) (a .start .rooted'))
+      (subst (λ (P : Policy). SamePolicy P (policyIn (outcome choice s' t' i .state))) (sym k) (subst (λ (Q : Policy). SamePolicy (policyIn s) Q) (sym k') (a .start .policy)))
       (subst (λ (P : Policy). lowOf P u (records (outcome choice s t i .table)) ≡ lowOf P u (records (outcome choice s' t' i .table))) (sym k) e)
 
   -- the other run logs in the subject that this one does
   logs-too : outcome choice s t i .reply ≡ outcome choice s' t' i .reply → (v : ℕ)
-      → LogsIn v s' (i .line) (outcome choice s' t' i) → LogsIn v s (i .line) (outcome choice s t i)
+      → LogsIn v s' (i .line) (answerOf (outcome choice s' t' i .reply)) → LogsIn v s (i .line) (answerOf (outcome choice s t i .reply))
   logs-too e v l = record {
     name = l .name;
     form = l .form;
-    subject = same-named (policyIn s) (policyIn s') (a .policy) (bytesOf (i .line) (l .name)) ∙ l .subject;
-    accepted = e ∙ l .accepted;
+    subject = same-named (policyIn s) (policyIn s') (a .start .policy) (bytesOf (i .line) (l .name)) ∙ l .subject;
+    said = l .said;
+    accepted = ap answerOf e ∙ l .accepted;
   }
 
   -- A line of the user u
@@ -113,11 +113,11 @@ module _ (choice : Choice) (u : ℕ) (s t s' t' : List ℕ) (a : Alike u s t s' 
     pub user : UserIs u (outcome choice s t i .state)
     pub user' : UserIs u (outcome choice s' t' i .state)
 
-  user-line : UserIs u s → UserIs u s' → ((v : ℕ) → LogsIn v s (i .line) (outcome choice s t i) → v ≡ u)
+  user-line : UserIs u s → UserIs u s' → ((v : ℕ) → LogsIn v s (i .line) (answerOf (outcome choice s t i .reply)) → v ≡ u)
       → (outcome choice s t i .reply ≡ refuses tableFull → ⊥) → (outcome choice s' t' i .reply ≡ refuses tableFull → ⊥) → Goes
   user-line w w' other full full' =
-      let d = user-declared u s t (a .passes) w in
-      let tied : Tied u s t s' t' = record { passes = a .passes; passes' = a .passes'; user = w; user' = w'; policy = a .policy; low = alike-low u s t s' t' d a } in
+      let d = user-declared u s t (a .start .passes) w in
+      let tied : Tied u s t s' t' = record { passes = a .start .passes; passes' = a .start .passes'; user = w; user' = w'; policy = a .start .policy; low = alike-low u s t s' t' d a } in
       let m = match-step choice u s t s' t' tied (i .room) (i .line) full full' in
       record {
         reply = m .reply;
@@ -130,46 +130,97 @@ module _ (choice : Choice) (u : ℕ) (s t s' t' : List ℕ) (a : Alike u s t s' 
   login-stage : (g : ℕ) → stageC ≤ g → g ≤ 4 → inStage stageE g ≡ true
   login-stage g h k = rw (le-leb g 4 k, le-leb 2 g h)
 
-  login-answer : (l : LogsIn u s (i .line) (outcome choice s t i)) → outcome choice s' t' i .reply ≡ says okText
+  login-answer : (l : LogsIn u s (i .line) (answerOf (outcome choice s t i .reply))) → outcome choice s' t' i .reply ≡ says okText
   unfolding step performed checked
   login-answer l =
-      let x = accepted choice s t (i .line) (i .room) okText (l .accepted) in
-      let g = login-stage (stage s') (a .rooted') (store-held s' t' (a .passes') .stages) in
+      let x = taken choice s t (i .line) (i .room) (l .said) (l .accepted) in
+      let g = login-stage (stage s') (a .start .rooted') (store-held s' t' (a .start .passes') .stages) in
       let q : subjectNamed (policyIn s') (bytesOf (i .line) (l .name)) ≡ found.Subject u =
-      sym (same-named (policyIn s) (policyIn s') (a .policy) (bytesOf (i .line) (l .name))) ∙ l .subject in
+      sym (same-named (policyIn s) (policyIn s') (a .start .policy) (bytesOf (i .line) (l .name))) ∙ l .subject in
       let fits : length okText ≤ i .room = rw (l .form) at (x .fits) in
-      rw (a .passes', x .bytes, l .form, g, q, le-ltb (i .room) (length okText) fits)
+      rw (a .start .passes', x .bytes, l .form, g, q, le-ltb (i .room) (length okText) fits)
 
-  login-line : LogsIn u s (i .line) (outcome choice s t i) → Goes
+  login-line : LogsIn u s (i .line) (answerOf (outcome choice s t i .reply)) → Goes
   login-line l =
       let e : outcome choice s' t' i .reply ≡ says okText = login-answer l in
-      let l' : LogsIn u s' (i .line) (outcome choice s' t' i) = record {
+      let l' : LogsIn u s' (i .line) (answerOf (outcome choice s' t' i .reply)) = record {
         name = l .name;
         form = l .form;
-        subject = sym (same-named (policyIn s) (policyIn s') (a .policy) (bytesOf (i .line) (l .name))) ∙ l .subject;
-        accepted = e;
+        subject = sym (same-named (policyIn s) (policyIn s') (a .start .policy) (bytesOf (i .line) (l .name))) ∙ l .subject;
+        said = length okText;
+        accepted = ap answerOf e;
       } in
+      let said : outcome choice s t i .reply ≡ says okText =
+      ap (λ (o : Outcome). o .reply) (taken choice s t (i .line) (i .room) (l .said) (l .accepted) .is)
+      ∙ ap (λ (f : Form). says (workOf choice f s t (i .line) (recordsOf (treeIn (i .line))) .text)) (l .form) in
       let w = user-is-logged choice s t (i .line) (i .room) u l in
-      let k : policyIn (outcome choice s t i .state) ≡ policyIn s = ap policyOf (policy-kept choice s t (i .line) (i .room) (a .rooted)) in
-      let n = user-declared u (outcome choice s t i .state) (outcome choice s t i .table) (store-kept choice s t (i .line) (i .room) (a .passes)) w in
+      let k : policyIn (outcome choice s t i .state) ≡ policyIn s = ap policyOf (policy-kept choice s t (i .line) (i .room) (a .start .rooted)) in
+      let n = user-declared u (outcome choice s t i .state) (outcome choice s t i .table) (store-kept choice s t (i .line) (i .room) (a .start .passes)) w in
       let d : u < length (policyIn s .names) = subst (λ (P : Policy). u < length (P .names)) k n in
       let z = logged-in choice s t (i .line) (i .room) u l .1 in
       let z' = logged-in choice s' t' (i .line) (i .room) u l' .1 in
       record {
-        reply = l .accepted ∙ sym e;
+        reply = said ∙ sym e;
         alike = next-alike d (ap (λ x. lowOf (policyIn s) u (records x)) z ∙ alike-low u s t s' t' d a ∙ sym (ap (λ x. lowOf (policyIn s) u (records x)) z'));
         user = w;
         user' = user-is-logged choice s' t' (i .line) (i .room) u l';
       }
 
+  -- The next line: of the user u, or the one that logs u in
+  next-line : (UserIs u s × UserIs u s') ⊎ LogsIn u s (i .line) (answerOf (outcome choice s t i .reply))
+      → ((v : ℕ) → LogsIn v s (i .line) (answerOf (outcome choice s t i .reply)) → v ≡ u)
+      → (outcome choice s t i .reply ≡ refuses tableFull → ⊥) → (outcome choice s' t' i .reply ≡ refuses tableFull → ⊥) → Goes
+  next-line (inl w) other full full' = user-line (w .0) (w .1) other full full'
+  next-line (inr l) other full full' = login-line l
+
+-- the bytes of an answer stand in the area, whatever stood there
+answer-bytes : (r : Reply) (x y : List ℕ) (n : ℕ) → answerOf r ≡ answer.Accepted n → take n (areaAfter r x) ≡ take n (areaAfter r y)
+answer-bytes (says b) x y n e =
+    let z : n ≡ length b = cc in
+    rw z (take-append-seam b (drop (length b) x) ∙ sym (take-append-seam b (drop (length b) y)))
+answer-bytes (refuses k) x y n e = absurd (let z : _≡_ {A = ℕ} 0 1 = cc in omega arith)
+
+-- One call on each of two stores that are alike
+module _ (choice : Choice) (u : ℕ) (s t s' t' : List ℕ) (a : Alike u s t s' t') (c d : Call) (p : Promised choice s t c) (q : Promised choice s' t' d)
+    (same : c .line ≡ d .line) (long : length (c .lent) ≡ length (d .lent)) where
+  abbrev i : Input
+  i = record { line = c .line; room = length (c .lent) }
+
+  -- the promise of the second call, on the line and the room of the first
+  q' : Made (outcome choice s' t' i) (d .lent) (d .answer) (d .state) (d .table) (d .area)
+  q' = rw (same, long) q
+
+  pub record CallsAlike : Type 0 where
+    pub answer : SameAnswer c d
+    pub alike : Alike u (c .state) (c .table) (d .state) (d .table)
+    pub user : UserIs u (c .state)
+    pub user' : UserIs u (d .state)
+
+  pub calls-alike : (UserIs u s × UserIs u s') ⊎ LogsIn u s (c .line) (c .answer) → ((v : ℕ) → LogsIn v s (c .line) (c .answer) → v ≡ u)
+      → (c .answer ≡ answer.Refused tableFull → ⊥) → (d .answer ≡ answer.Refused tableFull → ⊥) → CallsAlike
+  calls-alike b other full full' =
+      let g = next-line choice u s t s' t' a i
+      (subst (λ r. (UserIs u s × UserIs u s') ⊎ LogsIn u s (c .line) r) (p .answer) b)
+      (subst (λ r. (v : ℕ) → LogsIn v s (c .line) r → v ≡ u) (p .answer) other)
+      (λ e. full (p .answer ∙ ap answerOf e)) (λ e. full' (q' .answer ∙ ap answerOf e)) in
+      record {
+        answer = record {
+          returned = p .answer ∙ ap answerOf (g .reply) ∙ sym (q' .answer);
+          bytes = λ n e.
+              ap (take n) (p .area)
+              ∙ answer-bytes (outcome choice s t i .reply) (c .lent) (d .lent) n (sym (p .answer) ∙ e)
+              ∙ ap (λ r. take n (areaAfter r (d .lent))) (g .reply)
+              ∙ sym (ap (take n) (q' .area));
+        };
+        alike = rw (p .state, p .table, q' .state, q' .table) (g .alike);
+        user = rw (p .state) (g .user);
+        user' = rw (q' .state) (g .user');
+      }
+
 -- Demand 3, its first sentence.
 pub answers-alike : AnswersAlike
-answers-alike choice u s t s' t' a [] b = tt
-answers-alike choice u s t s' t' a (i ∷ is) b = λ other full full'.
-    let g = by b other full full' in
-    (g .reply, g .alike, (g .user, g .user'), answers-alike choice u _ _ _ _ (g .alike) is (inl (g .user, g .user')))
-  where
-    by : Begins choice u s t s' t' (i ∷ is) → ((v : ℕ) → LogsIn v s (i .line) (outcome choice s t i) → v ≡ u)
-        → (outcome choice s t i .reply ≡ refuses tableFull → ⊥) → (outcome choice s' t' i .reply ≡ refuses tableFull → ⊥) → Goes choice u s t s' t' a i
-    by (inl w) other full full' = user-line choice u s t s' t' a i (w .0) (w .1) other full full'
-    by (inr l) other full full' = login-line choice u s t s' t' a i l
+answers-alike choice u s t s' t' a [] ds r r' e b = tt
+answers-alike choice u s t s' t' a (c ∷ cs) [] r r' e b = tt
+answers-alike choice u s t s' t' a (c ∷ cs) (d ∷ ds) r r' e b = λ other full full'.
+    let g = calls-alike choice u s t s' t' a c d (r .0) (r' .0) (e .0) (e .1) b other full full' in
+    (g .answer, g .alike, (g .user, g .user'), answers-alike choice u (c .state) (c .table) (d .state) (d .table) (g .alike) cs ds (r .1) (r' .1) (e .2) (inl (g .user, g .user')))

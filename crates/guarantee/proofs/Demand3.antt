@@ -7,11 +7,10 @@ use Rattle.guarantee.proofs.RightsKept as rights
 pub demand3 : Demand3
 demand3 = record {
   answers-alike = alike.answers-alike;
-  rights-kept = rights.rights-kept;
   same-rights = rights.same-rights;
   follows = identity.follows;
   nodes-kept = identity.nodes-kept;
   nodes-removed = identity.nodes-removed;
+  inserted-new = identity.inserted-new;
   none-back = identity.none-back;
-  order-kept = identity.order-kept;
 }

@@ -1,14 +1,14 @@
 -- Which node is which: every node but those that a removal takes stays the same node, in order; inserted nodes are new; and the nodes that are followed are those of
 -- the table. Assumes nothing.
-use Prim.Native.Nat.{ℕ, zero, suc, _≤_, _<_}
+use Prim.Native.Nat.{ℕ, zero, suc, _+_, _≤_, _<_}
 use mathlib.Core.Logic.{_⊎_, inl, inr}
 use mathlib.Core.Bool.{Bool}
-use mathlib.Core.Path.{_≡_, refl, sym, ap, _∙_}
-use mathlib.Core.List.{List, [], _∷_, map, Sublistᴰ, Sublistᴰ·slnil, Sublistᴰ·cons, Sublistᴰ·cons-cons, Sublistᴰ·refl, Sublistᴰ·trans, Sublistᴰ·nil-sublist}
+use mathlib.Core.Path.{_≡_, refl, sym, ap, ap₂, _∙_}
+use mathlib.Core.List.{List, [], _∷_, _++_, map, Sublistᴰ, Sublistᴰ·slnil, Sublistᴰ·cons, Sublistᴰ·cons-cons, Sublistᴰ·refl, Sublistᴰ·trans, Sublistᴰ·nil-sublist}
 use mathlib.Core.Option.{Option, none, some}
 use native.Mathlib.Omega.{arith}
 use Rattle.rights.specs.Table.{records, level}
-use Rattle.views.specs.Change.{chunks, raise, relabel, placed, removed, renamed}
+use Rattle.views.specs.Change.{chunks, raise, relabel, inserted}
 use Rattle.views.specs.Nodes.{tags, All}
 use Rattle.views.specs.declared.done.Change.the-variants as change
 use Rattle.views.specs.declared.insert.Place.{Place}
@@ -19,7 +19,7 @@ use Rattle.views.proofs.NodeLaws.{remove-only}
 use Rattle.answers.specs.AnswerChoice.{Choice}
 use Rattle.forms.specs.Form.{readForm, treeIn}
 use Rattle.forms.specs.Tree.{recordsOf}
-use Rattle.lines.specs.Effect.{Effect, policy, root, insertion, renaming, removal, login, reading}
+use Rattle.lines.specs.Effect.{Effect, policy, root, insertion, renaming, removal, login, reading, nodesAfter, recordsAfter}
 use Rattle.lines.specs.Outcome.{Reply, says, refuses}
 use Rattle.lines.specs.UserView.{doneIn}
 use Rattle.store.specs.Line.{bytesOf, workOf}
@@ -28,47 +28,49 @@ use Rattle.forms.specs.declared.form.Part.{Part}
 use Rattle.forms.specs.declared.form.Form.{Form}
 use Rattle.forms.specs.declared.form.Form.the-variants.{Remove}
 use Rattle.guarantee.specs.Alike.{Input, outcome}
-use Rattle.guarantee.specs.Identity.{Tagged, taggedLevel, new, newTree, afterInsert, afterRename, afterRemove, afterEffect, afterReply, effectOf, follow, followAll, tableAfterAll, Follows, tagAll, tagAt, NodesKept, NodesRemoved, NoneBack, OrderKept}
+use Rattle.guarantee.specs.Identity.{Tagged, taggedLevel, new, afterEffect, afterReply, effectOf, follow, followAll, stateAfterAll, tableAfterAll, tagAll, tagAt, known, knownOf}
+use Rattle.guarantee.specs.Identity.{Follows, NodesKept, NodesRemoved, InsertedNew, NoneBack, OrderKept}
 use Rattle.lines.proofs.StateLaws.{store-held}
 use Rattle.rights.specs.Record.{nodeRecord}
 use Rattle.guarantee.proofs.CheckLaws.{Refused}
 use Rattle.guarantee.proofs.Sound.{EffectSound}
 use Rattle.guarantee.proofs.Accepted.{Accepted, line-cases}
-use Rattle.guarantee.proofs.TableAfter.{recordsAfter, table-after}
+use Rattle.guarantee.proofs.TableAfter.{table-after}
 
--- The records of the nodes that are followed
+-- A function of nodes that keeps levels, and goes with what makes nodes and with every change of their records, goes with every effect.
+module _ {E N : Type 0} (lev : E → ℕ) (lev' : N → ℕ) (f : E → N) (same : (x : E) → lev' (f x) ≡ lev x) where
+  map-inserted : (at : Place) (tree : ℕ → List E) (tree' : ℕ → List N) → ((l : ℕ) → map f (tree l) ≡ tree' l) → (ms : List Bool) (ns : List E)
+      → map f (inserted lev at tree ms ns) ≡ inserted lev' at tree' ms (map f ns)
+  map-inserted place.Append tree tree' e ms ns =
+      map-insertBehind lev lev' f same (λ x. tree (suc (lev x))) (λ y. tree' (suc (lev' y))) (λ x. rw (same x) (e (suc (lev x)))) ms ns
+  map-inserted place.After tree tree' e ms ns =
+      map-insertBehind lev lev' f same (λ x. tree (lev x)) (λ y. tree' (lev' y)) (λ x. rw (same x) (e (lev x))) ms ns
+  map-inserted place.Before tree tree' e ms ns =
+      map-insertInFront lev lev' f same (λ x. tree (lev x)) (λ y. tree' (lev' y)) (λ x. rw (same x) (e (lev x))) ms ns
+
+  module _ (new : List (List ℕ) → List E) (new' : List (List ℕ) → List N) (brought : (rs : List (List ℕ)) → map f (new rs) ≡ new' rs)
+      (on : (List ℕ → List ℕ) → E → E) (on' : (List ℕ → List ℕ) → N → N) (goes : (g : List ℕ → List ℕ) (x : E) → f (on g x) ≡ on' g (f x)) where
+    map-after : (e : Effect) (ns : List E) → map f (nodesAfter lev new on e ns) ≡ nodesAfter lev' new' on' e (map f ns)
+    map-after (policy p g) ns = refl
+    map-after (root l) ns = brought (nodeRecord 0 l ∷ [])
+    map-after (insertion at ms m tree g) ns =
+        map-inserted at (λ l. new (raise l (chunks m tree))) (λ l. new' (raise l (chunks m tree))) (λ l. brought (raise l (chunks m tree))) ms ns
+    map-after (renaming l ms) ns = map-rename lev lev' f same (on (relabel l)) (on' (relabel l)) (goes (relabel l)) ms ns
+    map-after (removal ms) ns = map-remove lev lev' f same ms ns
+    map-after (login u) ns = refl
+    map-after reading ns = refl
+
+-- The records of the nodes that are followed are the table's
+
+abbrev recorded : (List ℕ → List ℕ) → Tagged → Tagged
+recorded g n = (g (n .0), n .1)
 
 records-new : (rs : List (List ℕ)) → map (λ n. n .0) (new rs) ≡ rs
 records-new [] = refl
 records-new (r ∷ rs) = ap (λ l. r ∷ l) (records-new rs)
 
-pub records-remove : (ms : List Bool) (ns : List Tagged) → map (λ n. n .0) (afterRemove ms ns) ≡ removed ms (map (λ n. n .0) ns)
-records-remove ms ns = map-remove taggedLevel level (λ n. n .0) (λ n. refl) ms ns
-
-pub records-rename : (l : List ℕ) (ms : List Bool) (ns : List Tagged) → map (λ n. n .0) (afterRename l ms ns) ≡ renamed l ms (map (λ n. n .0) ns)
-records-rename l ms ns = map-rename taggedLevel level (λ n. n .0) (λ n. refl) (λ n. (relabel l (n .0), n .1)) (relabel l) (λ n. refl) ms ns
-
-pub records-insert : (at : Place) (m : ℕ) (tree : List ℕ) (ms : List Bool) (ns : List Tagged)
-    → map (λ n. n .0) (afterInsert at m tree ms ns) ≡ placed at m tree ms (map (λ n. n .0) ns)
-records-insert place.Append m tree ms ns =
-    map-insertBehind taggedLevel level (λ n. n .0) (λ n. refl) (λ n. newTree m tree (suc (taggedLevel n))) (λ r. raise (suc (level r)) (chunks m tree))
-    (λ n. records-new (raise (suc (taggedLevel n)) (chunks m tree))) ms ns
-records-insert place.After m tree ms ns =
-    map-insertBehind taggedLevel level (λ n. n .0) (λ n. refl) (λ n. newTree m tree (taggedLevel n)) (λ r. raise (level r) (chunks m tree))
-    (λ n. records-new (raise (taggedLevel n) (chunks m tree))) ms ns
-records-insert place.Before m tree ms ns =
-    map-insertInFront taggedLevel level (λ n. n .0) (λ n. refl) (λ n. newTree m tree (taggedLevel n)) (λ r. raise (level r) (chunks m tree))
-    (λ n. records-new (raise (taggedLevel n) (chunks m tree))) ms ns
-
--- the nodes after an effect are the records after it
 records-after : (e : Effect) (ns : List Tagged) → map (λ n. n .0) (afterEffect e ns) ≡ recordsAfter e (map (λ n. n .0) ns)
-records-after (policy p g) ns = refl
-records-after (root l) ns = refl
-records-after (insertion at ms m tree g) ns = records-insert at m tree ms ns
-records-after (renaming l ms) ns = records-rename l ms ns
-records-after (removal ms) ns = records-remove ms ns
-records-after (login u) ns = refl
-records-after reading ns = refl
+records-after e ns = map-after taggedLevel level (λ n. n .0) (λ n. refl) new (λ rs. rs) records-new recorded (λ g. g) (λ g n. refl) e ns
 
 -- one line
 module _ (choice : Choice) (s t : List ℕ) (i : Input) (ns : List Tagged) (e : map (λ n. n .0) ns ≡ records t) where
@@ -96,30 +98,31 @@ follows choice s t (i ∷ is) ns e =
 abbrev tagOf : Tagged → Option ℕ
 tagOf n = n .1
 
-none-new : (rs : List (List ℕ)) → tags tagOf (new rs) ≡ []
+-- what a node carries that is nothing for a new one stays through an insertion
+none-new : {X : Type 0} (h : Tagged → Option X) → ((r : List ℕ) → h (r, none) ≡ none) → (rs : List (List ℕ)) → tags h (new rs) ≡ []
 unfolding tags
-none-new [] = refl
-none-new (r ∷ rs) = none-new rs
+none-new h e [] = refl
+none-new h e (r ∷ rs) = rw (e r) (none-new h e rs)
 
--- an insertion and a renaming keep every node, in order
-pub tags-insert : (at : Place) (m : ℕ) (tree : List ℕ) (ms : List Bool) (ns : List Tagged) → tags tagOf (afterInsert at m tree ms ns) ≡ tags tagOf ns
-tags-insert place.Append m tree ms ns =
-    tags-insertBehind taggedLevel tagOf (λ n. newTree m tree (suc (taggedLevel n))) (λ n. none-new (raise (suc (taggedLevel n)) (chunks m tree))) ms ns
-tags-insert place.After m tree ms ns =
-    tags-insertBehind taggedLevel tagOf (λ n. newTree m tree (taggedLevel n)) (λ n. none-new (raise (taggedLevel n) (chunks m tree))) ms ns
-tags-insert place.Before m tree ms ns =
-    tags-insertInFront taggedLevel tagOf (λ n. newTree m tree (taggedLevel n)) (λ n. none-new (raise (taggedLevel n) (chunks m tree))) ms ns
+tags-insert : {X : Type 0} (h : Tagged → Option X) → ((r : List ℕ) → h (r, none) ≡ none)
+    → (at : Place) (m : ℕ) (tree : List ℕ) (ms : List Bool) (g : ℕ) (ns : List Tagged) → tags h (afterEffect (insertion at ms m tree g) ns) ≡ tags h ns
+tags-insert h e place.Append m tree ms g ns =
+    tags-insertBehind taggedLevel h (λ n. new (raise (suc (taggedLevel n)) (chunks m tree))) (λ n. none-new h e (raise (suc (taggedLevel n)) (chunks m tree))) ms ns
+tags-insert h e place.After m tree ms g ns =
+    tags-insertBehind taggedLevel h (λ n. new (raise (taggedLevel n) (chunks m tree))) (λ n. none-new h e (raise (taggedLevel n) (chunks m tree))) ms ns
+tags-insert h e place.Before m tree ms g ns =
+    tags-insertInFront taggedLevel h (λ n. new (raise (taggedLevel n) (chunks m tree))) (λ n. none-new h e (raise (taggedLevel n) (chunks m tree))) ms ns
 
-pub tags-relabel : (l : List ℕ) (ms : List Bool) (ns : List Tagged) → tags tagOf (afterRename l ms ns) ≡ tags tagOf ns
-tags-relabel l ms ns = tags-rename taggedLevel tagOf (λ n. (relabel l (n .0), n .1)) (λ n. refl) ms ns
+tags-relabel : (l : List ℕ) (ms : List Bool) (ns : List Tagged) → tags tagOf (afterEffect (renaming l ms) ns) ≡ tags tagOf ns
+tags-relabel l ms ns = tags-rename taggedLevel tagOf (recorded (relabel l)) (λ n. refl) ms ns
 
 same : {a b : List ℕ} → a ≡ b → Sublistᴰ a b
 same {b = b} e = rw e (Sublistᴰ·refl b)
 
 tags-effect : (e : Effect) (ns : List Tagged) → Sublistᴰ (tags tagOf (afterEffect e ns)) (tags tagOf ns)
 tags-effect (policy p g) ns = Sublistᴰ·refl _
-tags-effect (root l) ns = rw (none-new (nodeRecord 0 l ∷ [])) (Sublistᴰ·nil-sublist _)
-tags-effect (insertion at ms m tree g) ns = same (tags-insert at m tree ms ns)
+tags-effect (root l) ns = rw (none-new tagOf (λ r. refl) (nodeRecord 0 l ∷ [])) (Sublistᴰ·nil-sublist _)
+tags-effect (insertion at ms m tree g) ns = same (tags-insert tagOf (λ r. refl) at m tree ms g ns)
 tags-effect (renaming l ms) ns = same (tags-relabel l ms ns)
 tags-effect (removal ms) ns = tags-remove taggedLevel tagOf ms ns
 tags-effect (login u) ns = Sublistᴰ·refl _
@@ -129,23 +132,23 @@ tags-reply : (r : Reply) (e : Effect) (ns : List Tagged) → Sublistᴰ (tags ta
 tags-reply (says b) e ns = tags-effect e ns
 tags-reply (refuses n) e ns = Sublistᴰ·refl _
 
-pub tags-follow : (choice : Choice) (s t : List ℕ) (i : Input) (ns : List Tagged) → Sublistᴰ (tags tagOf (follow choice s t i ns)) (tags tagOf ns)
+tags-follow : (choice : Choice) (s t : List ℕ) (i : Input) (ns : List Tagged) → Sublistᴰ (tags tagOf (follow choice s t i ns)) (tags tagOf ns)
 unfolding follow
 tags-follow choice s t i ns = tags-reply (outcome choice s t i .reply) (effectOf choice s t (i .line)) ns
 
 -- after any lines, whatever the store: the kept nodes are some of those at first, in order
-pub none-back : NoneBack
+tags-kept : (choice : Choice) (s t : List ℕ) (is : List Input) (ns : List Tagged) → Sublistᴰ (tags tagOf (followAll choice s t is ns)) (tags tagOf ns)
 unfolding followAll
-none-back choice s t [] ns = Sublistᴰ·refl _
-none-back choice s t (i ∷ is) ns =
-    Sublistᴰ·trans (none-back choice (outcome choice s t i .state) (outcome choice s t i .table) is (follow choice s t i ns)) (tags-follow choice s t i ns)
+tags-kept choice s t [] ns = Sublistᴰ·refl _
+tags-kept choice s t (i ∷ is) ns =
+    Sublistᴰ·trans (tags-kept choice (outcome choice s t i .state) (outcome choice s t i .table) is (follow choice s t i ns)) (tags-follow choice s t i ns)
 
 -- "A change keeps every node that it does not remove"
 tags-same : (f : Form) (line s t : List ℕ) → stageC ≤ stage s → ((p : Part) → f ≡ Remove p → ⊥) → (e : Effect) → EffectSound f line s t e → (ns : List Tagged)
     → tags tagOf (afterEffect e ns) ≡ tags tagOf ns
 tags-same f line s t h k (policy p g) x ns = refl
 tags-same f line s t h k (root l) x ns = absurd (omega (arith, x .early))
-tags-same f line s t h k (insertion at ms m tree g) x ns = tags-insert at m tree ms ns
+tags-same f line s t h k (insertion at ms m tree g) x ns = tags-insert tagOf (λ r. refl) at m tree ms g ns
 tags-same f line s t h k (renaming l ms) x ns = tags-relabel l ms ns
 tags-same f line s t h k (removal ms) x ns = absurd (k (x .path) (x .form))
 tags-same f line s t h k (login u) x ns = refl
@@ -166,6 +169,91 @@ nodes-removed choice s t i ns p text e q =
     rw q
     (ap (λ (f : Form). afterEffect (workOf choice f s t (i .line) (recordsOf (treeIn (i .line))) .effect) ns) e
     ∙ remove-only taggedLevel (doneIn change.Remove s t (bytesOf (i .line) p)) ns)
+
+-- "Inserted nodes are new"
+
+known-all : (i : ℕ) (rs : List (List ℕ)) → knownOf (tagAll i rs) ≡ tagAll i rs
+unfolding tags
+known-all i [] = refl
+known-all i (r ∷ rs) = ap (λ ns. (r, some i) ∷ ns) (known-all (suc i) rs)
+
+pub inserted-new : InsertedNew
+unfolding follow
+inserted-new choice s t i at ms m tree g e = go (outcome choice s t i .reply) ∙ known-all 0 (records t)
+  where
+    go : (r : Reply) → knownOf (afterReply r (effectOf choice s t (i .line)) (tagAll 0 (records t))) ≡ knownOf (tagAll 0 (records t))
+    go (says b) =
+        ap (λ (x : Effect). knownOf (afterEffect x (tagAll 0 (records t)))) e ∙ tags-insert known (λ r. refl) at m tree ms g (tagAll 0 (records t))
+    go (refuses n) = refl
+
+-- Other tags: a change goes by levels and records alone
+
+abbrev through : (ℕ → Option ℕ) → Option ℕ → Option ℕ
+through f none = none
+through f (some i) = f i
+
+abbrev retag : (ℕ → Option ℕ) → Tagged → Tagged
+retag f n = (n .0, through f (n .1))
+
+module _ (f : ℕ → Option ℕ) where
+  retag-new : (rs : List (List ℕ)) → map (retag f) (new rs) ≡ new rs
+  retag-new [] = refl
+  retag-new (r ∷ rs) = ap (λ ns. (r, none) ∷ ns) (retag-new rs)
+
+  retag-follow : (choice : Choice) (s t : List ℕ) (i : Input) (ns : List Tagged) → map (retag f) (follow choice s t i ns) ≡ follow choice s t i (map (retag f) ns)
+  unfolding follow
+  retag-follow choice s t i ns = go (outcome choice s t i .reply)
+    where
+      go : (r : Reply) → map (retag f) (afterReply r (effectOf choice s t (i .line)) ns) ≡ afterReply r (effectOf choice s t (i .line)) (map (retag f) ns)
+      go (says b) =
+          map-after taggedLevel taggedLevel (retag f) (λ n. refl) new new retag-new recorded recorded (λ g n. refl) (effectOf choice s t (i .line)) ns
+      go (refuses n) = refl
+
+  retag-all : (choice : Choice) (s t : List ℕ) (is : List Input) (ns : List Tagged)
+      → map (retag f) (followAll choice s t is ns) ≡ followAll choice s t is (map (retag f) ns)
+  unfolding followAll
+  retag-all choice s t [] ns = refl
+  retag-all choice s t (i ∷ is) ns =
+      retag-all choice (outcome choice s t i .state) (outcome choice s t i .table) is (follow choice s t i ns)
+      ∙ ap (followAll choice (outcome choice s t i .state) (outcome choice s t i .table) is) (retag-follow choice s t i ns)
+
+  -- nodes are their records with other tags
+  retagged : (j : ℕ) (ns : List Tagged) → ((k : ℕ) → f (j + k) ≡ tagAt ns k) → map (retag f) (tagAll j (map (λ n. n .0) ns)) ≡ ns
+  retagged j [] h = refl
+  retagged j ((r, o) ∷ ns) h =
+      let z : j + 0 ≡ j = omega arith in
+      let e : f j ≡ o = rw z at (h 0) in
+      ap₂ (λ x l. (r, x) ∷ l) e (retagged (suc j) ns (λ k. let y : j + suc k ≡ suc j + k = omega arith in rw y at (h (suc k))))
+
+  tag-through : (ns : List Tagged) (k i : ℕ) → tagAt (map (retag f) ns) k ≡ some i → (j : ℕ) × (f j ≡ some i) × (tagAt ns k ≡ some j)
+  tag-through [] k i e = absurd (let z : _≡_ {A = ℕ} 0 1 = cc in omega arith)
+  tag-through ((r, none) ∷ ns) zero i e = absurd (let z : _≡_ {A = ℕ} 0 1 = cc in omega arith)
+  tag-through ((r, some j) ∷ ns) zero i e = (j, e, refl)
+  tag-through (n ∷ ns) (suc k) i e = tag-through ns k i e
+
+follow-append : (choice : Choice) (s t : List ℕ) (is js : List Input) (ns : List Tagged)
+    → followAll choice s t (is ++ js) ns ≡ followAll choice (stateAfterAll choice s t is) (tableAfterAll choice s t is) js (followAll choice s t is ns)
+unfolding followAll stateAfterAll tableAfterAll
+follow-append choice s t [] js ns = refl
+follow-append choice s t (i ∷ is) js ns = follow-append choice (outcome choice s t i .state) (outcome choice s t i .table) is js (follow choice s t i ns)
+
+pub records-numbered : (i : ℕ) (rs : List (List ℕ)) → map (λ n. n .0) (tagAll i rs) ≡ rs
+records-numbered i [] = refl
+records-numbered i (r ∷ rs) = ap (λ l. r ∷ l) (records-numbered (suc i) rs)
+
+-- "A removed node never comes back"
+pub none-back : NoneBack
+none-back choice s t before between k i w =
+    let s1 : List ℕ = stateAfterAll choice s t before in
+    let t1 : List ℕ = tableAfterAll choice s t before in
+    let mid : List Tagged = followAll choice s t before (tagAll 0 (records t)) in
+    let h : map (λ n. n .0) mid ≡ records t1 = follows choice s t before (tagAll 0 (records t)) (records-numbered 0 (records t)) in
+    let z : (j : ℕ) → tagAt mid (0 + j) ≡ tagAt mid j = λ j. let y : 0 + j ≡ j = omega arith in rw y in
+    let e : map (retag (tagAt mid)) (tagAll 0 (records t1)) ≡ mid = ap (λ rs. map (retag (tagAt mid)) (tagAll 0 rs)) (sym h) ∙ retagged (tagAt mid) 0 mid z in
+    let q : map (retag (tagAt mid)) (followAll choice s1 t1 between (tagAll 0 (records t1))) ≡ followAll choice s t (before ++ between) (tagAll 0 (records t)) =
+    retag-all (tagAt mid) choice s1 t1 between (tagAll 0 (records t1)) ∙ ap (followAll choice s1 t1 between) e
+    ∙ sym (follow-append choice s t before between (tagAll 0 (records t))) in
+    tag-through (tagAt mid) (followAll choice s1 t1 between (tagAll 0 (records t1))) k i (ap (λ ns. tagAt ns k) q ∙ w)
 
 -- Numbers as tags
 
@@ -215,4 +303,4 @@ tags-rise ((r, some j) ∷ ns) (suc k) (suc k') i i' a e f h = tags-rise ns k k'
 pub order-kept : OrderKept
 order-kept choice s t is k k' i i' e f h =
     tags-rise (followAll choice s t is (tagAll 0 (records t))) k k' i i'
-    (rises-part (none-back choice s t is (tagAll 0 (records t))) (numbers-rise 0 (records t))) e f h
+    (rises-part (tags-kept choice s t is (tagAll 0 (records t))) (numbers-rise 0 (records t))) e f h

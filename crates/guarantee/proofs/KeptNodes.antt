@@ -8,7 +8,7 @@ use mathlib.Core.Option.{Option, none, some}
 use native.Mathlib.Omega.{arith}
 use lib.ListN.{length, take, drop}
 use Rattle.rights.specs.Policy.{Policy, policyWord}
-use Rattle.rights.specs.Rights.{rightsBy, chains}
+use Rattle.rights.specs.Rights.{rightsBy, chains, rightsOn}
 use Rattle.rights.specs.Table.{records, level, label, tableOk}
 use Rattle.views.proofs.RelabelLaws.{level-relabel, label-relabel}
 use Rattle.views.specs.Change.{insertBehind, chunks, raise, relabel}
@@ -17,12 +17,31 @@ use Rattle.views.specs.How.Pass.{AtDone}
 use Rattle.views.specs.declared.insert.Place.{Place}
 use Rattle.views.specs.declared.insert.Place.the-variants as place
 use Rattle.views.proofs.KeptLaws.{tags-remove, tags-insertBehind, tags-insertInFront, tags-rename}
-use Rattle.guarantee.specs.Identity.{Tagged, taggedLevel, new, newTree, afterInsert, afterRename, afterRemove, kept, beside, keptRights}
+use Rattle.lines.specs.Effect.{insertion, renaming, removal}
+use Rattle.guarantee.specs.Identity.{Tagged, taggedLevel, new, afterEffect}
 use Rattle.guarantee.proofs.Chains.{cellLevel, chain, cells, Keeps, cells-remove, cells-insertBehind, cells-insertInFront, cells-rename}
 use Rattle.guarantee.proofs.LowTable.{chain-keys}
 use Rattle.guarantee.proofs.Sound.{NoWord}
 use Rattle.guarantee.proofs.TableAfter.{table-nested}
 use Rattle.guarantee.proofs.Keys.{Key, keyOf, rightsByKeys, rights-by-keys}
+
+-- the kept nodes in order, each by its tag, with what is held on it
+abbrev pub kept : Tagged × ℕ → Option (ℕ × ℕ)
+kept ((r, none), set) = none
+kept ((r, some x), set) = some (x, set)
+
+abbrev pub beside : List Tagged → List ℕ → List (Tagged × ℕ)
+beside [] ss = []
+beside (n ∷ ns) [] = []
+beside (n ∷ ns) (s ∷ ss) = (n, s) ∷ beside ns ss
+
+-- the kept nodes with the rights that subject u has on each
+abbrev pub keptRights : Policy → ℕ → List Tagged → List (ℕ × ℕ)
+keptRights P u ns = tags kept (beside ns (rightsOn P u (map (λ n. n .0) ns)))
+
+-- the inserted tree of m records, its root at level l
+abbrev newTree : ℕ → List ℕ → ℕ → List Tagged
+newTree m tree l = new (raise l (chunks m tree))
 
 -- the levels of inserted nodes
 above-new : (l : ℕ) (rs : List (List ℕ)) → Above taggedLevel l (new (raise l rs))
@@ -70,10 +89,10 @@ module _ (P : Policy) (u : ℕ) (declared : u < length (P .names)) where
   none-new c (r ∷ rs) = none-new (chain taggedLevel keyed c (r, none)) rs
 
   -- a removal leaves the rights on the nodes that stay
-  pub kept-remove : (ms : List Bool) (ns : List Tagged) → Nested taggedLevel 0 ns → Sublistᴰ (keptRights P u (afterRemove ms ns)) (keptRights P u ns)
+  pub kept-remove : (ms : List Bool) (ns : List Tagged) → Nested taggedLevel 0 ns → Sublistᴰ (keptRights P u (afterEffect (removal ms) ns)) (keptRights P u ns)
   kept-remove ms ns w =
       part-at
-      (kept-cells (afterRemove ms ns) ∙ ap (tags held) (cells-remove taggedLevel keyed [] ms ns w))
+      (kept-cells (afterEffect (removal ms) ns) ∙ ap (tags held) (cells-remove taggedLevel keyed [] ms ns w))
       (kept-cells ns)
       (tags-remove (cellLevel taggedLevel keyed) held ms (cells taggedLevel keyed [] ns))
 
@@ -91,12 +110,12 @@ module _ (P : Policy) (u : ℕ) (declared : u < length (P .names)) where
       ∙ sym (kept-cells ns)
 
   -- an insertion leaves all rights; the inserted nodes are new
-  pub kept-insert : (at : Place) (m : ℕ) (tree : List ℕ) (ms : List Bool) (ns : List Tagged) → Nested level 0 (chunks m tree) → Nested taggedLevel 0 ns
-      → keptRights P u (afterInsert at m tree ms ns) ≡ keptRights P u ns
-  kept-insert place.Append = kept-behind suc (λ l. omega arith) (λ l. omega arith)
-  kept-insert place.After = kept-behind (λ l. l) (λ l. omega arith) (λ l. omega arith)
-  kept-insert place.Before = λ m tree ms ns k w.
-      kept-cells (afterInsert place.Before m tree ms ns)
+  pub kept-insert : (at : Place) (m : ℕ) (tree : List ℕ) (g : ℕ) (ms : List Bool) (ns : List Tagged) → Nested level 0 (chunks m tree) → Nested taggedLevel 0 ns
+      → keptRights P u (afterEffect (insertion at ms m tree g) ns) ≡ keptRights P u ns
+  kept-insert place.Append m tree g = kept-behind suc (λ l. omega arith) (λ l. omega arith) m tree
+  kept-insert place.After m tree g = kept-behind (λ l. l) (λ l. omega arith) (λ l. omega arith) m tree
+  kept-insert place.Before m tree g = λ ms ns k w.
+      kept-cells (afterEffect (insertion place.Before ms m tree g) ns)
       ∙ ap (tags held)
       (cells-insertInFront taggedLevel keyed (λ n. newTree m tree (taggedLevel n))
       (λ n. above-new (taggedLevel n) (chunks m tree)) (λ n. front-new (taggedLevel n) (chunks m tree) k) [] ms ns w)
@@ -114,9 +133,9 @@ module _ (P : Policy) (u : ℕ) (declared : u < length (P .names)) where
 
   -- a renaming leaves all rights: neither the old label nor the new one is a policy word
   pub kept-rename : (l : List ℕ) (ms : List Bool) (ns : List Tagged) → policyWord P l ≡ false → AtDone (λ n. NoWord P (n .0)) ms ns
-      → keptRights P u (afterRename l ms ns) ≡ keptRights P u ns
+      → keptRights P u (afterEffect (renaming l ms) ns) ≡ keptRights P u ns
   kept-rename l ms ns e a =
-      kept-cells (afterRename l ms ns)
+      kept-cells (afterEffect (renaming l ms) ns)
       ∙ ap (tags held) (cells-rename taggedLevel keyed (λ x. (relabel l (x .0), x .1)) [] ms ns (keeps-done l e ms ns a))
       ∙ tags-rename (cellLevel taggedLevel keyed) held (λ p. ((relabel l (p .0 .0), p .0 .1), p .1)) (λ p. same (p .0 .0) (p .0 .1) (p .1)) ms (cells taggedLevel keyed [] ns)
       ∙ sym (kept-cells ns)

@@ -17,10 +17,10 @@ pub mod FormLaws
 pub mod Accepted
 pub mod SessionKept
 pub mod StepAlike
-pub mod KeptNodes
-pub mod Identity
-pub mod RightsKept
 pub mod RunKept
+pub mod Identity
+pub mod KeptNodes
+pub mod RightsKept
 pub mod InsertionStep
 pub mod ViewStep
 pub mod Demand

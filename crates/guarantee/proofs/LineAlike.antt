@@ -17,7 +17,7 @@ use Rattle.views.specs.declared.done.Change.{Change}
 use Rattle.views.specs.declared.insert.Place.{Place}
 use Rattle.forms.specs.declared.form.Form.{Form}
 use Rattle.lines.specs.State.{policyBytes, policyIn, storeOk}
-use Rattle.lines.specs.Effect.{Effect, insertion, renaming, removal, login, reading, tableAfter, Work}
+use Rattle.lines.specs.Effect.{Effect, insertion, renaming, removal, login, reading, recordsAfter, tableAfter, Work}
 use Rattle.lines.specs.Outcome.{refuses, Outcome}
 use Rattle.lines.specs.Refusal.{tableFull, Check, checked, Passed}
 use Rattle.lines.specs.UserView.{noUser, viewIn, marksIn, doneIn}
@@ -27,7 +27,7 @@ use Rattle.lines.proofs.StateLaws.{store-held}
 use Rattle.guarantee.specs.Alike.{SamePolicy, UserIs}
 use Rattle.guarantee.proofs.SamePolicy.{same-word}
 use Rattle.guarantee.proofs.Sound.{EffectSound}
-use Rattle.guarantee.proofs.TableAfter.{recordsAfter, table-after}
+use Rattle.guarantee.proofs.TableAfter.{table-after}
 use Rattle.guarantee.proofs.LowTable.{PublicRecord, lowOf, nodesOf, doneLow}
 use Rattle.guarantee.proofs.LineLow.{selectLow, deepLow, doneBy, countLow, Marked, removeLow, renameLow, placeLow, view-in, marks-in, done-in, text-in, deep-in, removed-low, renamed-low, placed-low}
 

@@ -2,7 +2,7 @@
 use Prim.Native.Nat.{ℕ, zero, suc, _+_, _≤_, _<_}
 use mathlib.Core.Bool.{true}
 use mathlib.Core.Logic.{_⊎_, inl, inr}
-use mathlib.Core.Path.{_≡_, refl, sym, ap, _∙_}
+use mathlib.Core.Path.{_≡_, refl, sym, ap, ap₂, _∙_, subst}
 use mathlib.Core.List.{List, [], _∷_, map, Sublistᴰ, Sublistᴰ·refl, Sublistᴰ·trans}
 use mathlib.Core.Option.{none, some}
 use native.Mathlib.Omega.{arith}
@@ -18,14 +18,15 @@ use Rattle.lines.specs.State.{stageC, stage, policyIn}
 use Rattle.forms.specs.declared.form.Form.{Form}
 use Rattle.lines.proofs.StateLaws.{store-held}
 use Rattle.guarantee.specs.Alike.{Input, outcome}
-use Rattle.guarantee.specs.Identity.{Tagged, afterEffect, afterReply, effectOf, follow, followAll, kept, beside, keptRights, stateAfterAll, RightsKept, tagAll, tagAt, SameRights}
+use Rattle.guarantee.specs.Identity.{Tagged, afterEffect, afterReply, effectOf, follow, followAll, stateAfterAll, tableAfterAll, tagAll, tagAt, Was, rightsAt, SameRights}
 use Rattle.lines.specs.Effect.{Effect, policy, root, insertion, renaming, removal, login, reading}
 use Rattle.guarantee.proofs.CheckLaws.{Refused}
 use Rattle.guarantee.proofs.Sound.{EffectSound}
 use Rattle.guarantee.proofs.Accepted.{Accepted, line-cases}
 use Rattle.guarantee.proofs.SessionKept.{policy-kept, rooted-kept}
-use Rattle.guarantee.proofs.Identity.{all-part, follows-line, follows}
-use Rattle.guarantee.proofs.KeptNodes.{nodes-nested, nodes-free, kept-remove, kept-insert, kept-rename}
+use Rattle.guarantee.proofs.RunKept.{run-rooted, run-policy, run-state, run-table}
+use Rattle.guarantee.proofs.Identity.{records-numbered, all-part, follows-line, follows}
+use Rattle.guarantee.proofs.KeptNodes.{kept, beside, keptRights, nodes-nested, nodes-free, kept-remove, kept-insert, kept-rename}
 
 same : {a b : List (ℕ × ℕ)} → a ≡ b → Sublistᴰ a b
 same {b = b} e = rw e (Sublistᴰ·refl b)
@@ -37,7 +38,7 @@ rights-effect : (f : Form) (line s t : List ℕ) → tableOk t ≡ true → stag
 rights-effect f line s t ok rooted ns q u d (policy p g) x = Sublistᴰ·refl _
 rights-effect f line s t ok rooted ns q u d (root l) x = absurd (omega (arith, x .early))
 rights-effect f line s t ok rooted ns q u d (insertion at ms m tree g) x =
-    same (kept-insert (policyIn s) u d at m tree ms ns (x .good .nested) (nodes-nested t ns ok q))
+    same (kept-insert (policyIn s) u d at m tree g ms ns (x .good .nested) (nodes-nested t ns ok q))
 rights-effect f line s t ok rooted ns q u d (renaming l ms) x =
     same (kept-rename (policyIn s) u d l ms ns (x .no-word) (nodes-free (policyIn s) t ms ns q (x .no-words)))
 rights-effect f line s t ok rooted ns q u d (removal ms) x = kept-remove (policyIn s) u d ms ns (nodes-nested t ns ok q)
@@ -45,10 +46,6 @@ rights-effect f line s t ok rooted ns q u d (login v) x = Sublistᴰ·refl _
 rights-effect f line s t ok rooted ns q u d reading x = Sublistᴰ·refl _
 
 -- With numbers as tags
-
-records-numbered : (i : ℕ) (rs : List (List ℕ)) → map (λ n. n .0) (tagAll i rs) ≡ rs
-records-numbered i [] = refl
-records-numbered i (r ∷ rs) = ap (λ l. r ∷ l) (records-numbered (suc i) rs)
 
 numbered-sets : (sets : List ℕ) (j : ℕ) (rs : List (List ℕ)) (ss : List ℕ) → ((k : ℕ) → getD ss k 0 ≡ getD sets (j + k) 0)
     → All (λ p. p .1 ≡ getD sets (p .0) 0) (tags kept (beside (tagAll j rs) ss))
@@ -91,9 +88,11 @@ module _ (choice : Choice) (s t : List ℕ) (i : Input) (ns : List Tagged) (e : 
           rw (x .is)
           (rights-effect (readForm (i .line)) (i .line) s t (store-held s t (x .passes) .table) rooted ns e u d (effectOf choice s t (i .line)) (x .sound))
 
--- Any lines
+-- Any lines: what every declared subject may do on the kept nodes afterwards is a part, in order, of what it could do on them before
 
-pub rights-kept : RightsKept
+rights-kept : (choice : Choice) (s t : List ℕ) → stageC ≤ stage s → (is : List Input) (ns : List Tagged)
+    → map (λ n. n .0) ns ≡ records t → (u : ℕ) → u < length (policyIn s .names)
+    → Sublistᴰ (keptRights (policyIn (stateAfterAll choice s t is)) u (followAll choice s t is ns)) (keptRights (policyIn s) u ns)
 unfolding followAll stateAfterAll
 rights-kept choice s t rooted [] ns e u d = Sublistᴰ·refl _
 rights-kept choice s t rooted (i ∷ is) ns e u d =
@@ -105,8 +104,10 @@ rights-kept choice s t rooted (i ∷ is) ns e u d =
     (follow choice s t i ns) (follows-line choice s t i ns e) u (rw (← p) d))
     (rw (← p) (rights-line choice s t i ns e rooted u d))
 
-pub same-rights : SameRights
-same-rights choice s t rooted is u d k i w =
+-- from the start on
+rights-from : (choice : Choice) (s t : List ℕ) → stageC ≤ stage s → (is : List Input) (u : ℕ) → u < length (policyIn s .names) → (k i : ℕ)
+    → Was choice s t is k i → rightsAt (stateAfterAll choice s t is) (tableAfterAll choice s t is) u k ≡ rightsAt s t u i
+rights-from choice s t rooted is u d k i w =
     let ns : List Tagged = tagAll 0 (records t) in
     let ns' : List Tagged = followAll choice s t is ns in
     let P' : Policy = policyIn (stateAfterAll choice s t is) in
@@ -117,3 +118,12 @@ same-rights choice s t rooted is u d k i w =
     let b : All (λ p. p .1 ≡ getD sets (p .0) 0) (keptRights P' u ns') = all-part (λ p. p .1 ≡ getD sets (p .0) 0) (rights-kept choice s t rooted is ns n u d) a in
     ap (λ rs. getD (rightsOn P' u rs) k 0) (sym (follows choice s t is ns n))
     ∙ tagged-set (λ p. p .1 ≡ getD sets (p .0) 0) ns' (rightsOn P' u (map (λ x. x .0) ns')) k i (omega (arith, sets-length P' u ns')) b w
+
+-- between any two points
+pub same-rights : SameRights
+same-rights choice s t rooted before between u d k i w =
+    let s1 : List ℕ = stateAfterAll choice s t before in
+    let t1 : List ℕ = tableAfterAll choice s t before in
+    let p : policyIn s1 ≡ policyIn s = ap policyOf (run-policy choice s t before rooted) in
+    ap₂ (λ x y. rightsAt x y u k) (run-state choice s t before between) (run-table choice s t before between)
+    ∙ rights-from choice s1 t1 (run-rooted choice s t before rooted) between u (subst (λ (P : Policy). u < length (P .names)) (sym p) d) k i w

@@ -1,8 +1,8 @@
--- After a list of lines: the store passes, the root line is taken, and the policy is what it was. Assumes nothing.
+-- After a list of lines: the store passes, the root line is taken, and the policy is what it was. A list is run by running its parts. Assumes nothing.
 use Prim.Native.Nat.{ℕ, _≤_}
 use mathlib.Core.Path.{_≡_, refl, _∙_}
 use mathlib.Core.Bool.{true}
-use mathlib.Core.List.{List, [], _∷_}
+use mathlib.Core.List.{List, [], _∷_, _++_}
 use Rattle.answers.specs.AnswerChoice.{Choice}
 use Rattle.lines.specs.State.{stageC, stage, policyBytes, storeOk}
 use Rattle.guarantee.specs.Alike.{Input, outcome}
@@ -26,3 +26,15 @@ module _ (choice : Choice) where
   run-policy s t (i ∷ is) h =
       run-policy (outcome choice s t i .state) (outcome choice s t i .table) is (rooted-kept choice s t (i .line) (i .room) h)
       ∙ policy-kept choice s t (i .line) (i .room) h
+
+  pub run-state : (s t : List ℕ) (is js : List Input)
+      → stateAfterAll choice s t (is ++ js) ≡ stateAfterAll choice (stateAfterAll choice s t is) (tableAfterAll choice s t is) js
+  unfolding stateAfterAll tableAfterAll
+  run-state s t [] js = refl
+  run-state s t (i ∷ is) js = run-state (outcome choice s t i .state) (outcome choice s t i .table) is js
+
+  pub run-table : (s t : List ℕ) (is js : List Input)
+      → tableAfterAll choice s t (is ++ js) ≡ tableAfterAll choice (stateAfterAll choice s t is) (tableAfterAll choice s t is) js
+  unfolding stateAfterAll tableAfterAll
+  run-table s t [] js = refl
+  run-table s t (i ∷ is) js = run-table (outcome choice s t i .state) (outcome choice s t i .table) is js

@@ -14,7 +14,7 @@ use Rattle.forms.specs.Tree.{recordsOf}
 use Rattle.forms.specs.declared.form.Form.{Form}
 use Rattle.lines.specs.State.{stageC, stageE, stage, userByte, withSession, withPolicy, policyBytes, storeOk}
 use Rattle.lines.specs.Effect.{Effect, policy, root, insertion, renaming, removal, login, reading, stateAfter, tableAfter}
-use Rattle.lines.specs.Outcome.{says, Outcome}
+use Rattle.lines.specs.Outcome.{Outcome, answerOf}
 use Rattle.lines.specs.PolicyEdit.{numberIn}
 use Rattle.store.specs.Line.{workOf, step}
 use Rattle.lines.proofs.StateLaws.{store-held}
@@ -22,7 +22,7 @@ use Rattle.guarantee.specs.Alike.{UserIs, LogsIn}
 use Rattle.guarantee.proofs.CheckLaws.{Refused}
 use Rattle.guarantee.proofs.Sound.{LoginSound, EffectSound}
 use Rattle.guarantee.proofs.StoreKept.{policy-staged, policy-logged, later-staged, session-kept, held-passes, held-after}
-use Rattle.guarantee.proofs.Accepted.{lineWork, Accepted, line-cases, accepted, after-line}
+use Rattle.guarantee.proofs.Accepted.{lineWork, Accepted, line-cases, taken, after-line}
 
 -- the policy and the stage after an effect, the root line taken before
 policy-after : (f : Form) (line s t : List ℕ) → stageC ≤ stage s → (e : Effect) → EffectSound f line s t e
@@ -69,7 +69,7 @@ module _ (choice : Choice) (s t line : List ℕ) (room : ℕ) where
   -- The user stays, or the line is an accepted `(user N)`: then N is the user, the stage is E, and nothing else changes.
   pub record LoggedIn : Type 0 where
     pub subject : ℕ
-    pub logs : LogsIn subject s line (step choice s t line room)
+    pub logs : LogsIn subject s line (answerOf (step choice s t line room .reply))
     pub state : step choice s t line room .state ≡ withSession stageE (suc subject) s
     pub table : step choice s t line room .table ≡ t
 
@@ -101,26 +101,27 @@ module _ (choice : Choice) (s t line : List ℕ) (room : ℕ) where
                   name = y .name;
                   form = y .form;
                   subject = y .named;
-                  accepted = ap (λ (o : Outcome). o .reply) (x .is) ∙ ap (λ (f : Form). says (workOf choice f s t line (recordsOf (treeIn line)) .text)) (y .form);
+                  said = length (lineWork choice s t line .text);
+                  accepted = ap (λ (o : Outcome). answerOf (o .reply)) (x .is);
                 };
                 state = left .0;
                 table = left .1;
               })
 
   -- The line that logs v in leaves v as user, at stage E, and changes nothing else.
-  pub logged-in : (v : ℕ) → LogsIn v s line (step choice s t line room)
+  pub logged-in : (v : ℕ) → LogsIn v s line (answerOf (step choice s t line room .reply))
       → (step choice s t line room .state ≡ withSession stageE (suc v) s) × (step choice s t line room .table ≡ t)
   logged-in v l =
-      login-left (accepted choice s t line room _ (l .accepted)) v
+      login-left (taken choice s t line room (l .said) (l .accepted)) v
       (ap (λ (f : Form). workOf choice f s t line (recordsOf (treeIn line)) .effect) (l .form) ∙ ap (λ n. login (numberIn n)) (l .subject))
 
   -- So u stays the user where no other subject is logged in, and is the user where it logs in.
-  pub user-is-kept : (u : ℕ) → UserIs u s → ((v : ℕ) → LogsIn v s line (step choice s t line room) → v ≡ u) → UserIs u (step choice s t line room .state)
+  pub user-is-kept : (u : ℕ) → UserIs u s → ((v : ℕ) → LogsIn v s line (answerOf (step choice s t line room .reply)) → v ≡ u) → UserIs u (step choice s t line room .state)
   user-is-kept u e h = go user-cases
     where
       go : (userByte (step choice s t line room .state) ≡ userByte s) ⊎ LoggedIn → UserIs u (step choice s t line room .state)
       go (inl q) = q ∙ e
       go (inr l) = ap userByte (l .state) ∙ ap suc (h (l .subject) (l .logs))
 
-  pub user-is-logged : (v : ℕ) → LogsIn v s line (step choice s t line room) → UserIs v (step choice s t line room .state)
+  pub user-is-logged : (v : ℕ) → LogsIn v s line (answerOf (step choice s t line room .reply)) → UserIs v (step choice s t line room .state)
   user-is-logged v l = ap userByte (logged-in v l .0)

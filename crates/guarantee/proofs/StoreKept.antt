@@ -21,10 +21,10 @@ use Rattle.lines.proofs.StateLaws.{Held, store-held}
 use Rattle.lines.proofs.EditTests.{found-subject}
 use Rattle.forms.specs.declared.form.Form.{Form}
 use Rattle.store.specs.Line.{bytesOf}
-use Rattle.lines.specs.Effect.{Effect, policy, root, insertion, renaming, removal, login, reading, stateAfter, tableAfter}
+use Rattle.lines.specs.Effect.{Effect, policy, root, insertion, renaming, removal, login, reading, stateAfter, recordsAfter, tableAfter}
 use Rattle.guarantee.proofs.FormSound.{agree}
 use Rattle.guarantee.proofs.Sound.{PolicySound, EffectSound}
-use Rattle.guarantee.proofs.TableAfter.{TableHolds, recordsAfter, table-after}
+use Rattle.guarantee.proofs.TableAfter.{TableHolds, table-after}
 
 -- The bytes of a state that was written
 

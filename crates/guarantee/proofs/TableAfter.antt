@@ -17,7 +17,7 @@ use Rattle.views.proofs.TableLaws.{facts}
 use Rattle.views.proofs.TableKept.{Full, StoredAs, removed-stored, renamed-stored, placed-stored, changed-ok, length-changed, records-changed, count-changed, loosen, length-records, length-placed}
 use Rattle.views.proofs.InsertionLaws.{length-rename}
 use Rattle.forms.specs.declared.form.Form.{Form}
-use Rattle.lines.specs.Effect.{Effect, policy, root, insertion, renaming, removal, login, reading, tableAfter}
+use Rattle.lines.specs.Effect.{Effect, policy, root, insertion, renaming, removal, login, reading, recordsAfter, tableAfter}
 use Rattle.guarantee.proofs.Sound.{RootSound, EffectSound}
 
 -- the levels of a table's records
@@ -30,16 +30,6 @@ records-nested low high (r ∷ rs) e =
 
 pub table-nested : (t : List ℕ) → tableOk t ≡ true → Nested level 0 (records t)
 table-nested t e = records-nested 0 0 (records t) (table-records t e)
-
--- the records after an effect
-abbrev pub recordsAfter : Effect → List (List ℕ) → List (List ℕ)
-recordsAfter (policy p g) rs = rs
-recordsAfter (root l) rs = nodeRecord 0 l ∷ []
-recordsAfter (insertion at ms m tree g) rs = placed at m tree ms rs
-recordsAfter (renaming l ms) rs = renamed l ms rs
-recordsAfter (removal ms) rs = removed ms rs
-recordsAfter (login u) rs = rs
-recordsAfter reading rs = rs
 
 pub record TableHolds (t t' : List ℕ) (rs : List (List ℕ)) : Type 0 where
   pub ok : tableOk t' ≡ true

@@ -1,5 +1,5 @@
--- What demand 3 compares (document 01, "What demand 3 compares"): two tables and two states that look alike to a reader, two runs of the same lines, and
--- the claim about them. The theorem stands in proofs/Demand.antt; it assumes nothing.
+-- The start of what demand 3 compares (document 01, "What demand 3 compares"): two tables and two states that look alike to a reader. What is claimed of them stands
+-- in specs/Demand3.antt.
 use Prim.Native.Nat.{ℕ, suc, _≤_}
 use mathlib.Core.Path.{_≡_}
 use mathlib.Core.Bool.{Bool, true, false}
@@ -12,14 +12,14 @@ use Rattle.rights.specs.Policy.{Policy, policyWord}
 use Rattle.rights.specs.Rights.{rightsOn}
 use Rattle.rights.specs.Table.{records, label}
 use Rattle.views.specs.Shown.{Stored, stored, shown, carried, view}
-use Rattle.answers.specs.Answer.{okText}
 use Rattle.answers.specs.AnswerChoice.{Choice}
 use Rattle.lines.specs.PolicyEdit.{isaHeld, subjectNamed}
 use Rattle.forms.specs.Form.{readForm}
 use Rattle.lines.specs.State.{stageC, stage, userByte, policyIn, storeOk}
-use Rattle.lines.specs.Outcome.{says, refuses, Outcome}
-use Rattle.lines.specs.Refusal.{tableFull}
+use Rattle.lines.specs.Outcome.{Outcome}
 use Rattle.store.specs.Line.{bytesOf, step}
+use Rattle.lines.specs.declared.line.Answer.{Answer}
+use Rattle.lines.specs.declared.line.Answer.the-variants.{Accepted}
 use Rattle.forms.specs.declared.form.Part.{Part}
 use Rattle.forms.specs.declared.form.Form.the-variants.{User}
 use Rattle.lines.specs.declared.policy_edit.Found.the-variants.{Subject}
@@ -52,20 +52,31 @@ Behind word (x ∷ xs) [] = Unit {0}
 Behind word (x ∷ xs) (y ∷ ys) =
     (carried x ≡ restricted → carried y ≡ restricted → NoWordDiffers word (label (x .bytes)) (label (y .bytes))) × Behind word xs ys
 
--- The two suppositions, for the reader u: "any tables and states that 13 lets pass, the root line taken, both states holding the same policy"; the trees
--- look the same; and no policy word differs behind RESTRICTED. The tables may differ in length and in all else.
-pub record Alike (u : ℕ) (s t s' t' : List ℕ) : Type 0 where
+-- The start: "any tables and states that 13 lets pass, the root line taken, both states holding the same policy".
+pub record Start (s t s' t' : List ℕ) : Type 0 where
   pub passes : storeOk s t ≡ true
   pub passes' : storeOk s' t' ≡ true
   pub rooted : stageC ≤ stage s
   pub rooted' : stageC ≤ stage s'
   pub policy : SamePolicy (policyIn s) (policyIn s')
+
+-- The two suppositions, for the reader u: the trees look the same, and no policy word differs behind RESTRICTED. The tables may differ in length and in all else.
+pub record Alike (u : ℕ) (s t s' t' : List ℕ) : Type 0 where
+  pub start : Start s t s' t'
   pub looks : look u s t ≡ look u s' t'
   pub behind : Behind (policyWord (policyIn s)) (shownTo u s t) (shownTo u s' t')
 
 -- the session's user is u
 abbrev pub UserIs : ℕ → List ℕ → Type 0
 UserIs u s = userByte s ≡ suc u
+
+-- The line logs subject v in: it is a `(user N)`, N is the name of v, and it is accepted. A refused one logs nobody in.
+pub record LogsIn (v : ℕ) (s line : List ℕ) (r : Answer) : Type 0 where
+  pub name : Part
+  pub form : readForm line ≡ User name
+  pub subject : subjectNamed (policyIn s) (bytesOf line name) ≡ Subject v
+  pub said : ℕ
+  pub accepted : r ≡ Accepted said
 
 -- a line, and the length of the area that it gets
 pub record Input : Type 0 where
@@ -74,37 +85,3 @@ pub record Input : Type 0 where
 
 abbrev pub outcome : Choice → List ℕ → List ℕ → Input → Outcome
 outcome choice s t i = step choice s t (i .line) (i .room)
-
--- The line logs subject v in: it is a `(user N)`, N is the name of v, and it is accepted. A refused one logs nobody in.
-pub record LogsIn (v : ℕ) (s line : List ℕ) (o : Outcome) : Type 0 where
-  pub name : Part
-  pub form : readForm line ≡ User name
-  pub subject : subjectNamed (policyIn s) (bytesOf line name) ≡ Subject v
-  pub accepted : o .reply ≡ says okText
-
--- "Either both have N as user, or the list begins with a `(user N)` that is accepted."
-abbrev pub BeginsWithLogin : Choice → ℕ → List ℕ → List ℕ → List Input → Type 0
-BeginsWithLogin choice u s t [] = ⊥
-BeginsWithLogin choice u s t (i ∷ is) = LogsIn u s (i .line) (outcome choice s t i)
-
-abbrev pub Begins : Choice → ℕ → List ℕ → List ℕ → List ℕ → List ℕ → List Input → Type 0
-Begins choice u s t s' t' is = (UserIs u s × UserIs u s') ⊎ BeginsWithLogin choice u s t is
-
--- Two runs of the same lines, each line on what the one before it left. "Only a `user` line that would log in another subject stays out", and nothing is
--- compared from the first line on that either run refuses with 11. Of every line before: "accepted in both or refused in both, the same length or number
--- returned, and the same answer bytes"; and both suppositions hold again, with u as user.
-abbrev pub RunAlike : Choice → ℕ → List ℕ → List ℕ → List ℕ → List ℕ → List Input → Type 0
-RunAlike choice u s t s' t' [] = Unit {0}
-RunAlike choice u s t s' t' (i ∷ is) =
-    ((v : ℕ) → LogsIn v s (i .line) (outcome choice s t i) → v ≡ u)
-    → (outcome choice s t i .reply ≡ refuses tableFull → ⊥)
-    → (outcome choice s' t' i .reply ≡ refuses tableFull → ⊥)
-    → (outcome choice s t i .reply ≡ outcome choice s' t' i .reply)
-    × Alike u (outcome choice s t i .state) (outcome choice s t i .table) (outcome choice s' t' i .state) (outcome choice s' t' i .table)
-    × (UserIs u (outcome choice s t i .state) × UserIs u (outcome choice s' t' i .state))
-    × RunAlike choice u (outcome choice s t i .state) (outcome choice s t i .table) (outcome choice s' t' i .state) (outcome choice s' t' i .table) is
-
--- Demand 3, its first sentence: for every choice of `find`, every reader, every such start and every list of lines.
-abbrev pub AnswersAlike : Type 0
-AnswersAlike =
-    (choice : Choice) (u : ℕ) (s t s' t' : List ℕ) → Alike u s t s' t' → (is : List Input) → Begins choice u s t s' t' is → RunAlike choice u s t s' t' is

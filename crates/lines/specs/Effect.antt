@@ -4,8 +4,8 @@ use mathlib.Core.Bool.{Bool}
 use mathlib.Core.List.{List, [], _∷_, _++_}
 use lib.ListN.{length}
 use Rattle.rights.specs.Record.{nodeRecord}
-use Rattle.rights.specs.Table.{records}
-use Rattle.views.specs.Change.{changed, placed, renamed, removed}
+use Rattle.rights.specs.Table.{records, level}
+use Rattle.views.specs.Change.{inserted, rename, remove, chunks, raise, relabel, changed}
 use Rattle.views.specs.declared.insert.Place.{Place}
 use Rattle.lines.specs.Outcome.{Outcome, says, Made}
 use Rattle.lines.specs.Refusal.{Check, areaCheck, checked}
@@ -36,12 +36,28 @@ stateAfter (removal ms) s = s
 stateAfter (login u) s = withSession stageE (u + 1) s
 stateAfter reading s = s
 
+-- The nodes after an effect, of anything with a level: the records of a table, or records that carry which node they are. `new` makes nodes of the records that a
+-- line brings; `on` takes a node under a change of its record.
+module _ {E : Type 0} (lev : E → ℕ) (new : List (List ℕ) → List E) (on : (List ℕ → List ℕ) → E → E) where
+  abbrev pub nodesAfter : Effect → List E → List E
+  nodesAfter (policy p g) ns = ns
+  nodesAfter (root l) ns = new (nodeRecord 0 l ∷ [])
+  nodesAfter (insertion at ms m tree g) ns = inserted lev at (λ l. new (raise l (chunks m tree))) ms ns
+  nodesAfter (renaming l ms) ns = rename lev (on (relabel l)) ms ns
+  nodesAfter (removal ms) ns = remove lev ms ns
+  nodesAfter (login u) ns = ns
+  nodesAfter reading ns = ns
+
+abbrev pub recordsAfter : Effect → List (List ℕ) → List (List ℕ)
+recordsAfter e rs = nodesAfter level (λ new. new) (λ f. f) e rs
+
+-- An effect that touches no node leaves every byte of the table.
 abbrev pub tableAfter : Effect → List ℕ → List ℕ
 tableAfter (policy p g) t = t
-tableAfter (root l) t = changed t (nodeRecord 0 l ∷ [])
-tableAfter (insertion at ms m tree g) t = changed t (placed at m tree ms (records t))
-tableAfter (renaming l ms) t = changed t (renamed l ms (records t))
-tableAfter (removal ms) t = changed t (removed ms (records t))
+tableAfter (root l) t = changed t (recordsAfter (root l) (records t))
+tableAfter (insertion at ms m tree g) t = changed t (recordsAfter (insertion at ms m tree g) (records t))
+tableAfter (renaming l ms) t = changed t (recordsAfter (renaming l ms) (records t))
+tableAfter (removal ms) t = changed t (recordsAfter (removal ms) (records t))
 tableAfter (login u) t = t
 tableAfter reading t = t
 

@@ -48,6 +48,12 @@ module _ {E : Type 0} (lev : E → ℕ) where
   abbrev pub insertBefore : (ℕ → List E) → List Bool → List E → List E
   insertBefore tree = insertInFront (λ x. tree (lev x))
 
+  -- at places of one of the three kinds
+  abbrev pub inserted : Place → (ℕ → List E) → List Bool → List E → List E
+  inserted Append tree ms t = append tree ms t
+  inserted After tree ms t = insertAfter tree ms t
+  inserted Before tree ms t = insertBefore tree ms t
+
   -- rename, and update, which concerns children: the nodes that are done become f of them; every other stays as it is.
   unfoldable pub rename : (E → E) → List Bool → List E → List E
   rename f ms [] = []
@@ -74,9 +80,7 @@ lower Before = 0
 
 -- the records after an insertion of a tree of m records
 abbrev pub placed : Place → ℕ → List ℕ → List Bool → List (List ℕ) → List (List ℕ)
-placed Append m tree ms rs = append level (λ l. raise l (chunks m tree)) ms rs
-placed After m tree ms rs = insertAfter level (λ l. raise l (chunks m tree)) ms rs
-placed Before m tree ms rs = insertBefore level (λ l. raise l (chunks m tree)) ms rs
+placed place m tree ms rs = inserted level place (λ l. raise l (chunks m tree)) ms rs
 
 -- the records after a removal
 abbrev pub removed : List Bool → List (List ℕ) → List (List ℕ)
