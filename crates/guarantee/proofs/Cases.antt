@@ -43,11 +43,11 @@ use Rattle.store.specs.Line.{workOf, lineChecks, step}
 use Rattle.guarantee.proofs.SessionKept.{store-kept}
 
 -- A line from a store that passes: `step` without 13.
-unfoldable passed : Choice → List ℕ → List ℕ → Input → Outcome
+unfoldable pub passed : Choice → List ℕ → List ℕ → Input → Outcome
 passed choice s t i =
     performed (guarded (drop 1 (lineChecks s t (i .line) (readForm (i .line)))) (workOf choice (readForm (i .line)) s t (i .line) (recordsOf (treeIn (i .line))))) (i .room) s t
 
-step-passed : (choice : Choice) (s t : List ℕ) (i : Input) → storeOk s t ≡ true → outcome choice s t i ≡ passed choice s t i
+pub step-passed : (choice : Choice) (s t : List ℕ) (i : Input) → storeOk s t ≡ true → outcome choice s t i ≡ passed choice s t i
 unfolding step performed checked passed
 step-passed choice s t i ok = rw ok
 
@@ -68,12 +68,12 @@ new-passes : storeOk newState (newTable 1024) ≡ true
 unfolding all recordsFrom recordsOk tableOk every subjectsOk isasOk rulesOk policyOk sessionOk stateOk storeOk
 new-passes = refl
 
-small-passes : storeOk newState (newTable 10) ≡ true
+pub small-passes : storeOk newState (newTable 10) ≡ true
 unfolding all recordsFrom recordsOk tableOk every subjectsOk isasOk rulesOk policyOk sessionOk stateOk storeOk
 small-passes = refl
 
 -- what the lines of a row give from a new store, where 13 is not computed
-unfoldable given : Choice → Case → List Reply
+unfoldable pub given : Choice → Case → List Reply
 unfolding passedReplies passed digitByte run all labelByte sameLabel passes readTest readStep numberOf isPosition readPosition closes readBrackets readSteps unslashed brackets steps pathOf decimal writeTest some passesOwn policyWord testOf namesFrom isaFrom stepsFrom rulesFrom policyOf recordOf isBy reaches decide rightsBy chains levelAt labelAt filter withNumber each stretch nodeSet filtered xpathSelected recordsFrom storedFrom atParent nearestFirst shownAfter keep eachFrom dropBelow putBehind remove insertBehind rename chunks raise join changed deepest tooDeep inTable hitLines childLines viewText sameText among wordAt signAt rightAt pathByte labelEnd openEnd tailEnd treeEnd tailNodes treeNodes recordsOf partsOf endsIn readForm treeIn subjectFrom subjectNamed isaHeld bracketed hasBracket stepList stepsIn pathRestricted stepRecords withLine lineByte lineOk checked performed treeRestricted folded padded standsFor subjectsWhere runEnd knownEnd treePlace
 given choice c = passedReplies choice newState (newTable (c .capacity)) (map input (c .turns))
 

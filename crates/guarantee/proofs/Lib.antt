@@ -25,4 +25,5 @@ pub mod InsertionStep
 pub mod ViewStep
 pub mod Demand
 pub mod Cases
+pub mod Witness
 pub mod Demand3

@@ -1,4 +1,5 @@
 pub mod Alike
 pub mod Identity
 pub mod Cases
+pub mod Witness
 pub mod Demand3
