@@ -2,7 +2,7 @@
 -- list of lines, and look the same after each. Assumes nothing.
 use Prim.Native.Nat.{ℕ, _≤_, _<_}
 use mathlib.Core.Path.{_≡_, refl, ap, sym, _∙_, subst}
-use mathlib.Core.Bool.{Bool, true}
+use mathlib.Core.Bool.{true}
 use mathlib.Core.List.{List, [], _∷_}
 use mathlib.Core.Logic.{_⊎_, inl, inr}
 use native.Mathlib.Omega.{arith}
@@ -10,7 +10,7 @@ use borrow.Author.Tests.{le-leb, le-ltb}
 use lib.ListN.{length, take, drop}
 use lib.Seq.{take-append-seam}
 use Rattle.rights.specs.Marks.{keep}
-use Rattle.rights.specs.Policy.{Policy, policyWord}
+use Rattle.rights.specs.Policy.{Policy}
 use Rattle.rights.specs.PolicyBytes.{policyOf}
 use Rattle.rights.specs.Table.{records, level, label}
 use Rattle.views.specs.Nodes.{Nested}
@@ -50,7 +50,7 @@ module _ (u : ℕ) (s t s' t' : List ℕ) (declared : u < length (policyIn s .na
       let r = same-rights-on (policyIn s) (policyIn s') (a .start .policy) u (records t') in
       low-of-alike (policyIn s) u declared (records t) (records t') (store-nested s t (a .start .passes)) (store-nested s' t' (a .start .passes'))
       (a .looks ∙ sym (ap (λ ss. view (stored t' ss)) r))
-      (subst (λ ss. Behind (policyWord (policyIn s)) (shownTo u s t) (keep (shown (stored t' ss)) (stored t' ss))) (sym r) (a .behind))
+      (subst (λ ss. Behind (policyIn s) (shownTo u s t) (keep (shown (stored t' ss)) (stored t' ss))) (sym r) (a .behind))
 
   pub low-alike : storeOk s t ≡ true → storeOk s' t' ≡ true → stageC ≤ stage s → stageC ≤ stage s' → SamePolicy (policyIn s) (policyIn s')
       → lowOf (policyIn s) u (records t) ≡ lowOf (policyIn s) u (records t') → Alike u s t s' t'
@@ -60,19 +60,19 @@ module _ (u : ℕ) (s t s' t' : List ℕ) (declared : u < length (policyIn s .na
       record {
         start = record { passes = ok; passes' = ok'; rooted = g; rooted' = g'; policy = p };
         looks = b .0 ∙ ap (λ ss. view (stored t' ss)) r;
-        behind = subst (λ ss. Behind (policyWord (policyIn s)) (shownTo u s t) (keep (shown (stored t' ss)) (stored t' ss))) r (b .1);
+        behind = subst (λ ss. Behind (policyIn s) (shownTo u s t) (keep (shown (stored t' ss)) (stored t' ss))) r (b .1);
       }
 
 -- A store with the root line taken is alike to itself, for every reader.
-behind-self : (word : List ℕ → Bool) (xs : List Stored) → Behind word xs xs
-behind-self word [] = tt
-behind-self word (x ∷ xs) = ((λ a b. inl (label-self (label (x .bytes)))), behind-self word xs)
+behind-self : (P : Policy) (xs : List Stored) → Behind P xs xs
+behind-self P [] = tt
+behind-self P (x ∷ xs) = ((λ a b. inl (label-self (label (x .bytes)))), behind-self P xs)
 
 pub alike-self : (u : ℕ) (s t : List ℕ) → storeOk s t ≡ true → stageC ≤ stage s → Alike u s t s t
 alike-self u s t ok g = record {
   start = record { passes = ok; passes' = ok; rooted = g; rooted' = g; policy = same-self (policyIn s) };
   looks = refl;
-  behind = behind-self (policyWord (policyIn s)) (shownTo u s t);
+  behind = behind-self (policyIn s) (shownTo u s t);
 }
 
 -- what holds after a line

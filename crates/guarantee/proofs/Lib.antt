@@ -1,3 +1,4 @@
+pub mod Notes
 pub mod SamePolicy
 pub mod Keys
 pub mod Chains

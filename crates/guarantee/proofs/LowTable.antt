@@ -70,11 +70,11 @@ some-none : {C : Type 0} (a : List ℕ) → _≡_ {A = Key} (some a) none → C
 some-none a z = absurd (let o : _≡_ {A = ℕ} 0 1 = cc in omega arith)
 
 module _ (P : Policy) (a b : List ℕ) where
-  key-same : NoWordDiffers (policyWord P) a b → keyOf P a ≡ keyOf P b
+  key-same : NoWordDiffers P a b → keyOf P a ≡ keyOf P b
   key-same (inl e) = rw (word-same P a b e, same-folded a b e)
   key-same (inr e) = rw (e .0, e .1)
 
-  same-key : keyOf P a ≡ keyOf P b → NoWordDiffers (policyWord P) a b
+  same-key : keyOf P a ≡ keyOf P b → NoWordDiffers P a b
   same-key e = byCase (policyWord P a)
       (λ p. byCase (policyWord P b) (λ q. inl (folded-same a b (some-eq _ _ (rw (p, q) at e)))) (λ q. some-none _ (rw (p, q) at e)))
       (λ p. byCase (policyWord P b) (λ q. some-none _ (sym (rw (p, q) at e))) (λ q. inr (p, q)))
@@ -88,23 +88,23 @@ Held = List ℕ × ℕ
 abbrev heldLabel : Held → List ℕ
 heldLabel x = cond (holds read (x .1)) (label (x .0)) restricted
 
-abbrev HeldBehind : (List ℕ → Bool) → List Held → List Held → Type 0
-HeldBehind word [] ys = Unit {0}
-HeldBehind word (x ∷ xs) [] = Unit {0}
-HeldBehind word (x ∷ xs) (y ∷ ys) = (heldLabel x ≡ restricted → heldLabel y ≡ restricted → NoWordDiffers word (label (x .0)) (label (y .0))) × HeldBehind word xs ys
+abbrev HeldBehind : Policy → List Held → List Held → Type 0
+HeldBehind P [] ys = Unit {0}
+HeldBehind P (x ∷ xs) [] = Unit {0}
+HeldBehind P (x ∷ xs) (y ∷ ys) = (heldLabel x ≡ restricted → heldLabel y ≡ restricted → NoWordDiffers P (label (x .0)) (label (y .0))) × HeldBehind P xs ys
 
 abbrev heldOf : Stored → Held
 heldOf x = (x .bytes, x .rights)
 
-to-held : (word : List ℕ → Bool) (xs ys : List Stored) → Behind word xs ys → HeldBehind word (map heldOf xs) (map heldOf ys)
-to-held word [] ys h = tt
-to-held word (x ∷ xs) [] h = tt
-to-held word (x ∷ xs) (y ∷ ys) h = (h .0, to-held word xs ys (h .1))
+to-held : (P : Policy) (xs ys : List Stored) → Behind P xs ys → HeldBehind P (map heldOf xs) (map heldOf ys)
+to-held P [] ys h = tt
+to-held P (x ∷ xs) [] h = tt
+to-held P (x ∷ xs) (y ∷ ys) h = (h .0, to-held P xs ys (h .1))
 
-from-held : (word : List ℕ → Bool) (xs ys : List Stored) → HeldBehind word (map heldOf xs) (map heldOf ys) → Behind word xs ys
-from-held word [] ys h = tt
-from-held word (x ∷ xs) [] h = tt
-from-held word (x ∷ xs) (y ∷ ys) h = (h .0, from-held word xs ys (h .1))
+from-held : (P : Policy) (xs ys : List Stored) → HeldBehind P (map heldOf xs) (map heldOf ys) → Behind P xs ys
+from-held P [] ys h = tt
+from-held P (x ∷ xs) [] h = tt
+from-held P (x ∷ xs) (y ∷ ys) h = (h .0, from-held P xs ys (h .1))
 
 -- what is public of a record
 abbrev pub PublicRecord : Type 0
@@ -204,12 +204,12 @@ module _ (P : Policy) (u : ℕ) where
         ∙ sym (map-map (λ (p : PublicRecord). node (p .level) (p .carried)) (publicOf level keyIn labelBy grantBy) (shownCells level keyIn labelBy grantBy rs))
         ∙ ap nodesOf (sym (low-shown level keyIn labelBy grantBy rs))
 
-    keys-behind : (ps qs : List RecordCell) → HeldBehind (policyWord P) (map heldCell ps) (map heldCell qs) → KeysBehind level keyIn labelBy grantBy restricted ps qs
+    keys-behind : (ps qs : List RecordCell) → HeldBehind P (map heldCell ps) (map heldCell qs) → KeysBehind level keyIn labelBy grantBy restricted ps qs
     keys-behind [] qs h = tt
     keys-behind (x ∷ ps) [] h = tt
     keys-behind (x ∷ ps) (y ∷ qs) h = ((λ a b. key-same P (label (x .0)) (label (y .0)) (h .0 a b)), keys-behind ps qs (h .1))
 
-    behind-keys : (ps qs : List RecordCell) → KeysBehind level keyIn labelBy grantBy restricted ps qs → HeldBehind (policyWord P) (map heldCell ps) (map heldCell qs)
+    behind-keys : (ps qs : List RecordCell) → KeysBehind level keyIn labelBy grantBy restricted ps qs → HeldBehind P (map heldCell ps) (map heldCell qs)
     behind-keys [] qs h = tt
     behind-keys (x ∷ ps) [] h = tt
     behind-keys (x ∷ ps) (y ∷ qs) h = ((λ a b. same-key P (label (x .0)) (label (y .0)) (h .0 a b)), behind-keys ps qs (h .1))
@@ -224,24 +224,24 @@ module _ (P : Policy) (u : ℕ) where
 
     module _ (rs qs : List (List ℕ)) (w : Nested level 0 rs) (v : Nested level 0 qs) where
       -- Trees that look the same, no policy word differing behind RESTRICTED, have the same low projection;
-      pub low-of-alike : view (storedBy rs) ≡ view (storedBy qs) → Behind (policyWord P) (shownOf rs) (shownOf qs) → lowOf rs ≡ lowOf qs
+      pub low-of-alike : view (storedBy rs) ≡ view (storedBy qs) → Behind P (shownOf rs) (shownOf qs) → lowOf rs ≡ lowOf qs
       low-of-alike e h =
           let a = shownCells level keyIn labelBy grantBy rs in
           let b = shownCells level keyIn labelBy grantBy qs in
           let pair : Node → ℕ × List ℕ = λ n. (levelOf n, labelOf n) in
           let n : map cellNode a ≡ map cellNode b = sym (view-cells rs w) ∙ e ∙ view-cells qs v in
           let l : map (look level keyIn labelBy grantBy) a ≡ map (look level keyIn labelBy grantBy) b = sym (map-map pair cellNode a) ∙ ap (map pair) n ∙ map-map pair cellNode b in
-          let k : HeldBehind (policyWord P) (map heldCell a) (map heldCell b) = rw (← held-shown rs w, ← held-shown qs v) (to-held (policyWord P) (shownOf rs) (shownOf qs) h) in
+          let k : HeldBehind P (map heldCell a) (map heldCell b) = rw (← held-shown rs w, ← held-shown qs v) (to-held P (shownOf rs) (shownOf qs) h) in
           low-alike level keyIn labelBy grantBy restricted tells rs qs l (keys-behind a b k)
 
       -- and back.
-      pub alike-of-low : lowOf rs ≡ lowOf qs → (view (storedBy rs) ≡ view (storedBy qs)) × Behind (policyWord P) (shownOf rs) (shownOf qs)
+      pub alike-of-low : lowOf rs ≡ lowOf qs → (view (storedBy rs) ≡ view (storedBy qs)) × Behind P (shownOf rs) (shownOf qs)
       alike-of-low e =
           let a = shownCells level keyIn labelBy grantBy rs in
           let b = shownCells level keyIn labelBy grantBy qs in
           let r = alike-low level keyIn labelBy grantBy restricted rs qs e in
-          let k : HeldBehind (policyWord P) (map heldOf (shownOf rs)) (map heldOf (shownOf qs)) = rw (held-shown rs w, held-shown qs v) (behind-keys a b (r .1)) in
-          (view-low rs w ∙ ap nodesOf e ∙ sym (view-low qs v), from-held (policyWord P) (shownOf rs) (shownOf qs) k)
+          let k : HeldBehind P (map heldOf (shownOf rs)) (map heldOf (shownOf qs)) = rw (held-shown rs w, held-shown qs v) (behind-keys a b (r .1)) in
+          (view-low rs w ∙ ap nodesOf e ∙ sym (view-low qs v), from-held P (shownOf rs) (shownOf qs) k)
 
     -- What a change does
 

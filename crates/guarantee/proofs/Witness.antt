@@ -3,54 +3,30 @@
 use Prim.Native.Nat.{ℕ, _≤_}
 use Prim.Native.String.{String}
 use mathlib.Core.Path.{_≡_, refl, sym, ap, ap₂, _∙_, subst}
-use mathlib.Core.Bool.{Bool, true, false, true≢false}
+use mathlib.Core.Bool.{Bool, true, false}
 use mathlib.Core.List.{List, [], _∷_}
 use mathlib.Core.Option.{some}
-use mathlib.Core.Logic.{inl, inr}
 use native.Mathlib.Omega.{arith}
 use lib.ListN.{getD}
 use Rattle.rights.specs.Bytes.{bytes}
-use Rattle.rights.specs.Path.{label, any, own}
-use Rattle.rights.specs.declared.path.Axis.the-variants.{Child, Descendant}
-use Rattle.rights.specs.Policy.{Policy, policyWord, bitOf, position, read}
-use Rattle.rights.specs.Record.{nodeRecord}
+use Rattle.rights.specs.Policy.{Policy, bitOf, position, read}
 use Rattle.rights.specs.Rights.{rightsOn}
 use Rattle.rights.specs.Table.{records}
-use Rattle.rights.specs.Nodes.{Nodes}
 use Rattle.rights.specs.Marks.{keep}
-use Rattle.rights.specs.Labels.{sameLabel}
-use Rattle.views.specs.Change.{changed}
-use Rattle.views.specs.Shown.{Stored, stored, shown, view}
+use Rattle.views.specs.Shown.{stored, shown, view}
 use Rattle.answers.specs.AnswerChoice.{Choice}
 use Rattle.lines.specs.State.{stageC, stage, userByte, policyIn, storeOk}
 use Rattle.lines.specs.Outcome.{Reply, says, Outcome}
 use Rattle.lines.specs.Effect.{renaming, recordsAfter}
-use Rattle.guarantee.specs.Alike.{Start, Alike, NoWordDiffers, Behind, shownTo, look, UserIs, Input, outcome}
+use Rattle.guarantee.specs.Alike.{Start, Alike, Behind, shownTo, look, UserIs, Input, outcome}
 use Rattle.guarantee.specs.Identity.{afterEffect, stateAfterAll, tableAfterAll, tagAll, tagAt}
 use Rattle.guarantee.specs.Cases.{newState, newTable}
 use Rattle.guarantee.specs.Witness.{typed, school, stateWith, tableWith, Hidden, ToldApart, SecondNeeded, RightMoved, WordsNeeded}
+use Rattle.guarantee.proofs.Notes.{thePolicy, theTable, lookOf, shownOf, BehindNotes, look-ill-cold, look-ill-flu, look-ill-sha, behind-ill-cold, behind-ill-flu, behind-ill-sha, tables-differ}
 use Rattle.guarantee.proofs.LineAlike.{same-self}
 use Rattle.guarantee.proofs.SessionKept.{store-kept}
 use Rattle.guarantee.proofs.RunKept.{run-passes}
 use Rattle.guarantee.proofs.Cases.{given, passed, step-passed, small-passes}
-
--- what the lines write: the policy, the session, the table
-abbrev thePolicy : Policy
-thePolicy =
-    record {
-      names = bytes "staff" ∷ bytes "SHA" ∷ [];
-      isa = (1, 0) ∷ [];
-      rules =
-          record { accept = true; right = 2; who = 0; path = (Descendant, any) ∷ [] }
-          ∷ record { accept = false; right = 2; who = 0; path = (Descendant, label (bytes "note")) ∷ (Child, any) ∷ [] }
-          ∷ record { accept = true; right = 1; who = 0; path = (Descendant, label (bytes "note")) ∷ (Child, any) ∷ [] }
-          ∷ record { accept = true; right = 16; who = 0; path = (Descendant, label (bytes "flu")) ∷ [] }
-          ∷ record { accept = true; right = 16; who = 0; path = (Descendant, own) ∷ [] }
-          ∷ [];
-    }
-
-abbrev theTable : String → List ℕ
-theTable note = changed (newTable 10) (nodeRecord 0 (bytes "school") ∷ nodeRecord 1 (bytes "note") ∷ nodeRecord 2 (bytes note) ∷ [])
 
 -- What is read off a store: its policy, stage and user, its table, and the reply to the line that tells notes apart
 abbrev told : List ℕ
@@ -145,36 +121,26 @@ module _ (choice : Choice) where
       policy = rw (policy-is note answer w, policy-is note' answer' w') (same-self thePolicy);
     }
 
-    abbrev lookOf : String → Nodes
-    lookOf note = view (stored (theTable note) (rightsOn thePolicy 1 (records (theTable note))))
-
     look-same : lookOf note ≡ lookOf note' → look 1 (stateWith choice note) (tableWith choice note) ≡ look 1 (stateWith choice note') (tableWith choice note')
     look-same e =
         ap₂ (λ t rs. view (stored t rs)) (table-is note answer w) (rights-is note answer w) ∙ e
         ∙ sym (ap₂ (λ t rs. view (stored t rs)) (table-is note' answer' w') (rights-is note' answer' w'))
 
-    -- what stands behind RESTRICTED in the same place
-    abbrev shownOf : String → List Stored
-    shownOf note = keep (shown (stored (theTable note) (rightsOn thePolicy 1 (records (theTable note))))) (stored (theTable note) (rightsOn thePolicy 1 (records (theTable note))))
-
     shown-is : (note answer : String) → Reads note answer → shownTo 1 (stateWith choice note) (tableWith choice note) ≡ shownOf note
     shown-is note answer w = ap₂ (λ t rs. keep (shown (stored t rs)) (stored t rs)) (table-is note answer w) (rights-is note answer w)
 
-    abbrev BehindBoth : Type 0
-    BehindBoth = Behind (policyWord thePolicy) (shownOf note) (shownOf note')
-
-    behind-is : Behind (policyWord (policyIn (stateWith choice note))) (shownTo 1 (stateWith choice note) (tableWith choice note))
-        (shownTo 1 (stateWith choice note') (tableWith choice note')) ≡ BehindBoth
+    behind-is : Behind (policyIn (stateWith choice note)) (shownTo 1 (stateWith choice note) (tableWith choice note))
+        (shownTo 1 (stateWith choice note') (tableWith choice note')) ≡ BehindNotes note note'
     behind-is =
-        ap (λ (P : Policy). Behind (policyWord P) (shownTo 1 (stateWith choice note) (tableWith choice note)) (shownTo 1 (stateWith choice note') (tableWith choice note')))
+        ap (λ (P : Policy). Behind P (shownTo 1 (stateWith choice note) (tableWith choice note)) (shownTo 1 (stateWith choice note') (tableWith choice note')))
         (policy-is note answer w)
-        ∙ ap₂ (Behind (policyWord thePolicy)) (shown-is note answer w) (shown-is note' answer' w')
+        ∙ ap₂ (Behind thePolicy) (shown-is note answer w) (shown-is note' answer' w')
 
-    alike : lookOf note ≡ lookOf note' → BehindBoth
+    alike : lookOf note ≡ lookOf note' → BehindNotes note note'
         → Alike 1 (stateWith choice note) (tableWith choice note) (stateWith choice note') (tableWith choice note')
     alike e b = record { start = started; looks = look-same e; behind = subst (λ B. B) (sym behind-is) b }
 
-    told-apart : lookOf note ≡ lookOf note' → (BehindBoth → ⊥) → ToldApart choice note note' "(remove //note/*)" answer answer'
+    told-apart : lookOf note ≡ lookOf note' → (BehindNotes note note' → ⊥) → ToldApart choice note note' "(remove //note/*)" answer answer'
     told-apart e k = record {
       start = started;
       looks = look-same e;
@@ -185,30 +151,14 @@ module _ (choice : Choice) where
       says-other = reply-is note' answer' w';
     }
 
-  -- `ill` and `cold` are no policy words; `flu` is one by a rule's path, `SHA` by `$`
   ill-cold : Alike 1 (stateWith choice "ill") (tableWith choice "ill") (stateWith choice "cold") (tableWith choice "cold")
-  unfolding given
-  ill-cold = alike "ill" "cold" "(done 1 0)\n" "(done 1 0)\n" ill cold refl ((λ a b. inl refl), ((λ a b. inl refl), ((λ a b. inr (refl, refl)), tt)))
-
-  word-differs : (word : List ℕ → Bool) (a b : List ℕ) → sameLabel a b ≡ false → word b ≡ true → NoWordDiffers word a b → ⊥
-  word-differs word a b e f (inl q) = true≢false (sym q ∙ e)
-  word-differs word a b e f (inr q) = true≢false (sym f ∙ q .1)
+  ill-cold = alike "ill" "cold" "(done 1 0)\n" "(done 1 0)\n" ill cold look-ill-cold behind-ill-cold
 
   ill-flu : ToldApart choice "ill" "flu" "(remove //note/*)" "(done 1 0)\n" "(done 1 1)\n"
-  unfolding given
-  ill-flu =
-      told-apart "ill" "flu" "(done 1 0)\n" "(done 1 1)\n" ill flu refl
-      (λ b. word-differs (policyWord thePolicy) (bytes "ill") (bytes "flu") refl refl (b .1 .1 .0 refl refl))
+  ill-flu = told-apart "ill" "flu" "(done 1 0)\n" "(done 1 1)\n" ill flu look-ill-flu behind-ill-flu
 
   ill-sha : ToldApart choice "ill" "SHA" "(remove //note/*)" "(done 1 0)\n" "(done 1 1)\n"
-  unfolding given
-  ill-sha =
-      told-apart "ill" "SHA" "(done 1 0)\n" "(done 1 1)\n" ill sha refl
-      (λ b. word-differs (policyWord thePolicy) (bytes "ill") (bytes "SHA") refl refl (b .1 .1 .0 refl refl))
-
-  tables-differ : theTable "ill" ≡ theTable "cold" → ⊥
-  unfolding given
-  tables-differ e = let z : _≡_ {A = ℕ} 3 4 = ap (λ (t : List ℕ). getD t 69 0) e in omega (arith, z)
+  ill-sha = told-apart "ill" "SHA" "(done 1 0)\n" "(done 1 1)\n" ill sha look-ill-sha behind-ill-sha
 
   -- the rights on a node of the school after a renaming
   module _ (ms : List Bool) (new : String) (k : ℕ) where
@@ -239,7 +189,7 @@ module _ (choice : Choice) where
 pub hidden : Hidden
 hidden choice = (
   ill-cold choice,
-  λ e. tables-differ choice (sym (table-is choice "ill" "(done 1 0)\n" (ill choice)) ∙ e ∙ table-is choice "cold" "(done 1 0)\n" (cold choice)),
+  λ e. tables-differ (sym (table-is choice "ill" "(done 1 0)\n" (ill choice)) ∙ e ∙ table-is choice "cold" "(done 1 0)\n" (cold choice)),
 )
 
 pub second-needed : SecondNeeded

@@ -2,7 +2,7 @@
 -- in specs/Demand3.antt.
 use Prim.Native.Nat.{ℕ, suc, _≤_}
 use mathlib.Core.Path.{_≡_}
-use mathlib.Core.Bool.{Bool, true, false}
+use mathlib.Core.Bool.{true, false}
 use mathlib.Core.List.{List, [], _∷_}
 use mathlib.Core.Logic.{_⊎_}
 use Rattle.rights.specs.Marks.{keep}
@@ -42,15 +42,15 @@ abbrev pub look : ℕ → List ℕ → List ℕ → Nodes
 look u s t = view (storedFor u s t)
 
 -- the true labels are equal, or neither is a policy word
-abbrev pub NoWordDiffers : (List ℕ → Bool) → List ℕ → List ℕ → Type 0
-NoWordDiffers word a b = (sameLabel a b ≡ true) ⊎ ((word a ≡ false) × (word b ≡ false))
+abbrev pub NoWordDiffers : Policy → List ℕ → List ℕ → Type 0
+NoWordDiffers P a b = (sameLabel a b ≡ true) ⊎ ((policyWord P a ≡ false) × (policyWord P b ≡ false))
 
 -- "Nodes with the same number in these lists stand in the same place." No policy word differs behind RESTRICTED in the same place.
-abbrev pub Behind : (List ℕ → Bool) → List Stored → List Stored → Type 0
-Behind word [] ys = Unit {0}
-Behind word (x ∷ xs) [] = Unit {0}
-Behind word (x ∷ xs) (y ∷ ys) =
-    (carried x ≡ restricted → carried y ≡ restricted → NoWordDiffers word (label (x .bytes)) (label (y .bytes))) × Behind word xs ys
+abbrev pub Behind : Policy → List Stored → List Stored → Type 0
+Behind P [] ys = Unit {0}
+Behind P (x ∷ xs) [] = Unit {0}
+Behind P (x ∷ xs) (y ∷ ys) =
+    (carried x ≡ restricted → carried y ≡ restricted → NoWordDiffers P (label (x .bytes)) (label (y .bytes))) × Behind P xs ys
 
 -- The start: "any tables and states that 13 lets pass, the root line taken, both states holding the same policy".
 pub record Start (s t s' t' : List ℕ) : Type 0 where
@@ -64,7 +64,7 @@ pub record Start (s t s' t' : List ℕ) : Type 0 where
 pub record Alike (u : ℕ) (s t s' t' : List ℕ) : Type 0 where
   pub start : Start s t s' t'
   pub looks : look u s t ≡ look u s' t'
-  pub behind : Behind (policyWord (policyIn s)) (shownTo u s t) (shownTo u s' t')
+  pub behind : Behind (policyIn s) (shownTo u s t) (shownTo u s' t')
 
 -- the session's user is u
 abbrev pub UserIs : ℕ → List ℕ → Type 0
