@@ -6,7 +6,7 @@ use mathlib.Core.List.{List, [], _∷_, map}
 use lib.ListN.{drop}
 use Rattle.guarantee.specs.Alike.{Input, outcome}
 use Rattle.guarantee.specs.Cases.{replies, newState, newTable, input, Case, CaseAnswered, Starred}
-use Rattle.guarantee.specs.Cases.{exampleAnswered, exampleRenamed, bracketHolds, bracketCounts, noRules, rootRemoved, lessonRemoved, levels, fewRecords}
+use Rattle.guarantee.specs.Cases.{exampleAnswered, exampleRenamed, bracketHolds, bracketCounts, noRules, rootRemoved, lessonRemoved, levels, fewRecords, hiddenChild, wordsOfOthers, ReadRight}
 use Rattle.rights.specs.Bytes.{digitByte, run, all, every}
 use Rattle.rights.specs.Labels.{labelByte, folded, sameLabel}
 use Rattle.rights.specs.Path.{passes}
@@ -135,5 +135,21 @@ starred choice =
     and answered choice rootRemoved new-passes (root-removed choice)
     and answered choice lessonRemoved new-passes (lesson-removed choice)
     and answered choice levels new-passes (levels-given choice)
+    and answered choice fewRecords small-passes (few-records choice)
+    and tt
+
+-- No reading that makes demand 3 false is the store's.
+hidden-child : (choice : Choice) → Gives choice hiddenChild
+unfolding given
+hidden-child choice = refl
+
+words-of-others : (choice : Choice) → Gives choice wordsOfOthers
+unfolding given
+words-of-others choice = refl
+
+pub read-right : ReadRight
+read-right choice =
+    answered choice hiddenChild small-passes (hidden-child choice)
+    and answered choice wordsOfOthers small-passes (words-of-others choice)
     and answered choice fewRecords small-passes (few-records choice)
     and tt

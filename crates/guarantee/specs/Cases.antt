@@ -223,3 +223,52 @@ cases = exampleAnswered ∷ exampleRenamed ∷ bracketHolds ∷ bracketCounts �
 
 abbrev pub Starred : Type 0
 Starred = (choice : Choice) → All (CaseAnswered choice) cases
+
+-- Each reading that makes demand 3 false answers a line of these rows otherwise, or of `fewRecords`: 11 decided place by place.
+
+-- The note's child is not shown to staff, who has update on it.
+abbrev pub hiddenChild : Case
+hiddenChild =
+    record {
+      capacity = 10;
+      turns =
+          ok "(subject staff)"
+          ∷ ok "(rule accept read //* staff)"
+          ∷ ok "(rule accept update //* staff)"
+          ∷ ok "(rule accept delete //note staff)"
+          ∷ ok "(rule deny read //note/* staff)"
+          ∷ ok "(root school)"
+          ∷ ok "(child (note (ill)))"
+          ∷ ok "(user staff)"
+          -- update of children that are not shown
+          ∷ "(update //note memo)" gives "(done 1 0)\n"
+          -- rename of a policy word
+          ∷ "(rename //note memo)" gives "(done 1 0)\n"
+          -- remove sparing nodes with hidden descendants; done counting freed records
+          ∷ "(remove //note)" gives "(done 1 1)\n"
+          ∷ [];
+    }
+
+-- Staff sees places alone; `mark` is a policy word by a rule of another subject, and the names are by its `$`.
+abbrev pub wordsOfOthers : Case
+wordsOfOthers =
+    record {
+      capacity = 10;
+      turns =
+          ok "(subject staff)"
+          ∷ ok "(subject all)"
+          ∷ ok "(rule accept position //* staff)"
+          ∷ ok "(rule accept read //mark/$ all)"
+          ∷ ok "(root school)"
+          ∷ ok "(user staff)"
+          -- command paths run on the stored labels
+          ∷ "(query /school)" gives "(end 0)\n"
+          -- policy words of the reader's rules alone; rename into a policy word
+          ∷ "(rename //* mark)" refused 9
+          -- `$` without the subjects' names
+          ∷ "(rename //* all)" refused 9
+          ∷ [];
+    }
+
+abbrev pub ReadRight : Type 0
+ReadRight = (choice : Choice) → All (CaseAnswered choice) (hiddenChild ∷ wordsOfOthers ∷ fewRecords ∷ [])
