@@ -1,12 +1,14 @@
 -- After a list of lines: the store passes, the root line is taken, and the policy is what it was. A list is run by running its parts. Assumes nothing.
 use Prim.Native.Nat.{ℕ, _≤_}
-use mathlib.Core.Path.{_≡_, refl, _∙_}
+use mathlib.Core.Path.{_≡_, refl, ap₂, _∙_}
 use mathlib.Core.Bool.{true}
-use mathlib.Core.List.{List, [], _∷_, _++_}
+use mathlib.Core.List.{List, [], _∷_, _++_, map}
+use lib.ListN.{length}
 use Rattle.answers.specs.AnswerChoice.{Choice}
 use Rattle.lines.specs.State.{stageC, stage, policyBytes, storeOk}
 use Rattle.guarantee.specs.Alike.{Input, outcome}
 use Rattle.guarantee.specs.Identity.{stateAfterAll, tableAfterAll}
+use Rattle.guarantee.specs.Demand3.{Call, Run}
 use Rattle.guarantee.proofs.SessionKept.{store-kept, policy-kept, rooted-kept}
 
 module _ (choice : Choice) where
@@ -38,3 +40,19 @@ module _ (choice : Choice) where
   unfolding stateAfterAll tableAfterAll
   run-table s t [] js = refl
   run-table s t (i ∷ is) js = run-table (outcome choice s t i .state) (outcome choice s t i .table) is js
+
+-- What a run of calls leaves is what its lines leave.
+abbrev pub inputOf : Call → Input
+inputOf c = record { line = c .line; room = length (c .lent) }
+
+abbrev pub left : List ℕ → List ℕ → List Call → List ℕ × List ℕ
+left s t [] = (s, t)
+left s t (c ∷ cs) = left (c .state) (c .table) cs
+
+pub run-left : (choice : Choice) (s t : List ℕ) (cs : List Call) → Run choice s t cs
+    → left s t cs ≡ (stateAfterAll choice s t (map inputOf cs), tableAfterAll choice s t (map inputOf cs))
+unfolding stateAfterAll tableAfterAll
+run-left choice s t [] r = refl
+run-left choice s t (c ∷ cs) r =
+    run-left choice (c .state) (c .table) cs (r .1)
+    ∙ ap₂ (λ x y. (stateAfterAll choice x y (map inputOf cs), tableAfterAll choice x y (map inputOf cs))) (r .0 .state) (r .0 .table)

@@ -23,7 +23,7 @@ pub record Call : Type 0 where
   pub table : List ℕ
   pub area : List ℕ
 
--- what `line` promises of a call on the state s and the table t
+-- what `line` promises of a call on the state s and the table t, at its choice of `find`
 abbrev pub Promised : Choice → List ℕ → List ℕ → Call → Type 0
 Promised choice s t c = Made (step choice s t (c .line) (length (c .lent))) (c .lent) (c .answer) (c .state) (c .table) (c .area)
 

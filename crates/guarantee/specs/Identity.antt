@@ -115,13 +115,13 @@ Was choice s t is k i = tagAt (followAll choice s t is (tagAll 0 (records t))) k
 
 -- A point of a list, and a later one: `before` leads to the first, `between` from there to the second.
 
--- "A removed node never comes back, whatever uses its record": what was a node of the start is a node at every point before.
+-- "A removed node never comes back, whatever uses its record": a node of the start that stands at the later point stands at the earlier one too.
 abbrev pub NoneBack : Type 0
 NoneBack =
     (choice : Choice) (s t : List ℕ) (before between : List Input) (k i : ℕ) → Was choice s t (before ++ between) k i
     → (j : ℕ) × Was choice s t before j i × Was choice (stateAfterAll choice s t before) (tableAfterAll choice s t before) between k j
 
--- "kept nodes keep their order", and no two nodes of the last table were one node of the first. This follows from NodesKept and NodesRemoved, line by line.
+-- "kept nodes keep their order", and no two nodes of the last table were one node of the first. NodesKept and NodesRemoved say it of one line.
 abbrev pub OrderKept : Type 0
 OrderKept =
     (choice : Choice) (s t : List ℕ) (is : List Input) (k k' i i' : ℕ) → Was choice s t is k i → Was choice s t is k' i' → k < k' → i < i'
