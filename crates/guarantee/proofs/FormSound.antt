@@ -44,9 +44,10 @@ use Rattle.lines.specs.Work.{treeRestricted, rootAlone, changeAt, insertChecks,
 use Rattle.lines.specs.declared.policy_edit.Found.{Found}
 use Rattle.lines.specs.declared.policy_edit.Found.the-variants as found
 use Rattle.lines.proofs.EditBytes.{line-byte}
-use Rattle.lines.proofs.EditKept.{parts}
+use Rattle.rights.proofs.PolicyPartLaws.{parts}
 use Rattle.lines.proofs.EditTests.{unknown-new, found-subject}
-use Rattle.lines.proofs.PolicyEdits.{subject-keeps, isa-keeps, right-bit, rule-keeps}
+use Rattle.lines.proofs.PolicyEdits.{subject-keeps, isa-keeps, rule-keeps}
+use Rattle.rights.proofs.HeldPolicyLaws.{right-bit}
 use Rattle.lines.proofs.StateLaws.{Held, store-held}
 use Rattle.lines.proofs.StoredPaths.{plain}
 use Rattle.lines.proofs.StoredSteps.{or-none}

@@ -15,8 +15,8 @@ use Rattle.rights.specs.Table.{count, records, tableOk}
 use Rattle.rights.proofs.XPathLists.{or-right}
 use Rattle.views.proofs.TableKept.{length-records}
 use Rattle.lines.specs.State.{stage, userByte, withStage, withSession, withPolicy, policyBytes, sessionOk, stateOk, storeOk}
-use Rattle.lines.proofs.EditBytes.{part-in}
-use Rattle.lines.proofs.EditKept.{parts}
+use Rattle.rights.proofs.PartLaws.{part-in}
+use Rattle.rights.proofs.PolicyPartLaws.{parts}
 use Rattle.lines.proofs.StateLaws.{Held, store-held}
 use Rattle.lines.proofs.EditTests.{found-subject}
 use Rattle.forms.specs.declared.form.Form.{Form}

@@ -8,7 +8,7 @@ use native.Mathlib.Numerals.{add-one}
 use native.Mathlib.Omega.{arith}
 use lib.Dec.{lit<}
 use lib.ListN.{length, getD, take, drop, set, length-append, length-drop, length-set, List·getD-append}
-use lib.Seq.{drop-drop, take-take, drop-at, take-append-le, take-append-seam, drop-append-le, drop-append-seam, drop-set-lt, getD-set-same, getD-set-other, getD-take, getD-drop, length-take-le, sets-eq}
+use lib.Seq.{drop-drop, take-take, drop-at, take-append-le, take-append-seam, drop-append-le, drop-set-lt, getD-set-same, getD-set-other, getD-take, getD-drop, length-take-le, sets-eq}
 use Rattle.rights.specs.Bytes.{all, isZero, zeros}
 use Rattle.rights.specs.Path.{Test}
 use Rattle.rights.specs.declared.path.Axis.{Axis}
@@ -17,21 +17,12 @@ use Rattle.lines.specs.PolicyEdit.{withLine, withSubject, withIsa, withR
 use Rattle.rights.specs.Record.{nameRecord, pasted}
 use Rattle.rights.proofs.TableLaws.{both}
 use Rattle.rights.proofs.RecordLaws.{length-pasted}
+use Rattle.rights.proofs.PartLaws.{part-in}
 use Rattle.rights.proofs.TextLaws.{drop-take}
 
 -- p and q have the same n bytes from byte a on
 abbrev pub Alike : List ℕ → List ℕ → ℕ → ℕ → Type 0
 Alike p q a n = take n (drop a q) ≡ take n (drop a p)
-
--- a part of a part
-pub part-in : (l : List ℕ) (a n j m : ℕ) → j + m ≤ n → take m (drop (a + j) l) ≡ take m (drop j (take n (drop a l)))
-part-in l a n j m h =
-    let e : n ≡ j + (n - j) = omega arith in
-    sym
-    (ap (λ (i : ℕ). take m (drop j (take i (drop a l)))) e
-    ∙ ap (take m) (drop-take j (n - j) (drop a l))
-    ∙ take-take m (n - j) (drop j (drop a l)) (omega arith)
-    ∙ ap (take m) (drop-drop j a l))
 
 pub alike-in : (p q : List ℕ) (a n j m : ℕ) → Alike p q a n → j + m ≤ n → Alike p q (a + j) m
 alike-in p q a n j m e h = part-in q a n j m h ∙ ap (λ (l : List ℕ). take m (drop j l)) e ∙ sym (part-in p a n j m h)
@@ -67,19 +58,6 @@ zeros-part p a n b m e h k =
 
 pub zeros-alike : (p q : List ℕ) (a n : ℕ) → Alike p q a n → zeros p a n ≡ true → zeros q a n ≡ true
 zeros-alike p q a n e z = ap (all isZero) e ∙ z
-
--- two texts, one after the other
-pub part-split : (q x y : List ℕ) (at : ℕ) → take (length (x ++ y)) (drop at q) ≡ x ++ y → (take (length x) (drop at q) ≡ x) × (take (length y) (drop (at + length x) q) ≡ y)
-part-split q x y at e =
-    let n = length (x ++ y) in
-    let l : n ≡ length x + length y = length-append x y in (
-      sym (take-take (length x) n (drop at q) (omega arith)) ∙ ap (take (length x)) e ∙ take-append-seam x y,
-      ap (take (length y)) (sym (drop-drop (length x) at q))
-          ∙ sym (drop-take (length x) (length y) (drop at q))
-          ∙ ap (λ (k : ℕ). drop (length x) (take k (drop at q))) (sym l)
-          ∙ ap (drop (length x)) e
-          ∙ drop-append-seam x y,
-    )
 
 -- one line more: x at byte at, and the count at byte c
 module _ (p x : List ℕ) (c at : ℕ) (low : c < at) (room : at + length x ≤ length p) where

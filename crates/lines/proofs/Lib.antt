@@ -13,3 +13,4 @@ pub mod TreeLineLaws
 pub mod ChangeLaws
 pub mod ViewReadBack
 pub mod StoreXPathLaws
+pub mod AllowedStoreLaws

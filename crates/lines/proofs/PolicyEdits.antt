@@ -1,7 +1,7 @@
 -- What the lines of stages A and B leave: each edit keeps the policy's check under the conditions that the refusals 4, 5, 6, 7 and 9 test, and the
 -- policy then holds one line more and all else as it was. Assumes nothing.
 use Prim.Native.Nat.{ℕ, zero, suc, _+_, _*_, _-_, _≤_, _<_}
-use mathlib.Core.Path.{_≡_, refl, sym, ap, ap₂, _∙_}
+use mathlib.Core.Path.{_≡_, sym, ap, ap₂, _∙_}
 use mathlib.Core.Bool.{Bool, true, false, not, _&&_}
 use mathlib.Core.List.{List, [], _∷_, _++_}
 use native.Mathlib.Nat.{zero-add, add-zero, not-suc-le-zero, le-of-suc-le-suc}
@@ -14,18 +14,21 @@ use Rattle.rights.specs.Bytes.{all, isZero, zeros, every}
 use Rattle.rights.specs.Labels.{labelByte, sameLabel, restricted}
 use Rattle.rights.specs.Path.{Test}
 use Rattle.rights.specs.declared.path.Axis.{Axis}
-use Rattle.rights.specs.Policy.{Right, position, read, insert, update, delete, bitOf, Rule, some, uses}
+use Rattle.rights.specs.Policy.{Rule, some, uses}
 use Rattle.rights.specs.Table.{recAt, label}
 use Rattle.rights.specs.PolicyBytes.{subjectCount, isaCount, ruleCount, subjectAt, isaAt, ruleAt, stepsAt, nameAt, isaN, isaR, namesFrom, isaFrom, rulesFrom, stepsFrom, ruleOf, policyOf}
 use Rattle.rights.specs.PolicyCheck.{textOk, bitOk, ruleOk, sameIsa, policyOk}
 use Rattle.lines.specs.PolicyEdit.{isLine, isaHeld, Plain, stepsIn, pathRestricted, stepRecords, ruleHead, withSubject, withIsa, withRule}
 use Rattle.rights.specs.Record.{noSpare, nameRecord}
-use Rattle.lines.proofs.EditBytes.{Alike, part-in, part-split, zeros-part, zeros-alike, line-length, line-count, line-byte, line-put, line-put-byte, line-after, line-before}
-use Rattle.lines.proofs.EditKept.{parts, subjects-have, isas-have, rules-have, isa-is, rule-is, policy-is, name-kept, n-kept, r-kept, subjects-kept, isas-kept, rules-kept, subjects-more, isas-more, rules-more, names-same, isas-same, rules-same, names-snoc, isas-snoc, rules-snoc, policy-holds}
+use Rattle.rights.proofs.PartLaws.{part-in, part-split}
+use Rattle.lines.proofs.EditBytes.{Alike, zeros-part, zeros-alike, line-length, line-count, line-byte, line-put, line-put-byte, line-after, line-before}
+use Rattle.rights.proofs.PolicyPartLaws.{parts, subjects-have, isas-have, rules-have, isa-is, rule-is, policy-is}
+use Rattle.lines.proofs.EditKept.{name-kept, n-kept, r-kept, subjects-kept, isas-kept, rules-kept, subjects-more, isas-more, rules-more, names-same, isas-same, rules-same, names-snoc, isas-snoc, rules-snoc, policy-holds}
 use Rattle.rights.proofs.LabelLaws.{same-sym}
 use Rattle.rights.proofs.RecordOfLaws.{length-name, label-made, name-ok}
 use Rattle.lines.proofs.StoredPaths.{GoodStored, written, records-length}
-use Rattle.lines.proofs.StoredSteps.{or-none, every-all, stored-steps, steps-pass}
+use Rattle.rights.proofs.EveryLaws.{every-all}
+use Rattle.lines.proofs.StoredSteps.{or-none, stored-steps, steps-pass}
 use Rattle.rights.proofs.WordLaws.{subject-is}
 
 -- ---- `(subject N)`
@@ -184,15 +187,6 @@ module _ (p : List ℕ) (n r : ℕ) (ok : policyOk p ≡ true) (few : isaCount p
       (ap (λ (m : ℕ). rulesFrom (withIsa p n r) m 0) i-rules ∙ rules-same p (withIsa p n r) (ruleCount p) (i-after 2312 (ruleCount p * 520) (omega arith)) (rules-have p (t .rules) .1))
 
 -- ---- `(rule accept|deny RIGHT PATH N)`
-
--- the five rights have the bits that the check asks for
-pub right-bit : (r : Right) → bitOk (bitOf r) ≡ true
-unfolding bitOk
-right-bit position = refl
-right-bit read = refl
-right-bit insert = refl
-right-bit update = refl
-right-bit delete = refl
 
 module _ (p : List ℕ) (accept bit who : ℕ) (ws : List (Axis × Test)) (ok : policyOk p ≡ true) (few : ruleCount p < 128) (good : GoodStored ws) (short : length ws ≤ 16) where
   abbrev r-bytes : List ℕ

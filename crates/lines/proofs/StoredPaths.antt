@@ -30,7 +30,8 @@ use Rattle.rights.proofs.PathSound.{sound-test, sound}
 use Rattle.rights.proofs.PathTexts.{cond-elim, then-elim, never, same}
 use Rattle.rights.proofs.PolicyWords.{some-here, some-later, some-none}
 use Rattle.rights.proofs.RecordLaws.{pasted-pasted, pasted-none}
-use Rattle.rights.proofs.RecordOfLaws.{length-name}
+use Rattle.rights.specs.Held.{join}
+use Rattle.rights.proofs.HeldStepLaws.{test-short, step-length}
 use Rattle.rights.proofs.WalkLaws.{path-steps}
 
 pub never-both : {C : Type 0} → true ≡ false → C
@@ -263,13 +264,6 @@ module _ (s : List ℕ) (i : ℕ) (w : Axis × Test) (ws : List (Axis × Test)) 
         rest = ap (λ (m : ℕ). drop m s) (one .2) ∙ drop-over s (i + 1) (writeStep (w .0) (w .1)) (writeStored ws) f;
       }
 
--- a test's text has at most 24 bytes
-pub test-short : (t : Test) → GoodTest t → length (writeTest t) ≤ 24
-unfolding GoodTest writeTest
-test-short (label l) g = g .1
-test-short any g = omega arith
-test-short own g = omega arith
-
 -- Which step names RESTRICTED
 
 pub names-restricted : (w : Axis × Test) → uses false restricted w ≡ sameLabel (writeTest (w .1)) restricted
@@ -319,16 +313,13 @@ seek-end s i h l = h .same ∙ some-none (uses false restricted) (h .left) (left
 
 -- Storing steps
 
-pub step-length : (w : Axis × Test) → GoodTest (w .1) → length (stepRecord w) ≡ 32
-step-length w g = length-name (axisByte (w .0)) (writeTest (w .1)) (test-short (w .1) g)
-
 pub records-length : (ws : List (Axis × Test)) → GoodStored ws → length (stepRecords ws) ≡ length ws * 32
-unfolding stepRecords GoodStored
+unfolding stepRecords join GoodStored
 records-length [] g = refl
 records-length (w ∷ ws) g = length-append (stepRecord w) (stepRecords ws) ∙ rw (step-length w (g .0), records-length ws (g .1)) (omega arith)
 
 records-snoc : (ws : List (Axis × Test)) (w : Axis × Test) → stepRecords (ws ++ (w ∷ [])) ≡ stepRecords ws ++ stepRecord w
-unfolding stepRecords
+unfolding stepRecords join
 records-snoc [] w = append-nil (stepRecord w)
 records-snoc (v ∷ ws) w = rw (records-snoc ws w) (sym (append-assoc (stepRecord v) (stepRecords ws) (stepRecord w)))
 
@@ -350,7 +341,7 @@ pub record Putting (p₀ : List ℕ) (at : ℕ) (s p : List ℕ) (n i : ℕ) : T
   pub bytes : p ≡ pasted p₀ at (stepRecords put)
 
 pub put-first : (p : List ℕ) (at : ℕ) (s : List ℕ) → Plain s → Putting p at s p 0 0
-unfolding GoodStored stepRecords
+unfolding GoodStored stepRecords join
 put-first p at s h =
     let w = written s h in
     record { put = []; left = stepsIn s; text = w .text; good = w .good; stored = tt; whole = refl; many = refl; room = omega arith; bytes = pasted-none p at }

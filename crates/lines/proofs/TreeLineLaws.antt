@@ -21,7 +21,8 @@ use Rattle.rights.specs.Marks.{marksOf, markCount}
 use Rattle.views.specs.Change.{chunks, le4, join, changed, putBehind, insertBehind, raise, lower, placed, deepest, tooDeep, free, hasRoom}
 use Rattle.views.specs.declared.insert.Place.the-variants.{Append}
 use Rattle.rights.proofs.TextLaws.{drop-take}
-use Rattle.views.proofs.TableLaws.{facts, zero-replicate}
+use Rattle.views.proofs.TableLaws.{facts}
+use Rattle.rights.proofs.PlaceLaws.{zero-replicate}
 use Rattle.views.proofs.TableKept.{length-records, loosen}
 use Rattle.lines.specs.State.{stage, storeOk}
 use Rattle.lines.specs.Refusal.{check, levelTooDeep, tableFull}

@@ -1,6 +1,7 @@
 pub mod Outcome
 pub mod Refusal
 pub mod State
+pub mod Allowed
 pub mod PolicyEdit
 pub mod UserView
 pub mod Effect

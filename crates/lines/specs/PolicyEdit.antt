@@ -3,18 +3,19 @@
 use Prim.Native.Nat.{ℕ, suc, _+_}
 use mathlib.Core.Bool.{Bool, true, false, cond, _&&_, _||_}
 use mathlib.Core.Path.{_≡_}
-use mathlib.Core.List.{List, [], _∷_, _++_}
+use mathlib.Core.List.{List, [], _∷_, _++_, map}
 use lib.Dec.{eqb}
 use lib.ListN.{length, getD, set}
 use Rattle.rights.specs.Labels.{sameLabel, restricted}
 use Rattle.rights.specs.Path.{Test, Path, last, next, Brackets, none, position, holds}
 use Rattle.rights.specs.declared.path.Axis.{Axis}
-use Rattle.rights.specs.declared.path.Axis.the-variants.{Child, Descendant}
 use Rattle.rights.specs.PathReader.{Got, got, bad, pathOf}
-use Rattle.rights.specs.PathText.{writeTest, writeStep}
+use Rattle.rights.specs.PathText.{writeStep}
 use Rattle.rights.specs.Policy.{Policy, some, uses}
 use Rattle.rights.specs.PolicyBytes.{subjectCount, isaCount, ruleCount, subjectAt, isaAt, ruleAt}
 use Rattle.rights.specs.Record.{nameRecord, pasted}
+use Rattle.rights.specs.Held.{join}
+pub use Rattle.rights.specs.Held.{axisByte, stepRecord, ruleHead}
 use Rattle.lines.specs.declared.policy_edit.Found.{Found}
 use Rattle.lines.specs.declared.policy_edit.Found.the-variants.{Subject, Unknown}
 
@@ -89,17 +90,9 @@ writeStored (w ∷ ws) = 47 ∷ (writeStep (w .0) (w .1) ++ writeStored ws)
 unfoldable pub pathRestricted : List ℕ → Bool
 pathRestricted s = some (uses false restricted) (stepsIn s)
 
--- A step is stored as a record: 0 for `/` or 1 for `//`, and `*`, `$` or the label as its text.
-abbrev pub axisByte : Axis → ℕ
-axisByte Child = 0
-axisByte Descendant = 1
-
-abbrev pub stepRecord : Axis × Test → List ℕ
-stepRecord w = nameRecord (axisByte (w .0)) (writeTest (w .1))
-
+-- the records of steps, one after the other
 unfoldable pub stepRecords : List (Axis × Test) → List ℕ
-stepRecords [] = []
-stepRecords (w ∷ ws) = stepRecord w ++ stepRecords ws
+stepRecords ws = join (map stepRecord ws)
 
 -- One line more: its bytes at their place, and the count at byte c raised by one. No other byte changes.
 unfoldable pub withLine : List ℕ → ℕ → ℕ → List ℕ → List ℕ
@@ -114,8 +107,5 @@ abbrev pub withIsa : List ℕ → ℕ → ℕ → List ℕ
 withIsa p n r = withLine p 1 (isaAt (isaCount p)) (n ∷ r ∷ [])
 
 -- `(rule accept|deny RIGHT PATH N)`: 1 or 0, the right's bit, the subject's number, the path's steps
-abbrev pub ruleHead : ℕ → ℕ → ℕ → ℕ → List ℕ
-ruleHead accept bit who n = accept ∷ bit ∷ who ∷ n ∷ 0 ∷ 0 ∷ 0 ∷ 0 ∷ []
-
 abbrev pub withRule : List ℕ → ℕ → ℕ → ℕ → List (Axis × Test) → List ℕ
 withRule p accept bit who ws = withLine p 2 (ruleAt (ruleCount p)) (ruleHead accept bit who (length ws) ++ stepRecords ws)

@@ -18,7 +18,9 @@ use Rattle.rights.specs.Table.{level, label, spare, count, tableOk}
 use Rattle.rights.specs.Record.{labelBytes, recordOf, pasted}
 use Rattle.rights.proofs.RecordLaws.{length-padded, length-record}
 use Rattle.rights.proofs.RecordOfLaws.{level-made, label-made}
-use Rattle.views.proofs.TableLaws.{facts, count-bytes, zero-replicate}
+use Rattle.views.proofs.TableLaws.{facts}
+use Rattle.rights.proofs.HeldTableLaws.{count-bytes}
+use Rattle.rights.proofs.PlaceLaws.{zero-replicate}
 use Rattle.views.proofs.InsertionLaws.{length-rename}
 use Rattle.views.specs.Change.{rename, chunks, relabel, renamed, changed}
 use Rattle.rights.specs.Marks.{marksOf}

@@ -1,23 +1,23 @@
 -- The table after a change passes the check (refusal 13 never comes of a change). Assumes nothing.
-use Prim.Native.Nat.{ℕ, zero, suc, _+_, _-_, _*_, _/_, _≤_, _<_, min}
+use Prim.Native.Nat.{ℕ, zero, suc, _+_, _-_, _*_, _≤_, _<_}
 use mathlib.Core.Bool.{Bool, true, false, false≢true}
 use mathlib.Core.Path.{_≡_, refl, sym, ap, _∙_}
-use mathlib.Core.List.{List, [], _∷_, _++_}
+use mathlib.Core.List.{List, [], _∷_, map-id}
 use native.Mathlib.Omega.{arith}
 use native.Mathlib.Numerals.{add-one}
 use native.Mathlib.Nat.{add-zero}
 use borrow.Author.Tests.{leb-true}
-use lib.ListN.{length, getD, take, drop, replicate, length-append, length-replicate, length-drop}
-use lib.Seq.{take-at, drop-at, drop-drop, length-take-le, getD-drop}
-use Rattle.rights.specs.Bytes.{all, isZero}
+use lib.ListN.{length, getD, take, drop, length-drop}
+use lib.Seq.{length-take-le, getD-drop}
 use Rattle.rights.specs.Table.{labelPartOk, spareOk, recordOk, recordsOk, level, spare, tableOk, count, capacity, records}
 use Rattle.rights.proofs.TableLaws.{both, record-levels, record-parts}
 use Rattle.rights.proofs.ListLaws.{byCase}
-use Rattle.rights.proofs.RecordsOkLaws.{table-yes, record-yes}
-use Rattle.rights.proofs.RecordOfLaws.{zeros-zero, made-ok, spare-made}
+use Rattle.rights.proofs.RecordsOkLaws.{record-yes}
+use Rattle.rights.proofs.HeldTableLaws.{length-table, count-table, records-table, table-passes}
+use Rattle.rights.proofs.RecordOfLaws.{made-ok, spare-made}
 use Rattle.views.specs.declared.insert.Place.{Place}
 use Rattle.views.specs.declared.insert.Place.the-variants.{Append, After, Before}
-use Rattle.views.specs.Change.{dropBelow, putBehind, remove, insertBehind, insertInFront, rename, chunks, raise, lower, placed, removed, relabel, renamed, join, changed, deepest, tooDeep, hasRoom}
+use Rattle.views.specs.Change.{dropBelow, putBehind, remove, insertBehind, insertInFront, rename, chunks, raise, lower, placed, removed, relabel, renamed, changed, deepest, tooDeep, hasRoom}
 use Rattle.rights.specs.Marks.{markCount}
 use Rattle.views.specs.How.Pass.{AtDone, Shallow}
 use Rattle.views.specs.Nodes.{Above, Front, All, Nested, TreeOk, LabelOk}
@@ -33,47 +33,23 @@ use Rattle.views.proofs.NestedLaws.{nested-remove, nested-insertBehind,
 abbrev pub Full : List ℕ → Type 0
 Full r = length r ≡ 32
 
--- records of 32 bytes each, one after the other
-pub length-join : (rs : List (List ℕ)) → All Full rs → length (join rs) ≡ length rs * 32
-unfolding join
-length-join [] a = refl
-length-join (r ∷ rs) a = rw (length-append r (join rs)) (omega (arith, a .0, length-join rs (a .1)))
-
-pub chunks-join : (rs : List (List ℕ)) (z : List ℕ) → All Full rs → chunks (length rs) (join rs ++ z) ≡ rs
-unfolding chunks join
-chunks-join [] z a = refl
-chunks-join (r ∷ rs) z a =
-    let e : (r ++ join rs) ++ z ≡ r ++ (join rs ++ z) = mathlib.Core.List.append-assoc r (join rs) z in
-    rw (e, take-at r (join rs ++ z) 32 (a .0), drop-at r (join rs ++ z) 32 (a .0)) (ap (λ (u : List (List ℕ)). r ∷ u) (chunks-join rs z (a .1)))
-
 -- what is read of the bytes that a change leaves
 module _ (t : List ℕ) (rs : List (List ℕ)) (head : 4 ≤ length t) (room : length rs ≤ capacity (length t)) (full : All Full rs) where
-  fits : (length rs ≤ 16384) × (4 + length rs * 32 ≤ length t)
-  fits = let r : length rs ≤ min ((length t - 4) / 32) 16384 = room in (omega (arith, r), omega (arith, r, head))
-
   pub length-changed : length (changed t rs) ≡ length t
   unfolding changed
-  length-changed =
-      rw (length-append (join rs) (replicate (length t - (4 + length rs * 32)) 0), length-join rs full, length-replicate {A = ℕ} (length t - (4 + length rs * 32)) 0) (omega (arith, fits .1))
+  length-changed = rw (map-id rs) at (length-table (λ (r : List ℕ). r) [] (length t) rs head room full)
 
   pub count-changed : count (changed t rs) ≡ length rs
   unfolding changed
-  count-changed = let n : ℕ = length rs in let h : n ≤ 16384 = fits .0 in omega (arith, h)
-
-  back : drop 4 (changed t rs) ≡ join rs ++ replicate (length t - (4 + length rs * 32)) 0
-  unfolding changed
-  back = refl
+  count-changed = rw (map-id rs) at (count-table (λ (r : List ℕ). r) [] (length t) rs head room full)
 
   pub records-changed : records (changed t rs) ≡ rs
-  records-changed = all-chunks (changed t rs) ∙ rw (count-changed, back) (chunks-join rs (replicate (length t - (4 + length rs * 32)) 0) full)
-
-  clear : all isZero (drop (4 + count (changed t rs) * 32) (changed t rs)) ≡ true
-  clear =
-      rw (count-changed, ← drop-drop (length rs * 32) 4 (changed t rs), back, drop-at (join rs) (replicate (length t - (4 + length rs * 32)) 0) (length rs * 32) (length-join rs full))
-      (zeros-zero (length t - (4 + length rs * 32)))
+  unfolding changed
+  records-changed = rw (map-id rs) at (records-table (λ (r : List ℕ). r) [] (length t) rs head room full)
 
   pub changed-ok : recordsOk 0 0 rs ≡ true → tableOk (changed t rs) ≡ true
-  changed-ok e = table-yes (changed t rs) (rw length-changed head) (rw (length-changed, count-changed) room) (rw records-changed e) ∙ clear
+  unfolding changed
+  changed-ok e = rw (map-id rs) at (table-passes (λ (r : List ℕ). r) [] (length t) rs head room full) e
 
 -- a record with other bounds for its level
 pub tighten : (low high : ℕ) (r : List ℕ) → low ≤ level r → level r ≤ high → (l h : ℕ) → recordOk l h r ≡ true → recordOk low high r ≡ true

@@ -1,16 +1,15 @@
 -- What a table that passed the check is known to hold. Assumes nothing.
-use Prim.Native.Nat.{ℕ, _+_, _-_, _*_, _/_, _%_, _≤_, _<_, min}
+use Prim.Native.Nat.{ℕ, _+_, _-_, _*_, _/_, _≤_, min}
 use mathlib.Core.Bool.{true, and-eq-true-iff}
-use mathlib.Core.Path.{_≡_, refl, ap₂}
+use mathlib.Core.Path.{_≡_}
 use mathlib.Core.List.{List, [], _∷_}
 use native.Mathlib.Omega.{arith}
-use borrow.Author.Tests.{leb-true, eqb-true}
-use lib.Dec.{eqb}
-use lib.ListN.{length, getD, take, drop, replicate}
+use borrow.Author.Tests.{leb-true}
+use lib.ListN.{length, drop}
 use Rattle.rights.specs.Bytes.{all, isZero}
 use Rattle.rights.specs.Table.{recordOk, recordsOk, level, tableOk, count, capacity, records}
 use Rattle.rights.proofs.TableLaws.{both, sound}
-use Rattle.views.specs.Change.{chunks, le4}
+use Rattle.views.specs.Change.{chunks}
 use Rattle.views.specs.Nodes.{Under}
 use Rattle.views.proofs.ChunkLaws.{all-chunks}
 
@@ -45,31 +44,3 @@ facts t e =
       low = rw (← all-chunks t) (under-ok 0 0 (records t) (f .1 .1 .0));
       clear = f .1 .1 .1;
     }
-
-pub zero-replicate : (s : List ℕ) → all isZero s ≡ true → s ≡ replicate (length s) 0
-unfolding all
-zero-replicate [] e = refl
-zero-replicate (x ∷ s) e =
-    let f = both (eqb x 0) (all isZero s) e in
-    ap₂ _∷_ (eqb-true x 0 (f .0)) (zero-replicate s (f .1))
-
--- the count's bytes are those of its number
-pub count-bytes : (t : List ℕ) → 4 ≤ length t → ((i : ℕ) → getD t i 0 < 256) → le4 (count t) ≡ take 4 t
-count-bytes [] h b = absurd (omega arith)
-count-bytes (p ∷ []) h b = absurd (omega arith)
-count-bytes (p ∷ q ∷ []) h b = absurd (omega arith)
-count-bytes (p ∷ q ∷ r ∷ []) h b = absurd (omega arith)
-count-bytes (p ∷ q ∷ r ∷ s ∷ t) h b =
-    let x : p < 256 = b 0 in
-    let y : q < 256 = b 1 in
-    let z : r < 256 = b 2 in
-    let w : s < 256 = b 3 in
-    let n : ℕ = p + q * 256 + r * 65536 + s * 16777216 in
-    let b1 : n / 256 ≡ q + r * 256 + s * 65536 = omega arith in
-    let b2 : n / 65536 ≡ r + s * 256 = omega arith in
-    let b3 : n / 16777216 ≡ s = omega arith in
-    let a0 : n % 256 ≡ p = omega arith in
-    let a1 : (q + r * 256 + s * 65536) % 256 ≡ q = omega arith in
-    let a2 : (r + s * 256) % 256 ≡ r = omega arith in
-    let a3 : s % 256 ≡ s = omega arith in
-    rw (b1, b2, b3, a0, a1, a2, a3)

@@ -14,10 +14,11 @@ use Rattle.rights.specs.Table.{recordAt, recordsFrom, records, level, label, re
 use Rattle.rights.specs.Policy.{read}
 use Rattle.rights.specs.How.Places.{Text}
 use Rattle.rights.specs.Rights.{holds}
-use Rattle.rights.specs.Nodes.{Node, node, Nodes, levelOf, levelAt, TreeShaped}
+use Rattle.rights.specs.Nodes.{node, Nodes, TreeShaped}
 use Rattle.rights.specs.How.Numbers.{recordPlace, seen, viewOf, Fits}
 use Rattle.rights.proofs.TableLaws.{both, record-levels}
 use Rattle.rights.proofs.ListLaws.{byCase}
+use Rattle.rights.proofs.TreeShapeLaws.{Linked, linked-nested, nothing-nested}
 use Rattle.views.specs.Shown.{Stored, storedFrom, stored, storedLevel, grants, granted, shown, carried, view}
 use Rattle.views.specs.Nodes.{All}
 use Rattle.views.specs.StoredTree.{nodeIn, storedNodes}
@@ -97,35 +98,6 @@ module _ (t ss : List ℕ) (ok : tableOk t ≡ true) where
       h
 
 -- A view is a tree
-
--- after a node of level l come nodes of levels from 1 to one more than the one before
-abbrev Linked : ℕ → Nodes → Type 0
-Linked l [] = Unit {0}
-Linked l (x ∷ xs) = (0 < levelOf x) × (levelOf x ≤ suc l) × Linked (levelOf x) xs
-
-linked-one : (l : ℕ) (xs : Nodes) → Linked l xs → (i : ℕ) → i < length xs → 0 < levelAt xs i
-unfolding levelAt
-linked-one l [] k i h = absurd (omega arith)
-linked-one l (x ∷ xs) k zero h = k .0
-linked-one l (x ∷ xs) k (suc i) h = linked-one (levelOf x) xs (k .2) i (omega arith)
-
-linked-steps : (x : Node) (xs : Nodes) → Linked (levelOf x) xs → (i : ℕ) → suc i < length (x ∷ xs) → levelAt (x ∷ xs) (suc i) ≤ suc (levelAt (x ∷ xs) i)
-unfolding levelAt
-linked-steps x [] k i h = absurd (omega arith)
-linked-steps x (y ∷ ys) k zero h = k .1
-linked-steps x (y ∷ ys) k (suc i) h = linked-steps y ys (k .2) i (omega arith)
-
-linked-nested : (x : Node) (xs : Nodes) → levelOf x ≡ 0 → Linked (levelOf x) xs → TreeShaped (x ∷ xs)
-unfolding levelAt
-linked-nested x xs e k = record { root = e; one = one; steps = linked-steps x xs k }
-  where
-    one : (i : ℕ) → 0 < i → i < length (x ∷ xs) → 0 < levelAt (x ∷ xs) i
-    one zero a b = absurd (omega arith)
-    one (suc i) a b = linked-one (levelOf x) xs k i (omega arith)
-
-nothing-nested : TreeShaped []
-unfolding levelAt
-nothing-nested = record { root = refl; one = λ i a b. absurd (omega arith); steps = λ i a. absurd (omega arith) }
 
 -- what is shown of these nodes, below a shown chain of depth d
 abbrev viewFrom : ℕ → List Stored → Nodes

@@ -1,13 +1,16 @@
 -- The changes (document 01, "Changes"), on lists of anything with a level, in document order: the nodes with their records, their public parts, or tags that name them.
 -- "A selected node is done if ..": the changes take a mark for each node, done or not; no node beyond the marks is done. Which nodes are done is decided elsewhere,
 -- before anything changes.
-use Prim.Native.Nat.{ℕ, zero, suc, _+_, _-_, _*_, _/_, _%_}
+use Prim.Native.Nat.{ℕ, zero, suc, _+_, _-_, _*_}
 use mathlib.Core.Bool.{Bool, false, cond, _&&_, _||_}
 use mathlib.Core.List.{List, [], _∷_, _++_}
 use lib.Dec.{leb, ltb}
-use lib.ListN.{length, take, drop, replicate, getD}
+use lib.ListN.{length, take, drop, getD}
 use Rattle.rights.specs.Table.{count, capacity, level, spare}
 use Rattle.rights.specs.Record.{recordOf}
+use Rattle.rights.specs.Held.{tableBytes}
+pub use Rattle.rights.specs.Held.{le4}
+unfoldable pub use Rattle.rights.specs.Held.{join}
 use Rattle.rights.specs.Marks.{markCount}
 use Rattle.views.specs.declared.insert.Place.{Place}
 use Rattle.views.specs.declared.insert.Place.the-variants.{Append, After, Before}
@@ -93,18 +96,9 @@ relabel s r = recordOf (level r) s (spare r)
 abbrev pub renamed : List ℕ → List Bool → List (List ℕ) → List (List ℕ)
 renamed s ms rs = rename level (relabel s) ms rs
 
--- a number as four bytes, the lowest first
-abbrev pub le4 : ℕ → List ℕ
-le4 n = n % 256 ∷ n / 256 % 256 ∷ n / 65536 % 256 ∷ n / 16777216 % 256 ∷ []
-
--- the records, one after the other
-unfoldable pub join : List (List ℕ) → List ℕ
-join [] = []
-join (r ∷ rs) = r ++ join rs
-
--- What the lent bytes of a table become: the count of the records, the records, and zeros to the very end, "so a removed label leaves no trace".
+-- What the lent bytes of a table become: those that hold these records.
 unfoldable pub changed : List ℕ → List (List ℕ) → List ℕ
-changed t rs = le4 (length rs) ++ (join rs ++ replicate (length t - (4 + length rs * 32)) 0)
+changed t rs = tableBytes (length t) rs
 
 -- the level of the deepest record
 unfoldable pub deepest : List (List ℕ) → ℕ

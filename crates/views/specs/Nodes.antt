@@ -7,16 +7,9 @@ use mathlib.Core.Logic.{_⊎_}
 use mathlib.Core.Option.{Option, none, some}
 use lib.Dec.{ltb}
 use lib.ListN.{length, drop, getD}
-use Rattle.rights.specs.Limits.{labelMax}
 use Rattle.rights.specs.Marks.{eachFrom, keep}
-use Rattle.rights.specs.Bytes.{all}
-use Rattle.rights.specs.Labels.{labelByte, sameLabel, restricted}
+pub use Rattle.rights.specs.Allowed.{All, LabelOk}
 use Rattle.rights.specs.Table.{level, recordOk}
-
--- P holds of each
-abbrev pub All : {E : Type 0} → (E → Type 0) → List E → Type 0
-All P [] = Unit {0}
-All P (x ∷ t) = P x × All P t
 
 module _ {E : Type 0} (lev : E → ℕ) where
   -- Each node is at most one level deeper than the one before it, the first at most at level n.
@@ -90,10 +83,3 @@ tags h (x ∷ t) = put (h x) (tags h t)
 pub record TreeOk (tree : List (List ℕ)) : Type 0 where
   pub nested : Nested level 0 tree
   pub labels : All (λ r. (length r ≡ 32) × (recordOk 0 11 (0 ∷ drop 1 r) ≡ true)) tree
-
--- A label that may be stored: 1 to 24 bytes of the class, not RESTRICTED.
-pub record LabelOk (s : List ℕ) : Type 0 where
-  pub some : 1 ≤ length s
-  pub short : length s ≤ labelMax
-  pub bytes : all labelByte s ≡ true
-  pub free : sameLabel s restricted ≡ false

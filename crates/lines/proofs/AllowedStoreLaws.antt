@@ -1,0 +1,206 @@
+-- A store passes the check exactly if state and table hold what document 01 allows, and nothing else. Assumes nothing.
+use Prim.Native.Nat.{ℕ, zero, suc, _+_, _≤_, _<_}
+use mathlib.Core.Path.{_≡_, refl, sym, ap, ap₂, _∙_}
+use mathlib.Core.Bool.{Bool, true, false, _||_, Bool·beq, and-eq-true-iff}
+use mathlib.Core.List.{List, [], _∷_, _++_}
+use mathlib.Core.Option.{Option, none, some}
+use native.Mathlib.Omega.{arith}
+use borrow.Author.Tests.{leb-true, leb-false, le-leb, eqb-true, eq-eqb}
+use lib.Dec.{leb, eqb}
+use lib.ListN.{length, getD, take, drop, replicate, take-append-drop, length-drop}
+use lib.Seq.{length-take-le}
+use Rattle.rights.specs.Bytes.{all, zeros}
+use Rattle.rights.specs.Nodes.{Nodes}
+use Rattle.rights.specs.Policy.{Policy}
+use Rattle.rights.specs.PolicyBytes.{subjectCount, ruleCount, rulesFrom, policyOf}
+use Rattle.rights.specs.PolicyCheck.{policyOk}
+use Rattle.rights.specs.Table.{count}
+use Rattle.rights.specs.Held.{heldPolicy, storedNodes}
+use Rattle.rights.proofs.BoolLaws.{or-split, or-left, or-right}
+use Rattle.rights.proofs.ListLaws.{byCase}
+use Rattle.rights.proofs.PolicyBytesLaws.{names-length}
+use Rattle.rights.proofs.PolicyPartLaws.{parts}
+use Rattle.rights.proofs.PlaceLaws.{zero-replicate}
+use Rattle.rights.proofs.AllowedPolicyLaws.{policy-allowed}
+use Rattle.rights.proofs.HeldPolicyLaws.{allowed-policy}
+use Rattle.rights.proofs.AllowedTableLaws.{nodes-counted, table-allowed, allowed-table}
+use Rattle.lines.specs.State.{stage, userByte, policyBytes, sessionOk, stateOk, storeOk}
+use Rattle.lines.specs.Allowed.{Session, AllowedSession, userHeld, heldSession, userIn, sessionIn, HoldsSession, HoldsStore}
+use Rattle.lines.proofs.StateLaws.{store-yes, state-yes}
+
+-- two tests that agree
+agree : (a b : Bool) → (a ≡ true → b ≡ true) → (b ≡ true → a ≡ true) → Bool·beq a b ≡ true
+agree true true f g = refl
+agree true false f g = f refl
+agree false true f g = g refl
+agree false false f g = refl
+
+agrees-yes : (a b : Bool) → Bool·beq a b ≡ true → (a ≡ true → b ≡ true) × (b ≡ true → a ≡ true)
+agrees-yes true true e = ((λ x. refl), λ x. refl)
+agrees-yes true false e = ((λ x. e), λ x. refl)
+agrees-yes false true e = ((λ x. refl), λ x. e)
+agrees-yes false false e = ((λ x. x), λ x. x)
+
+-- the user's byte
+user-back : (u : Option ℕ) → userIn (userHeld u) ≡ u
+user-back none = refl
+user-back (some u) = refl
+
+user-made : (b : ℕ) → userHeld (userIn b) ≡ b
+user-made zero = refl
+user-made (suc b) = refl
+
+user-is : (b u : ℕ) → userIn b ≡ some u → b ≡ suc u
+user-is b u e = sym (user-made b) ∙ ap userHeld e
+
+user-none : (b : ℕ) → userIn b ≡ none → b ≡ 0
+user-none b e = sym (user-made b) ∙ ap userHeld e
+
+-- the rules of a policy without any
+no-rules : (p : List ℕ) → ruleCount p ≡ 0 → policyOf p .rules ≡ []
+unfolding policyOf rulesFrom
+no-rules p e = ap (λ (n : ℕ). rulesFrom p n 0) e
+
+rules-from : (p : List ℕ) (n i : ℕ) → length (rulesFrom p n i) ≡ n
+unfolding rulesFrom
+rules-from p zero i = refl
+rules-from p (suc n) i = ap suc (rules-from p n (suc i))
+
+rules-none : (p : List ℕ) → policyOf p .rules ≡ [] → ruleCount p ≡ 0
+unfolding policyOf
+rules-none p e = sym (rules-from p (ruleCount p) 0) ∙ ap length e
+
+-- A state that passes
+module _ (s : List ℕ) (ok : stateOk s ≡ true) where
+  record Passed : Type 0 where
+    size : length s ≡ 68880
+    policy : policyOk (policyBytes s) ≡ true
+    stages : stage s ≤ 4
+    user : userByte s ≤ subjectCount (policyBytes s)
+    spare : zeros s 2 6 ≡ true
+    rules : (eqb (ruleCount (policyBytes s)) 0 || leb 1 (stage s)) ≡ true
+    logged : Bool·beq (eqb (stage s) 4) (leb 1 (userByte s)) ≡ true
+
+  passed : Passed
+  unfolding stateOk sessionOk
+  passed =
+      let f = simp (stateOk, and-eq-true-iff) at ok in
+      record {
+        size = eqb-true _ _ (f .0);
+        policy = f .1 .0;
+        stages = leb-true _ _ (f .1 .1 .0);
+        user = leb-true _ _ (f .1 .1 .1 .0);
+        spare = f .1 .1 .1 .1 .0;
+        rules = f .1 .1 .1 .1 .1 .0;
+        logged = f .1 .1 .1 .1 .1 .1;
+      }
+
+  session-allowed : AllowedSession (sessionIn s)
+  session-allowed =
+      let h = passed in
+      let a = agrees-yes (eqb (stage s) 4) (leb 1 (userByte s)) (h .logged) in
+      record {
+        policy = policy-allowed (policyBytes s) (h .policy) .allowed;
+        stage = h .stages;
+        rules = λ e. or-split (eqb (ruleCount (policyBytes s)) 0) (leb 1 (stage s)) (h .rules)
+            (λ q. no-rules (policyBytes s) (eqb-true _ _ q))
+            (λ q. absurd (omega (arith, e, leb-true 1 (stage s) q)));
+        user = λ u e.
+            let b = user-is (userByte s) u e in
+            (eqb-true (stage s) 4 (a .1 (le-leb 1 (userByte s) (omega (arith, b)))), omega (arith, b, h .user, names-length (policyBytes s)));
+        logged-in = λ g e. let b = leb-true 1 (userByte s) (a .0 (eq-eqb (stage s) 4 g)) in omega (arith, b, user-none (userByte s) e);
+      }
+
+  session-bytes : s ≡ heldSession (sessionIn s)
+  session-bytes =
+      let h = passed in
+      cut s (omega (arith, h .size)) (zero-replicate (take 6 (drop 2 s)) (h .spare) ∙ ap (λ (k : ℕ). replicate k 0) (length-take-le 6 (drop 2 s) (omega (arith, h .size, length-drop 2 s))))
+      ∙ ap₂ (λ (u : ℕ) (p : List ℕ). stage s ∷ u ∷ 0 ∷ 0 ∷ 0 ∷ 0 ∷ 0 ∷ 0 ∷ p) (sym (user-made (userByte s))) (policy-allowed (policyBytes s) (h .policy) .bytes)
+    where
+      cut : (s : List ℕ) → 8 ≤ length s → take 6 (drop 2 s) ≡ replicate 6 0 → s ≡ stage s ∷ userByte s ∷ 0 ∷ 0 ∷ 0 ∷ 0 ∷ 0 ∷ 0 ∷ policyBytes s
+      cut [] l e = absurd (omega arith)
+      cut (x ∷ []) l e = absurd (omega arith)
+      cut (x ∷ (y ∷ r)) l e = ap (λ (l : List ℕ). x ∷ (y ∷ l)) (sym (take-append-drop 6 r) ∙ ap (λ (l : List ℕ). l ++ drop 6 r) e)
+
+-- 13, for a state: what passes is what document 01 allows, and nothing else stands in its bytes.
+pub state-allowed : (s : List ℕ) → stateOk s ≡ true → HoldsSession s (sessionIn s)
+state-allowed s ok = record { allowed = session-allowed s ok; bytes = session-bytes s ok }
+
+-- A session that is allowed, as it is held
+module _ (z : Session) (h : AllowedSession z) where
+  policy-back : (policyOk (heldPolicy (z .policy)) ≡ true) × (policyOf (heldPolicy (z .policy)) ≡ z .policy)
+  policy-back = allowed-policy (heldPolicy (z .policy)) (z .policy) (record { allowed = h .policy; bytes = refl })
+
+  subjects : subjectCount (heldPolicy (z .policy)) ≡ length (z .policy .names)
+  subjects = sym (names-length (heldPolicy (z .policy))) ∙ ap (λ (P : Policy). length (P .names)) (policy-back .1)
+
+  user-low : (u : Option ℕ) → z .user ≡ u → userHeld u ≤ length (z .policy .names)
+  user-low none e = omega arith
+  user-low (some u) e = omega (arith, h .user u e .1)
+
+  user-there : (u : Option ℕ) → z .user ≡ u → z .stage ≡ 4 → leb 1 (userHeld u) ≡ true
+  user-there none e g = absurd (h .logged-in g e)
+  user-there (some u) e g = le-leb 1 (suc u) (omega arith)
+
+  user-late : (u : Option ℕ) → z .user ≡ u → leb 1 (userHeld u) ≡ true → z .stage ≡ 4
+  user-late none e g = absurd (omega (arith, leb-true 1 0 g))
+  user-late (some u) e g = h .user u e .0
+
+  rules-late : (eqb (ruleCount (heldPolicy (z .policy))) 0 || leb 1 (z .stage)) ≡ true
+  rules-late = byCase (leb 1 (z .stage))
+      (λ e. or-right (eqb (ruleCount (heldPolicy (z .policy))) 0) (leb 1 (z .stage)) e)
+      (λ e. or-left (eqb (ruleCount (heldPolicy (z .policy))) 0) (leb 1 (z .stage))
+      (eq-eqb _ _ (rules-none (heldPolicy (z .policy)) (ap (λ (P : Policy). P .rules) (policy-back .1) ∙ h .rules (omega (arith, leb-false 1 (z .stage) e))))))
+
+  session-passes : sessionOk (heldSession z) ≡ true
+  unfolding sessionOk all
+  session-passes = rw (
+    le-leb (z .stage) 4 (h .stage),
+    le-leb (userHeld (z .user)) (subjectCount (heldPolicy (z .policy))) (omega (arith, user-low (z .user) refl, subjects)),
+    rules-late,
+    agree (eqb (z .stage) 4) (leb 1 (userHeld (z .user)))
+        (λ e. user-there (z .user) refl (eqb-true (z .stage) 4 e))
+        (λ e. eq-eqb (z .stage) 4 (user-late (z .user) refl e)),
+  )
+
+  state-passes : stateOk (heldSession z) ≡ true
+  state-passes =
+      state-yes (heldSession z) (omega (arith, parts (heldPolicy (z .policy)) (policy-back .0) .long)) (policy-back .0)
+      ∙ session-passes
+
+  session-back : sessionIn (heldSession z) ≡ z
+  session-back = make (user-back (z .user)) (policy-back .1)
+    where
+      make : {g : ℕ} {u u′ : Option ℕ} {P P′ : Policy} → u ≡ u′ → P ≡ P′ → _≡_ {A = Session} (record { stage = g; user = u; policy = P }) (record { stage = g; user = u′; policy = P′ })
+      make a b = rw (a, b)
+
+-- The other way: bytes that hold a session that document 01 allows pass, and that session is read of them.
+pub allowed-state : (s : List ℕ) (z : Session) → HoldsSession s z → (stateOk s ≡ true) × (sessionIn s ≡ z)
+allowed-state s z h = (ap stateOk (h .bytes) ∙ state-passes z (h .allowed), ap sessionIn (h .bytes) ∙ session-back z (h .allowed))
+
+-- 13: a store of lent bytes passes exactly if state and table hold what document 01 allows.
+pub store-allowed : (s t : List ℕ) → ((i : ℕ) → getD t i 0 < 256) → storeOk s t ≡ true → HoldsStore s t (sessionIn s) (storedNodes t)
+unfolding storeOk
+store-allowed s t b ok =
+    let f = simp (storeOk, and-eq-true-iff) at ok in
+    let a = agrees-yes (leb 2 (stage s)) (leb 1 (count t)) (f .1 .1) in
+    record {
+      state = state-allowed s (f .1 .0);
+      table = table-allowed t b (f .0);
+      root = λ h. leb-true 2 (stage s) (a .1 (le-leb 1 (count t) (omega (arith, h, nodes-counted t))));
+      root-line = λ h. let c = leb-true 1 (count t) (a .0 (le-leb 2 (stage s) h)) in omega (arith, c, nodes-counted t);
+    }
+
+pub allowed-store : (s t : List ℕ) (z : Session) (nodes : Nodes) → HoldsStore s t z nodes → (storeOk s t ≡ true) × (sessionIn s ≡ z) × (storedNodes t ≡ nodes)
+allowed-store s t z nodes h =
+    let a = allowed-state s z (h .state) in
+    let b = allowed-table t nodes (h .table) in
+    let g : stage s ≡ z .stage = ap (λ (y : Session). y .stage) (a .1) in
+    let c : length nodes ≡ count t = ap length (sym (b .1)) ∙ nodes-counted t in (
+      store-yes s t (b .0) (a .0)
+          ∙ agree (leb 2 (stage s)) (leb 1 (count t))
+          (λ e. le-leb 1 (count t) (omega (arith, c, h .root-line (omega (arith, g, leb-true 2 (stage s) e)))))
+          (λ e. le-leb 2 (stage s) (omega (arith, g, h .root (omega (arith, c, leb-true 1 (count t) e))))),
+      a .1,
+      b .1,
+    )
