@@ -12,7 +12,7 @@ use Rattle.rights.specs.Marks.{markCount}
 use Rattle.rights.specs.Nodes.{Node, node}
 use Rattle.rights.specs.Record.{noSpare}
 use Rattle.rights.specs.Table.{count, records, tableOk}
-use Rattle.rights.specs.Tree.{Tree, nodesOf}
+use Rattle.rights.specs.Tree.{Tree, tree, none, nodesOf}
 use Rattle.rights.proofs.RecordOfLaws.{level-made, label-made}
 use Rattle.views.specs.Change.{chunks}
 use Rattle.views.specs.StoredTree.{nodeIn, storedNodes, HoldsTree, size, Lands}
@@ -33,7 +33,7 @@ use Rattle.forms.specs.declared.form.Part.{Part}
 use Rattle.forms.specs.declared.form.Form.{Form}
 use Rattle.forms.specs.declared.form.Form.the-variants as form
 use Rattle.forms.proofs.TreeTextLaws.{UpTo, levels-held}
-use Rattle.lines.specs.Effect.{Effect, insertion, tableAfter}
+use Rattle.lines.specs.Effect.{Effect, root, insertion, tableAfter}
 use Rattle.lines.specs.Outcome.{says, Outcome}
 use Rattle.lines.specs.UserView.{marksIn, doneIn}
 use Rattle.lines.specs.Work.{rootAlone}
@@ -44,7 +44,7 @@ use Rattle.store.specs.Line.{bytesOf, step}
 use Rattle.store.proofs.FormParts.{TreePart, Fits, form-fits}
 use Rattle.guarantee.proofs.Accepted.{Accepted, lineWork, accepted, answer-is}
 use Rattle.guarantee.proofs.FormLaws.{workIn}
-use Rattle.guarantee.proofs.Sound.{EffectSound, InsertSound}
+use Rattle.guarantee.proofs.Sound.{EffectSound, RootSound, InsertSound}
 use Rattle.guarantee.proofs.StoreKept.{root-held}
 use Rattle.guarantee.proofs.TableAfter.{table-after, recordsAfter}
 use Rattle.guarantee.proofs.TreeRecords.{nodeRecords, tree-records}
@@ -81,6 +81,19 @@ root-marked (suc (suc n)) h = refl
 module _ (choice : Choice) (s t line : List ℕ) (room : ℕ) (text : List ℕ) (answered : step choice s t line room .reply ≡ says text) where
   taken : Accepted choice s t line room
   taken = accepted choice s t line room text answered
+
+  -- An accepted `(root L)` leaves a tree of the root alone.
+  pub root-lands : (l : Part) → readForm line ≡ form.Root l → HoldsTree (step choice s t line room .table) (tree (bytesOf line l) none) × (text ≡ okText)
+  unfolding nodesOf
+  root-lands l q =
+      let b : List ℕ = bytesOf line l in
+      let e : lineWork choice s t line .effect ≡ root b = ap (λ (f : Form). workIn choice line f s t .effect) q in
+      let sound : RootSound s t b = subst (λ (f : Effect). EffectSound (readForm line) line s t f) e (taken .sound) in
+      let a = table-after (readForm line) line s t (store-held s t (taken .passes) .table) (root b) sound in
+      let t' : step choice s t line room .table ≡ tableAfter (root b) t = ap (λ (o : Outcome). o .table) (taken .is) ∙ ap (λ (f : Effect). tableAfter f t) e in (
+        rw t' (ap (map nodeIn) (a .held) ∙ ap₂ (λ (k : ℕ) (x : List ℕ). node k x ∷ []) (level-made 0 b noSpare) (label-made 0 b noSpare)),
+        answer-is choice s t line room text answered ∙ ap (λ (f : Form). workIn choice line f s t .text) q,
+      )
 
   module _ (new : Tree) (said : treeIn line ≡ nodesOf 0 new) where
     lands-by : (at : Place) (ms : List Bool) (m g : ℕ) → lineWork choice s t line .effect ≡ insertion at ms m (recordsOf (treeIn line)) g → TreePart line m
