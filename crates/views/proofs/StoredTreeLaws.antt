@@ -1,6 +1,6 @@
 -- Where an insertion lands in the stored tree: directly before, directly after or as last child, at every node that is done and at no other. Assumes nothing.
 use Prim.Native.Nat.{ℕ, zero, suc, _+_, _≤_}
-use mathlib.Core.Path.{_≡_, refl, sym, ap, ap₂, _∙_}
+use mathlib.Core.Path.{_≡_, refl, sym, ap, ap₂, subst, _∙_}
 use mathlib.Core.Bool.{Bool, true, false, cond, _&&_}
 use mathlib.Core.List.{List, [], _∷_, _++_, map, append-assoc, append-nil}
 use native.Mathlib.Omega.{arith}
@@ -8,7 +8,7 @@ use native.Mathlib.Nat.{add-zero}
 use native.Mathlib.Numerals.{add-one}
 use lib.ListN.{length, getD, drop, length-append}
 use lib.Seq.{drop-drop, getD-drop}
-use Rattle.rights.specs.Nodes.{Node, node, Nodes, levelOf}
+use Rattle.rights.specs.Nodes.{Node, node, Nodes, levelOf, labelOf}
 use Rattle.rights.specs.Table.{level}
 use Rattle.rights.specs.Tree.{Tree, tree, Trees, none, more, nodesOf, nodesIn}
 use Rattle.rights.proofs.ListLaws.{byCase}
@@ -16,7 +16,7 @@ use Rattle.views.specs.declared.insert.Place.{Place}
 use Rattle.views.specs.declared.insert.Place.the-variants.{Append, After, Before}
 use Rattle.views.specs.Change.{putBehind, insertBehind, insertInFront, chunks, raised, raise, lower, placed}
 use Rattle.views.specs.Nodes.{Above, Front}
-use Rattle.views.specs.StoredTree.{nodeIn, size, isBefore, isAfter, isLastChild, landing, inserted, insertedAmong}
+use Rattle.views.specs.StoredTree.{nodeIn, HoldsTree, size, isBefore, isAfter, isLastChild, landing, inserted, insertedAmong}
 use Rattle.views.proofs.InsertionLaws.{skip-one, in-front, above-less}
 use Rattle.views.proofs.NodeLaws.{front-less}
 use Rattle.views.proofs.MapLaws.{map-insertBehind, map-insertInFront}
@@ -57,6 +57,35 @@ trees-front : (k : ℕ) (ts : Trees) (rest : Nodes) → Front levelOf k rest →
 unfolding nodesOf nodesIn
 trees-front k none rest f = f
 trees-front k (more (tree l us) ts) rest f = omega arith
+
+-- The nodes in document order are those of one tree only
+
+too-deep : (t : Tree) (ts : Trees) (k : ℕ) (a b : Nodes) → Front levelOf k b → nodesIn (suc k) (more t ts) ++ a ≡ b → ⊥
+unfolding nodesOf nodesIn
+too-deep (tree l cs) ts k a b g e = let h : suc k ≤ k = subst (Front levelOf k) (sym e) g in omega arith
+
+mutual
+  unfolding nodesOf nodesIn
+
+  tree-unique : (t u : Tree) (k : ℕ) (a b : Nodes) → Front levelOf k a → Front levelOf k b → nodesOf k t ++ a ≡ nodesOf k u ++ b → (t ≡ u) × (a ≡ b)
+  tree-unique (tree l ts) (tree m us) k a b f g e =
+      let q = trees-unique ts us k a b f g (ap (drop 1) e) in
+      (ap₂ tree (ap (λ (ns : Nodes). labelOf (getD ns 0 (node 0 []))) e) (q .0), q .1)
+
+  trees-unique : (ts us : Trees) (k : ℕ) (a b : Nodes) → Front levelOf k a → Front levelOf k b → nodesIn (suc k) ts ++ a ≡ nodesIn (suc k) us ++ b → (ts ≡ us) × (a ≡ b)
+  trees-unique none none k a b f g e = (refl, e)
+  trees-unique none (more (tree m ds) us) k a b f g e = absurd (let h : suc k ≤ k = subst (Front levelOf k) e f in omega arith)
+  trees-unique (more t ts) none k a b f g e = absurd (too-deep t ts k a b g e)
+  trees-unique (more t ts) (more u us) k a b f g e =
+      let q = tree-unique t u (suc k) (nodesIn (suc k) ts ++ a) (nodesIn (suc k) us ++ b) (trees-front (suc k) ts a (front-less levelOf k (suc k) a (omega arith) f))
+      (trees-front (suc k) us b (front-less levelOf k (suc k) b (omega arith) g))
+      (sym (append-assoc (nodesOf (suc k) t) (nodesIn (suc k) ts) a) ∙ e ∙ append-assoc (nodesOf (suc k) u) (nodesIn (suc k) us) b) in
+      let r = trees-unique ts us k a b f g (q .1) in
+      (ap₂ more (q .0) (r .0), r .1)
+
+-- A table holds one tree at most.
+pub holds-one : (t : List ℕ) (u v : Tree) → HoldsTree t u → HoldsTree t v → u ≡ v
+holds-one t u v p q = tree-unique u v 0 [] [] tt tt (append-nil (nodesOf 0 u) ∙ sym p ∙ q ∙ sym (append-nil (nodesOf 0 v))) .0
 
 -- the nodes of a tree, if it lands
 abbrev landed : Tree → Bool → ℕ → Nodes
