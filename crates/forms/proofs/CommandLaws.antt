@@ -1,26 +1,26 @@
 -- A command that is written is read as its own form with its own values; every other line is no form (refusal 2). Assumes nothing.
 use Prim.Native.Nat.{ℕ, _+_, _-_, _≤_, _<_}
 use mathlib.Core.Path.{_≡_, refl, sym, ap, ap₂, subst, fun-ext, _∙_}
-use mathlib.Core.Bool.{Bool, true, Bool·beq}
+use mathlib.Core.Bool.{true, Bool·beq}
 use mathlib.Core.List.{List, [], _∷_, _++_}
 use mathlib.Core.Logic.{_⊎_, inl, inr, ⊎-elim, _↔_}
 use native.Mathlib.Omega.{arith}
+use borrow.Author.Tests.{le-leb, lt-leb}
 use lib.ListN.{length, drop, length-append, length-drop}
 use lib.Seq.{take-at}
 use lib.Dec.{T}
-use borrow.Author.Tests.{le-leb, lt-leb}
 use Rattle.rights.specs.Bytes.{all}
+use Rattle.rights.specs.Policy.{bitOf}
+use Rattle.rights.specs.Tree.{nodesOf}
 use Rattle.rights.proofs.RangeLaws.{on-range, beq-eq, lt-or-ge}
 use Rattle.forms.specs.Part.{pathByte}
 use Rattle.forms.specs.Text.{lineByte}
-use Rattle.rights.specs.Policy.{Right, bitOf}
-use Rattle.rights.specs.Tree.{nodesOf}
 use Rattle.forms.specs.declared.layout.Word.{Word}
 use Rattle.forms.specs.declared.layout.Word.the-variants as word
 use Rattle.forms.specs.declared.form.Part.{Part}
 use Rattle.forms.specs.declared.form.Form.{Form}
 use Rattle.forms.specs.declared.form.Form.the-variants as form
-use Rattle.forms.specs.Kind.{Kind, Path, Label, Sign, Right as RightKind}
+use Rattle.forms.specs.Kind.{Kind, Path, Label, Right as RightKind}
 use Rattle.forms.specs.Layout.{letters, shapeOf}
 use Rattle.forms.specs.Form.{part, partAt, bytesOf, placeIn, formWith, readForm, treeIn}
 use Rattle.forms.specs.FormText.{Value, Values, Said, writeValue, writeValues, write, GoodValue, GoodValues, Good, nodesOr, nodesSaid}

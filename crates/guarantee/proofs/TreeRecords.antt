@@ -5,7 +5,6 @@ use mathlib.Core.Bool.{true, false}
 use mathlib.Core.List.{List, [], _∷_, _++_, append-nil}
 use native.Mathlib.Omega.{arith}
 use lib.ListN.{length, drop}
-use lib.Seq.{take-at, drop-at}
 use Rattle.rights.specs.Labels.{sameLabel, restricted}
 use Rattle.rights.specs.Policy.{some}
 use Rattle.rights.specs.Record.{noSpare, recordOf, nodeRecord}
@@ -21,12 +20,10 @@ use Rattle.forms.specs.TreeText.{GoodLabel, GoodTree, GoodTrees}
 use Rattle.forms.specs.Form.{treeIn}
 use Rattle.lines.proofs.StoredSteps.{or-none}
 use Rattle.store.proofs.FormParts.{TreePart}
+use Rattle.store.proofs.TreeRows.{Labelled, nodeRecords, good-labels, tree-chunks}
 
 abbrev nodeLevel : Node → ℕ
 nodeLevel (node l x) = l
-
-abbrev Labelled : Node → Type 0
-Labelled (node l x) = GoodLabel x
 
 -- each node of a tree is at most one level deeper than the one before it, and its label is good
 mutual
@@ -41,18 +38,6 @@ mutual
       rw (mathlib.Core.List.append-assoc (nodesOf k t) (nodesIn k ts) rest)
       (tree-nested t k n (nodesIn k ts ++ rest) h (λ j i. trees-nested ts k j rest i w))
 
-mutual
-  unfolding nodesOf nodesIn GoodTree GoodTrees
-
-  tree-labels : (t : Tree) (k : ℕ) (rest : List Node) → GoodTree t → All Labelled rest → All Labelled (nodesOf k t ++ rest)
-  tree-labels (tree l ts) k rest g a = (g .0, trees-labels ts (suc k) rest (g .1) a)
-
-  trees-labels : (ts : Trees) (k : ℕ) (rest : List Node) → GoodTrees ts → All Labelled rest → All Labelled (nodesIn k ts ++ rest)
-  trees-labels none k rest g a = a
-  trees-labels (more t ts) k rest g a =
-      rw (mathlib.Core.List.append-assoc (nodesOf k t) (nodesIn k ts) rest)
-      (tree-labels t k (nodesIn k ts ++ rest) (g .0) (trees-labels ts k rest (g .1) a))
-
 -- the record of a node
 level-cleared : (l : ℕ) (x : List ℕ) → 0 ∷ drop 1 (nodeRecord l x) ≡ nodeRecord 0 x
 unfolding recordOf
@@ -63,19 +48,6 @@ Storable r = (length r ≡ 32) × (recordOk 0 11 (0 ∷ drop 1 r) ≡ true)
 
 record-storable : (l : ℕ) (x : List ℕ) → GoodLabel x → sameLabel x restricted ≡ false → Storable (nodeRecord l x)
 record-storable l x g f = (length-node l x (g .1), rw (level-cleared l x) (node-ok 0 x (g .0) (g .1) (g .2) f 0 11 (omega arith) (omega arith) (omega arith)))
-
--- the records of nodes
-abbrev pub nodeRecords : List Node → List (List ℕ)
-nodeRecords [] = []
-nodeRecords (node l x ∷ ns) = nodeRecord (held l) x ∷ nodeRecords ns
-
-chunks-nodes : (ns : List Node) → All Labelled ns → chunks (length ns) (recordsOf ns) ≡ nodeRecords ns
-unfolding chunks recordsOf
-chunks-nodes [] a = refl
-chunks-nodes (node l x ∷ ns) a =
-    let n = length-node (held l) x (a .0 .1) in
-    rw (take-at (nodeRecord (held l) x) (recordsOf ns) 32 n, drop-at (nodeRecord (held l) x) (recordsOf ns) 32 n)
-    (ap (λ (rs : List (List ℕ)). nodeRecord (held l) x ∷ rs) (chunks-nodes ns (a .1)))
 
 nodes-nested : (ns : List Node) (n m : ℕ) → held n ≤ m → Nested nodeLevel n ns → Nested level m (nodeRecords ns)
 nodes-nested [] n m h w = tt
@@ -92,11 +64,8 @@ nodes-storable (node l x ∷ ns) a e =
     (record-storable (held l) x (a .0) f, nodes-storable ns (a .1) (p .1))
 
 -- the records that a line's tree has
-said-labels : (line : List ℕ) (m : ℕ) (x : TreePart line m) → All Labelled (nodesOf 0 (x .is))
-said-labels line m x = rw (append-nil (nodesOf 0 (x .is))) at (tree-labels (x .is) 0 [] (x .good) tt)
-
 pub tree-records : (line : List ℕ) (m : ℕ) (x : TreePart line m) → chunks m (recordsOf (treeIn line)) ≡ nodeRecords (nodesOf 0 (x .is))
-tree-records line m x = rw (x .size, x .nodes) (chunks-nodes (nodesOf 0 (x .is)) (said-labels line m x))
+tree-records line m x = rw (x .size, x .nodes) (tree-chunks (x .is) (x .good))
 
 -- "9 RESTRICTED as a label of .. child, inserted tree": a line's tree that is not refused so may be inserted.
 pub tree-ok : (line : List ℕ) (m : ℕ) → TreePart line m → treeRestricted m (recordsOf (treeIn line)) ≡ false → TreeOk (chunks m (recordsOf (treeIn line)))
@@ -105,4 +74,4 @@ tree-ok line m x e =
     let ns : List Node = nodesOf 0 (x .is) in
     let w : Nested nodeLevel 0 ns = rw (append-nil ns) at (tree-nested (x .is) 0 0 [] (omega arith) (λ j i. tt)) in
     let f : some (λ r. sameLabel (label r) restricted) (nodeRecords ns) ≡ false = rw (tree-records line m x) at e in
-    rw (tree-records line m x) (record { nested = nodes-nested ns 0 0 (omega arith) w; labels = nodes-storable ns (said-labels line m x) f })
+    rw (tree-records line m x) (record { nested = nodes-nested ns 0 0 (omega arith) w; labels = nodes-storable ns (good-labels (x .is) (x .good)) f })

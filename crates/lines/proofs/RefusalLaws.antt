@@ -1,19 +1,25 @@
 -- Checks, and a work that is carried out: what a check that fails refuses, what passed checks let follow. Assumes nothing.
-use Prim.Native.Nat.{ℕ}
+use Prim.Native.Nat.{ℕ, _≤_}
 use mathlib.Core.Bool.{Bool, true, false, cond, and-eq-true-iff}
 use mathlib.Core.Path.{_≡_, refl, sym, ap, _∙_}
 use mathlib.Core.List.{List, [], _∷_, _++_, append-assoc}
 use native.Mathlib.Omega.{arith}
-use borrow.Author.Tests.{leb-true, ltb-true, ltb-false, le-leb, lt-leb}
-use lib.Dec.{leb, ltb}
+use borrow.Author.Tests.{leb-true, ltb-true, ltb-false, le-leb, lt-leb, eqb-true}
+use lib.Dec.{leb, ltb, eqb}
 use lib.ListN.{length, drop, length-append, length-drop}
 use Rattle.rights.proofs.ListLaws.{byCase}
+use Rattle.rights.proofs.RangeLaws.{on-range}
 use Rattle.answers.specs.How.AnswerArea.{Answered, written}
 use Rattle.lines.specs.Outcome.{Outcome, says, refusal}
-use Rattle.lines.specs.Refusal.{Check, areaShort, areaCheck, checked, firstRefusal, Passed, allNumbered}
+use Rattle.lines.specs.Refusal.{Check, rank, indexIn, areaShort, areaCheck, checked, firstRefusal, Passed, allNumbered}
 use Rattle.lines.specs.Effect.{Work, stateAfter, tableAfter, guarded, checksIn, performed, Performs}
 use Rattle.lines.specs.declared.line.Answer.the-variants.{Accepted, Refused}
 use Rattle.lines.proofs.OutcomeLaws.{made-at}
+
+-- "13 is tested first, then 1 to 12 rising."
+pub rank-is : (n : ℕ) → 1 ≤ n → n ≤ 13 → rank n ≡ cond (eqb n 13) 0 n
+unfolding indexIn
+rank-is n h k = eqb-true (rank n) (cond (eqb n 13) 0 n) (sym (on-range (λ m. eqb (rank m) (cond (eqb m 13) 0 m)) true 1 13 tt n h (omega arith)))
 
 -- the first check that fails
 

@@ -1,18 +1,18 @@
 -- Each check of a line, a stage, a path or a name fails exactly if its condition in the paper's words holds. Assumes nothing.
 use Prim.Native.Nat.{ℕ, zero, suc, _≤_, _<_}
 use mathlib.Core.Path.{_≡_, refl, sym, ap, ap₂, _∙_}
-use mathlib.Core.Bool.{Bool, true, false, not, _&&_, Bool·beq, and-eq-true-iff}
+use mathlib.Core.Bool.{Bool, true, false, not, and-eq-true-iff}
 use mathlib.Core.List.{List, [], _∷_}
 use mathlib.Core.Logic.{_⊎_, inl, inr, ⊎-elim, _↔_}
 use native.Mathlib.Omega.{arith}
-use borrow.Author.Tests.{leb-true, leb-false, le-leb, lt-leb, ltb-true, ltb-false, lt-ltb, eqb-true, eq-eqb, not-true, not-false}
+use borrow.Author.Tests.{leb-true, leb-false, le-leb, lt-leb, ltb-true, ltb-false, lt-ltb, eqb-true, eq-eqb, not-true}
 use lib.Dec.{leb, ltb, eqb}
 use lib.ListN.{length, getD}
 use Rattle.rights.specs.Bytes.{all}
 use Rattle.rights.specs.Labels.{sameLabel}
 use Rattle.rights.specs.Path.{Path}
 use Rattle.rights.specs.PathReader.{Got, got, bad, pathOf}
-use Rattle.rights.specs.Policy.{Policy, nameOf, some}
+use Rattle.rights.specs.Policy.{Policy, some}
 use Rattle.rights.specs.PolicyBytes.{policyOf, subjectCount, isaCount, ruleCount, nameAt, isaFrom, rulesFrom}
 use Rattle.rights.specs.PolicyCheck.{subjectOk, subjectsOk, policyOk}
 use Rattle.rights.proofs.EveryLaws.{every-at}

@@ -1,7 +1,7 @@
 -- A line is refused with a number exactly if the number's condition holds and that of none before it in the paper's order does, and it is accepted exactly
 -- if no condition holds. Assumes nothing.
 use Prim.Native.Nat.{ℕ, _≤_, _<_}
-use mathlib.Core.Path.{_≡_, refl, sym, ap, _∙_}
+use mathlib.Core.Path.{_≡_, refl, ap, _∙_}
 use mathlib.Core.Bool.{Bool, true, false, not, _||_, Bool·beq}
 use mathlib.Core.List.{List, [], _∷_, _++_}
 use mathlib.Core.Logic.{_⊎_, inl, inr, ⊎-elim, _↔_}
@@ -25,8 +25,8 @@ use Rattle.forms.specs.Command as command
 use Rattle.forms.proofs.CommandLaws.{command-or-none, none-written}
 use Rattle.answers.specs.AnswerChoice.{Choice}
 use Rattle.lines.specs.Effect.{guarded, checksIn, performed}
-use Rattle.lines.specs.Outcome.{Reply, says, refuses, Outcome}
-use Rattle.lines.specs.Refusal.{Check, check, areaCheck, badStore, badLine, noForm, areaShort, checked, indexIn, rising}
+use Rattle.lines.specs.Outcome.{says, refuses, Outcome}
+use Rattle.lines.specs.Refusal.{Check, check, areaCheck, badStore, badLine, noForm, checked, indexIn, rising}
 use Rattle.lines.specs.State.{stage, userByte, policyBytes, policyIn, storeOk}
 use Rattle.lines.specs.Work.{onView, workInsert}
 use Rattle.lines.proofs.StateLaws.{store-held}
@@ -150,7 +150,7 @@ module _ (choice : Choice) (s t : List ℕ) (room : ℕ) where
               stage-told (stageFor c) (stage s),
               λ b.
                   let n = length (clause choice c s t .text) in
-                  own-tells choice s t ((areaShort, room < n) ∷ []) (areaCheck room n ∷ []) c g (not-false (storeOk s t) a) (not-false (inStage (stageFor c) (stage s)) b) (less-told room n, λ _. tt),
+                  own-tells choice s t ((12, room < n) ∷ []) (areaCheck room n ∷ []) c g (not-false (storeOk s t) a) (not-false (inStage (stageFor c) (stage s)) b) (less-told room n, λ _. tt),
             ),
           ),
         );

@@ -1,11 +1,11 @@
 -- Each check of a tree fails exactly if its condition in the paper's words holds: 9, 10 and 11 of a tree that a line writes. Assumes nothing.
 use Prim.Native.Nat.{ℕ, zero, suc, _+_, _*_, _≤_, _<_}
 use mathlib.Core.Path.{_≡_, refl, sym, ap, _∙_}
-use mathlib.Core.Bool.{Bool, true, false, not, cond, _&&_, _||_}
+use mathlib.Core.Bool.{Bool, true, false, not, _&&_, _||_}
 use mathlib.Core.List.{List, [], _∷_, _++_, map, map-append, append-assoc, append-nil}
 use mathlib.Core.Logic.{_⊎_, inl, inr, ⊎-elim, _↔_}
 use native.Mathlib.Omega.{arith}
-use borrow.Author.Tests.{leb-true, le-leb, lt-leb, leb-false, ltb-true, ltb-false, lt-ltb, not-true}
+use borrow.Author.Tests.{lt-leb, leb-false, ltb-true, ltb-false, lt-ltb, not-true}
 use lib.Dec.{leb, ltb}
 use lib.ListN.{length, getD, take, drop}
 use lib.Seq.{take-at, drop-at, take-all, take-nil, getD-drop}
@@ -13,7 +13,7 @@ use Rattle.rights.specs.Labels.{sameLabel, restricted}
 use Rattle.rights.specs.Marks.{markCount}
 use Rattle.rights.specs.Nodes.{Node, node, levelOf, labelOf}
 use Rattle.rights.specs.Policy.{some}
-use Rattle.rights.specs.Record.{noSpare, recordOf, nodeRecord}
+use Rattle.rights.specs.Record.{noSpare, nodeRecord}
 use Rattle.rights.specs.Table.{count, level, label, recordAt, recordsFrom, records, recordOk, recordsOk, tableOk}
 use Rattle.rights.specs.Tree.{Tree, tree, Trees, none, more, nodesOf, nodesIn}
 use Rattle.rights.proofs.BoolLaws.{or-split, or-left, or-right}
@@ -42,7 +42,7 @@ Labelled (node l x) = GoodLabel x
 mutual
   unfolding nodesOf nodesIn GoodTree GoodTrees
 
-  pub tree-labels : (t : Tree) (k : ℕ) (rest : List Node) → GoodTree t → All Labelled rest → All Labelled (nodesOf k t ++ rest)
+  tree-labels : (t : Tree) (k : ℕ) (rest : List Node) → GoodTree t → All Labelled rest → All Labelled (nodesOf k t ++ rest)
   tree-labels (tree l ts) k rest g a = (g .0, trees-labels ts (suc k) rest (g .1) a)
 
   trees-labels : (ts : Trees) (k : ℕ) (rest : List Node) → GoodTrees ts → All Labelled rest → All Labelled (nodesIn k ts ++ rest)

@@ -22,7 +22,6 @@ use Rattle.forms.specs.Command.{Command, written, GoodCommand}
 use Rattle.forms.specs.Command as command
 use Rattle.answers.specs.AnswerChoice.{Choice}
 use Rattle.lines.specs.PolicyEdit.{isaHeld, bracketed, stepList}
-use Rattle.lines.specs.Refusal.{badStore, badLine, noForm, wrongStage, badPath, badName, ruleBracket, policyFull, noUserYet, bannedLabel, levelTooDeep, tableFull, areaShort, rank}
 use Rattle.lines.specs.State.{stageC, stage, userByte, policyIn, storeOk}
 use Rattle.lines.specs.UserView.{doneIn}
 use Rattle.lines.specs.Work.{changeAt}
@@ -86,10 +85,10 @@ Conditions = List (ℕ × Type 0)
 module _ (s t : List ℕ) where
   -- what every form with a path of E asks
   abbrev pub pathRows : List ℕ → Conditions
-  pathRows p = (badPath, NoPath p) ∷ (noUserYet, userByte s ≡ 0) ∷ []
+  pathRows p = (4, NoPath p) ∷ (8, userByte s ≡ 0) ∷ []
 
   abbrev pub relabelRows : List ℕ → List ℕ → Conditions
-  relabelRows p l = pathRows p ++ ((bannedLabel, IsRestricted l ⊎ (policyWord (policyIn s) l ≡ true)) ∷ [])
+  relabelRows p l = pathRows p ++ ((9, IsRestricted l ⊎ (policyWord (policyIn s) l ≡ true)) ∷ [])
 
   -- "10 .. at a place that would be done": node i, beside which the tree lands at the same level, or below it; "11 .. insertions D × tree size"
   abbrev pub DeepPlace : Place → List ℕ → Tree → Type 0
@@ -98,29 +97,29 @@ module _ (s t : List ℕ) where
   abbrev pub insertRows : Place → List ℕ → Tree → Conditions
   insertRows at p u =
       pathRows p
-      ++ ((bannedLabel, TreeRestricted u) ∷ (levelTooDeep, DeepPlace at p u) ∷ (tableFull, free t < markCount (doneIn (changeAt at) s t p) * sizeOf u) ∷ [])
+      ++ ((9, TreeRestricted u) ∷ (10, DeepPlace at p u) ∷ (11, free t < markCount (doneIn (changeAt at) s t p) * sizeOf u) ∷ [])
 
   -- each form's own rows; a number without a row never applies to the form
   abbrev pub rows : Command → Conditions
-  rows (command.subject n) = (badName, Declared (policyIn s) n) ∷ (policyFull, 64 ≤ length (policyIn s .names)) ∷ (bannedLabel, IsRestricted n) ∷ []
+  rows (command.subject n) = (5, Declared (policyIn s) n) ∷ (7, 64 ≤ length (policyIn s .names)) ∷ (9, IsRestricted n) ∷ []
   rows (command.isa n r) =
-      (badName, Unknown (policyIn s) n)
-      ∷ (badName, Unknown (policyIn s) r)
-      ∷ (badName, NotBefore (policyIn s) r n)
-      ∷ (badName, Repeated (policyIn s) n r)
-      ∷ (policyFull, 128 ≤ length (policyIn s .isa))
+      (5, Unknown (policyIn s) n)
+      ∷ (5, Unknown (policyIn s) r)
+      ∷ (5, NotBefore (policyIn s) r n)
+      ∷ (5, Repeated (policyIn s) n r)
+      ∷ (7, 128 ≤ length (policyIn s .isa))
       ∷ []
   rows (command.rule a r p n) =
-      (badPath, NoPath p)
-      ∷ (badName, Unknown (policyIn s) n)
-      ∷ (ruleBracket, PathThat bracketed p)
-      ∷ (policyFull, 128 ≤ length (policyIn s .rules))
-      ∷ (bannedLabel, PathThat namesRestricted p)
+      (4, NoPath p)
+      ∷ (5, Unknown (policyIn s) n)
+      ∷ (6, PathThat bracketed p)
+      ∷ (7, 128 ≤ length (policyIn s .rules))
+      ∷ (9, PathThat namesRestricted p)
       ∷ []
-  rows (command.root l) = (bannedLabel, IsRestricted l) ∷ (tableFull, free t < 1) ∷ []
-  rows (command.child u) = (bannedLabel, TreeRestricted u) ∷ (levelTooDeep, DeepAt 1 u) ∷ (tableFull, free t < sizeOf u) ∷ []
-  rows (command.user n) = (badName, Unknown (policyIn s) n) ∷ []
-  rows command.view = (noUserYet, userByte s ≡ 0) ∷ []
+  rows (command.root l) = (9, IsRestricted l) ∷ (11, free t < 1) ∷ []
+  rows (command.child u) = (9, TreeRestricted u) ∷ (10, DeepAt 1 u) ∷ (11, free t < sizeOf u) ∷ []
+  rows (command.user n) = (5, Unknown (policyIn s) n) ∷ []
+  rows command.view = (8, userByte s ≡ 0) ∷ []
   rows (command.query p) = pathRows p
   rows (command.find p) = pathRows p
   rows (command.rename p l) = relabelRows p l
@@ -138,17 +137,21 @@ pub data Says (line : List ℕ) : Type 0 where
 -- "13 is tested first, then 1 to 12 rising": the rows of a line; "2 no form listed above", "12 answer area shorter than the answer"
 abbrev pub refusals : Choice → List ℕ → List ℕ → ℕ → {line : List ℕ} → Says line → Conditions
 refusals choice s t room {line} (says c g e) =
-    (badStore, storeOk s t ≡ false)
-    ∷ (badLine, BadLine line)
-    ∷ (wrongStage, WrongStage s c)
-    ∷ (rows s t c ++ ((areaShort, room < length (clause choice c s t .text)) ∷ []))
-refusals choice s t room {line} (nothing h) = (badStore, storeOk s t ≡ false) ∷ (badLine, BadLine line) ∷ (noForm, Unit {0}) ∷ []
+    (13, storeOk s t ≡ false)
+    ∷ (1, BadLine line)
+    ∷ (3, WrongStage s c)
+    ∷ (rows s t c ++ ((12, room < length (clause choice c s t .text)) ∷ []))
+refusals choice s t room {line} (nothing h) = (13, storeOk s t ≡ false) ∷ (1, BadLine line) ∷ (2, Unit {0}) ∷ []
 
 -- the condition of number n holds
 abbrev pub Holds : ℕ → Conditions → Type 0
 Holds n [] = ⊥
 Holds n (r ∷ rs) = ((r .0 ≡ n) × r .1) ⊎ Holds n rs
 
--- and that of no number before it
+-- "13 is tested first, then 1 to 12 rising": m is tested before n
+abbrev pub Before : ℕ → ℕ → Type 0
+Before m n = (n < 13) × ((m ≡ 13) ⊎ (m < n))
+
+-- it holds, and that of no number before it does
 abbrev pub First : ℕ → Conditions → Type 0
-First n rs = Holds n rs × ((m : ℕ) → rank m < rank n → Holds m rs → ⊥)
+First n rs = Holds n rs × ((m : ℕ) → Before m n → Holds m rs → ⊥)
