@@ -1,4 +1,3 @@
-pub mod Notes
 pub mod SamePolicy
 pub mod Keys
 pub mod Chains
@@ -26,5 +25,6 @@ pub mod InsertionStep
 pub mod ViewStep
 pub mod Demand
 pub mod Cases
+pub mod Schools
 pub mod Witness
 pub mod Demand3

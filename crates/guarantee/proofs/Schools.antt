@@ -1,4 +1,4 @@
--- The notes of specs/Witness.antt in the policy and the table that the lines write, and what stands behind RESTRICTED there. Computed; assumes nothing.
+-- The schools of specs/Witness.antt: the policy and the tables that the lines write, and what stands behind RESTRICTED there. Computed; assumes nothing.
 use Prim.Native.Nat.{ℕ}
 use Prim.Native.String.{String}
 use mathlib.Core.Path.{_≡_, refl, sym, ap, _∙_}
@@ -27,33 +27,32 @@ use Rattle.guarantee.specs.Cases.{newTable}
 abbrev pub thePolicy : Policy
 thePolicy =
     record {
-      names = bytes "staff" ∷ bytes "SHA" ∷ [];
-      isa = (1, 0) ∷ [];
+      names = bytes "SHA" ∷ [];
+      isa = [];
       rules =
-          record { accept = true; right = 2; who = 0; path = (Descendant, any) ∷ [] }
-          ∷ record { accept = false; right = 2; who = 0; path = (Descendant, label (bytes "note")) ∷ (Child, any) ∷ [] }
-          ∷ record { accept = true; right = 1; who = 0; path = (Descendant, label (bytes "note")) ∷ (Child, any) ∷ [] }
+          record { accept = true; right = 1; who = 0; path = (Descendant, any) ∷ [] }
+          ∷ record { accept = true; right = 2; who = 0; path = (Descendant, label (bytes "note")) ∷ (Child, any) ∷ [] }
           ∷ record { accept = true; right = 16; who = 0; path = (Descendant, label (bytes "flu")) ∷ [] }
           ∷ record { accept = true; right = 16; who = 0; path = (Descendant, own) ∷ [] }
           ∷ [];
     }
 
 abbrev pub theTable : String → List ℕ
-theTable note = changed (newTable 10) (nodeRecord 0 (bytes "school") ∷ nodeRecord 1 (bytes "note") ∷ nodeRecord 2 (bytes note) ∷ [])
+theTable inner = changed (newTable 10) (nodeRecord 0 (bytes "school") ∷ nodeRecord 1 (bytes inner) ∷ [])
 
 -- what SHA is shown, and how it looks
-abbrev notesOf : String → List Stored
-notesOf note = stored (theTable note) (rightsOn thePolicy 1 (records (theTable note)))
+abbrev nodesIn : String → List Stored
+nodesIn inner = stored (theTable inner) (rightsOn thePolicy 0 (records (theTable inner)))
 
 abbrev pub shownOf : String → List Stored
-shownOf note = keep (shown (notesOf note)) (notesOf note)
+shownOf inner = keep (shown (nodesIn inner)) (nodesIn inner)
 
 abbrev pub lookOf : String → Nodes
-lookOf note = view (notesOf note)
+lookOf inner = view (nodesIn inner)
 
 -- the second supposition
-abbrev pub BehindNotes : String → String → Type 0
-BehindNotes note note' = Behind thePolicy (shownOf note) (shownOf note')
+abbrev pub BehindBoth : String → String → Type 0
+BehindBoth one other = Behind thePolicy (shownOf one) (shownOf other)
 
 pub look-ill-cold : lookOf "ill" ≡ lookOf "cold"
 unfolding all labelByte folded sameLabel passes some passesOwn policyWord isBy standsFor subjectsWhere reaches decide rightsBy chains recordsFrom padded recordOf storedFrom atParent nearestFirst shownAfter keep eachFrom join changed
@@ -68,23 +67,23 @@ unfolding all labelByte folded sameLabel passes some passesOwn policyWord isBy s
 look-ill-sha = refl
 
 -- `ill` and `cold` are no policy words
-pub behind-ill-cold : BehindNotes "ill" "cold"
+pub behind-ill-cold : BehindBoth "ill" "cold"
 unfolding all labelByte folded sameLabel passes some passesOwn policyWord isBy standsFor subjectsWhere reaches decide rightsBy chains recordsFrom padded recordOf storedFrom atParent nearestFirst shownAfter keep eachFrom join changed
-behind-ill-cold = ((λ a b. inl refl), ((λ a b. inl refl), ((λ a b. inr (refl, refl)), tt)))
+behind-ill-cold = ((λ a b. inl refl), ((λ a b. inr (refl, refl)), tt))
 
 differs : (a b : List ℕ) → sameLabel a b ≡ false → policyWord thePolicy b ≡ true → NoWordDiffers thePolicy a b → ⊥
 differs a b e f (inl q) = true≢false (sym q ∙ e)
 differs a b e f (inr q) = true≢false (sym f ∙ q .1)
 
 -- `flu` is one by a rule's path, `SHA` by `$`
-pub behind-ill-flu : BehindNotes "ill" "flu" → ⊥
+pub behind-ill-flu : BehindBoth "ill" "flu" → ⊥
 unfolding all labelByte folded sameLabel passes some passesOwn policyWord isBy standsFor subjectsWhere reaches decide rightsBy chains recordsFrom padded recordOf storedFrom atParent nearestFirst shownAfter keep eachFrom join changed
-behind-ill-flu b = differs (bytes "ill") (bytes "flu") refl refl (b .1 .1 .0 refl refl)
+behind-ill-flu b = differs (bytes "ill") (bytes "flu") refl refl (b .1 .0 refl refl)
 
-pub behind-ill-sha : BehindNotes "ill" "SHA" → ⊥
+pub behind-ill-sha : BehindBoth "ill" "SHA" → ⊥
 unfolding all labelByte folded sameLabel passes some passesOwn policyWord isBy standsFor subjectsWhere reaches decide rightsBy chains recordsFrom padded recordOf storedFrom atParent nearestFirst shownAfter keep eachFrom join changed
-behind-ill-sha b = differs (bytes "ill") (bytes "SHA") refl refl (b .1 .1 .0 refl refl)
+behind-ill-sha b = differs (bytes "ill") (bytes "SHA") refl refl (b .1 .0 refl refl)
 
 pub tables-differ : theTable "ill" ≡ theTable "cold" → ⊥
 unfolding all labelByte folded sameLabel passes some passesOwn policyWord isBy standsFor subjectsWhere reaches decide rightsBy chains recordsFrom padded recordOf storedFrom atParent nearestFirst shownAfter keep eachFrom join changed
-tables-differ e = let z : _≡_ {A = ℕ} 3 4 = ap (λ (t : List ℕ). getD t 69 0) e in omega (arith, z)
+tables-differ e = let z : _≡_ {A = ℕ} 3 4 = ap (λ (t : List ℕ). getD t 37 0) e in omega (arith, z)
