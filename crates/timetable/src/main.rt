@@ -9,7 +9,15 @@ use lines::refusals::BAD_LINE;
 use store::line::line;
 ghost use mathlib.Core.Path.{_≡_};
 ghost use Prim.Native.Nat.{_≤_};
-ghost use lib.ListN.{length};
+ghost use mathlib.Core.Bool.{true, cond};
+ghost use mathlib.Core.List.{[]};
+ghost use mathlib.Core.Logic.{_⊎_};
+ghost use lib.Dec.{leb};
+ghost use lib.ListN.{length, take};
+ghost use Rattle.answers.specs.AnswerChoice.{chosen};
+ghost use Rattle.store.specs.Line.{step};
+ghost use Rattle.timetable.specs.Program.{emptyState, emptyTable};
+ghost use Rattle.timetable.specs.How.Run.{Prints, ReadsAll, TakesChunk, byteHands, byteTaken, chunkTaken, ended, lineIn, runIn, start, written};
 
 // A line of so many bytes stands for every longer one.
 const TOO_LONG: usize = LINE_MAX + 1;
@@ -47,7 +55,8 @@ fn write_held(out: &[u8], held: usize) -> bool
 // Answers a line, or prints its refusal, at the start of the area; how many bytes that takes.
 fn answer_line(state: &mut [u8], table: &mut [u8], text: &[u8], area: &mut [u8]) -> usize
     requires { ⌜ 32 ≤ length (now area) ⌝ }
-    ensures { λ r. ⌜ r ≤ length (now (area .exit)) ⌝ }
+    ensures { λ r. ⌜ Prints (step chosen (now (state .entry)) (now (table .entry)) (now (text .entry)) (length (now (area .entry))))
+        0 (now (area .entry)) r (now (state .exit)) (now (table .exit)) (now (area .exit)) ⌝ }
 {
     let answer = line(state, table, text, area);
     match answer {
@@ -65,7 +74,8 @@ fn end_line(
     area: &mut [u8],
 ) -> usize
     requires { ⌜ 32 ≤ length (now area) ⌝ }
-    ensures { λ r. ⌜ r ≤ length (now (area .exit)) ⌝ }
+    ensures { λ r. ⌜ Prints (ended (now (state .entry)) (now (table .entry)) (lineIn (now (buffer .entry)) used) (length (now (area .entry))))
+        0 (now (area .entry)) r (now (state .exit)) (now (table .exit)) (now (area .exit)) ⌝ }
 {
     if buffer.len() < used {
         return answer_refused(BAD_LINE, area);
@@ -83,7 +93,8 @@ fn hold_answer(
     held: usize,
 ) -> usize
     requires { ⌜ (length (now out) ≡ 131072) × (held ≤ 65536) ⌝ }
-    ensures { λ r. ⌜ r ≤ 131072 ⌝ }
+    ensures { λ r. ⌜ Prints (ended (now (state .entry)) (now (table .entry)) (lineIn (now (buffer .entry)) used) 65536)
+        held (now (out .entry)) r (now (state .exit)) (now (table .exit)) (now (out .exit)) ⌝ }
 {
     let end = held + AREA_BYTES;
     held + end_line(state, table, buffer, used, &mut out[held..end])
@@ -92,7 +103,7 @@ fn hold_answer(
 // Writes what waits where the next answer might not fit behind it. A new line begins.
 fn make_room(out: &[u8], held: usize) -> Progress
     requires { ⌜ held ≤ length (now out) ⌝ }
-    ensures { λ r. ⌜ (r .used ≤ 1025) × (r .held ≤ 65536) ⌝ }
+    ensures { λ r. ⌜ (r .used ≡ 0) × (r .held ≡ cond (leb held 65536) held 0) × (leb held 65536 ≡ true → r .open ≡ true) ⌝ }
 {
     if held <= AREA_BYTES {
         return Progress {
@@ -120,7 +131,10 @@ fn take_byte(
     b: u8,
 ) -> Progress
     requires { ⌜ (length (now buffer) ≡ 1024) × (used ≤ 1025) × (length (now out) ≡ 131072) × (held ≤ 65536) ⌝ }
-    ensures { λ r. ⌜ (r .used ≤ 1025) × (r .held ≤ 65536) ⌝ }
+    ensures { λ r. ⌜ (r .used ≤ 1025) × (r .held ≤ 65536)
+        × (runIn (now (state .exit)) (now (table .exit)) (now (buffer .exit)) (r .used) (now (out .exit)) (r .held)
+        ≡ byteTaken (runIn (now (state .entry)) (now (table .entry)) (now (buffer .entry)) used (now (out .entry)) held) b)
+        × (byteHands (runIn (now (state .entry)) (now (table .entry)) (now (buffer .entry)) used (now (out .entry)) held) b ≡ [] → r .open ≡ true) ⌝ }
 {
     if b == b'\n' {
         let waiting = hold_answer(state, table, &buffer[..], used, out, held);
@@ -151,7 +165,9 @@ fn take_chunk(
     chunk: &[u8],
 ) -> Progress
     requires { ⌜ (length (now buffer) ≡ 1024) × (from ≤ 1025) × (length (now out) ≡ 131072) ⌝ }
-    ensures { λ r. ⌜ (r .used ≤ 1025) × (r .held ≤ 65536) ⌝ }
+    ensures { λ r. ⌜ (r .used ≤ 1025) × (r .held ≤ 65536)
+        × TakesChunk (runIn (now (state .entry)) (now (table .entry)) (now (buffer .entry)) from (now (out .entry)) 0) (now (chunk .entry))
+        (runIn (now (state .exit)) (now (table .exit)) (now (buffer .exit)) (r .used) (now (out .exit)) (r .held)) (r .open) ⌝ }
 {
     let mut used = from;
     let mut held = 0;
@@ -200,7 +216,11 @@ fn read_turn(
     left: usize,
 ) -> Turn
     requires { ⌜ (length (now buffer) ≡ 1024) × (used ≤ 1025) × (length (now out) ≡ 131072) ⌝ }
-    ensures { λ r. ⌜ (r .used ≤ 1025) × (r .got ≤ left) ⌝ }
+    ensures { λ r. ⌜ (r .used ≤ 1025) × (r .got ≤ left)
+        × (((r .used ≡ 0) × (r .got ≡ 0))
+        ⊎ (runIn (now (state .exit)) (now (table .exit)) (now (buffer .exit)) (r .used) (now (out .exit)) 0
+        ≡ written (chunkTaken (runIn (now (state .entry)) (now (table .entry)) (now (buffer .entry)) used (now (out .entry)) 0)
+        (take (r .got) (now (chunk .exit)))))) ⌝ }
 {
     let got = read_chunk(chunk, left);
     let p = take_chunk(state, table, buffer, used, out, &chunk[0..got]);
@@ -220,7 +240,8 @@ fn read_lines(
     out: &mut [u8],
     chunk: &mut [u8],
 ) -> usize
-    requires { ⌜ (length (now buffer) ≡ 1024) × (length (now out) ≡ 131072) ⌝ }
+    requires { ⌜ (now state ≡ emptyState) × (now table ≡ emptyTable) × (length (now buffer) ≡ 1024) × (length (now out) ≡ 131072) ⌝ }
+    ensures { λ r. ⌜ ReadsAll start (runIn (now (state .exit)) (now (table .exit)) (now (buffer .exit)) r (now (out .exit)) 0) r ⌝ }
 {
     let mut used: usize = 0;
     let mut left: usize = INPUT_MAX;
@@ -237,7 +258,7 @@ fn read_lines(
 
 // "a last line that is not empty may lack its line feed"
 fn run(state: &mut [u8], table: &mut [u8], buffer: &mut [u8], out: &mut [u8], chunk: &mut [u8])
-    requires { ⌜ (length (now buffer) ≡ 1024) × (length (now out) ≡ 131072) ⌝ }
+    requires { ⌜ (now state ≡ emptyState) × (now table ≡ emptyTable) × (length (now buffer) ≡ 1024) × (length (now out) ≡ 131072) ⌝ }
 {
     let used = read_lines(state, table, buffer, out, chunk);
     if 0 < used {
@@ -248,13 +269,13 @@ fn run(state: &mut [u8], table: &mut [u8], buffer: &mut [u8], out: &mut [u8], ch
 
 // An empty state, and an empty table of 1,024 records (docs/FORMAT.md).
 fn empty_state() -> [u8; 68880]
-    ensures { λ r. ⌜ 68880 ≡ length r ⌝ }
+    ensures { λ r. ⌜ (68880 ≡ length r) × (r ≡ emptyState) ⌝ }
 {
     [0; 68880]
 }
 
 fn empty_table() -> [u8; 32772]
-    ensures { λ r. ⌜ 32772 ≡ length r ⌝ }
+    ensures { λ r. ⌜ (32772 ≡ length r) × (r ≡ emptyTable) ⌝ }
 {
     [0; 32772]
 }
