@@ -3,3 +3,4 @@ pub mod AnswerNodes
 pub mod NodeLaws
 pub mod AnswerTreeLaws
 pub mod AnswerNumbers
+pub mod AnswerLengths
