@@ -64,7 +64,7 @@ carried choice s t (i ∷ is) p =
     rw (carried choice (outcome choice s t i .state) (outcome choice s t i .table) is (store-kept choice s t (i .line) (i .room) p), e)
 
 -- a new store passes
-new-passes : storeOk newState (newTable 1024) ≡ true
+pub new-passes : storeOk newState (newTable 1024) ≡ true
 unfolding all recordsFrom recordsOk tableOk every subjectsOk isasOk rulesOk policyOk sessionOk stateOk storeOk
 new-passes = refl
 

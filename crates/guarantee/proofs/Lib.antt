@@ -28,3 +28,4 @@ pub mod Cases
 pub mod Schools
 pub mod Witness
 pub mod Demand3
+pub mod AreaSuffices
