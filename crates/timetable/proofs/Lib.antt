@@ -1,3 +1,4 @@
 pub mod PrintLaws
 pub mod ByteLaws
 pub mod ProgramLaws
+pub mod ProgramRefusals

@@ -1,0 +1,64 @@
+-- "In the program 12 and 13 cannot occur": its store always passes, and its area of 65,536 bytes has room for every answer over 1,024 records. Assumes nothing.
+use Prim.Native.Nat.{ℕ, _≤_}
+use mathlib.Core.Path.{_≡_, refl, sym, ap, _∙_}
+use mathlib.Core.Bool.{Bool, true, false}
+use mathlib.Core.List.{List, [], _∷_, List·Memᴰ, List·Memᴰ·cases-cons, List·Memᴰ·not-nil}
+use mathlib.Core.Logic.{⊎-elim}
+use native.Mathlib.Omega.{arith}
+use lib.Dec.{leb}
+use lib.ListN.{length, take, length-replicate}
+use Rattle.rights.proofs.ListLaws.{byCase}
+use Rattle.answers.specs.AnswerChoice.{chosen, chosen-lawful}
+use Rattle.lines.specs.Outcome.{Reply, says, refuses, Outcome}
+use Rattle.lines.specs.Refusal.{areaShort, badStore}
+use Rattle.lines.specs.State.{storeOk}
+use Rattle.store.specs.Line.{step}
+use Rattle.guarantee.proofs.AreaSuffices.{passing-not-13, area-suffices, table-length-kept}
+use Rattle.guarantee.proofs.Cases.{new-passes}
+use Rattle.guarantee.proofs.SessionKept.{store-kept}
+use Rattle.timetable.specs.Program.{lineMax, areaBytes, inputMax, linesFrom, outcomeOf, repliesFrom, emptyState, emptyTable, repliesTo}
+
+-- the program's store
+record Good (s t : List ℕ) : Type 0 where
+  passes : storeOk s t ≡ true
+  size : length t ≡ 32772
+
+empty-good : Good emptyState emptyTable
+unfolding emptyState emptyTable
+empty-good = record { passes = new-passes; size = length-replicate {A = ℕ} 32772 0 }
+
+-- neither 12 nor 13
+abbrev pub OfTheLine : ℕ → Type 0
+OfTheLine n = (n ≡ areaShort → ⊥) × (n ≡ badStore → ⊥)
+
+module _ (s t line : List ℕ) (g : Good s t) where
+  step-refuses : (n : ℕ) → step chosen s t line areaBytes .reply ≡ refuses n → OfTheLine n
+  step-refuses n e = (
+    λ q. area-suffices chosen s t line areaBytes (g .passes) chosen-lawful (rw (g .size) (omega arith)) (e ∙ ap refuses q),
+    λ q. passing-not-13 chosen s t line areaBytes (g .passes) (e ∙ ap refuses q),
+  )
+
+  outcome-refuses : (n : ℕ) → outcomeOf s t line .reply ≡ refuses n → OfTheLine n
+  unfolding outcomeOf
+  outcome-refuses n e =
+      byCase (leb (length line) lineMax)
+      (λ q. step-refuses n (rw q at e))
+      (λ q. let z : refuses 1 ≡ refuses n = rw q at e in let i : n ≡ 1 = cc in (λ k. omega arith, λ k. omega arith))
+
+  outcome-good : Good (outcomeOf s t line .state) (outcomeOf s t line .table)
+  unfolding outcomeOf
+  outcome-good =
+      byCase (leb (length line) lineMax)
+      (λ q. rw q (record { passes = store-kept chosen s t line areaBytes (g .passes); size = table-length-kept chosen s t line areaBytes ∙ g .size }))
+      (λ q. rw q g)
+
+replies-refuse : (s t : List ℕ) → Good s t → (lines : List (List ℕ)) (n : ℕ) → List·Memᴰ (refuses n) (repliesFrom s t lines) → OfTheLine n
+unfolding repliesFrom
+replies-refuse s t g [] n m = absurd (List·Memᴰ·not-nil m)
+replies-refuse s t g (line ∷ lines) n m =
+    ⊎-elim (λ e. outcome-refuses s t line g n (sym e)) (λ k. replies-refuse _ _ (outcome-good s t line g) lines n k) (List·Memᴰ·cases-cons m)
+
+-- No line of any input is answered `(refused 12)` or `(refused 13)`.
+pub never-12-or-13 : (input : List ℕ) (n : ℕ) → List·Memᴰ (refuses n) (repliesTo input) → OfTheLine n
+unfolding repliesTo
+never-12-or-13 input n m = replies-refuse emptyState emptyTable empty-good (linesFrom [] (take inputMax input)) n m
