@@ -12,7 +12,7 @@ use lib.ListN.{length, getD, take, drop, set, length-append, length-set, length-
 use lib.Seq.{take-all, take-at, take-suc, take-suc-set, length-take-le}
 use Rattle.rights.proofs.ListLaws.{byCase}
 use Rattle.lines.specs.Outcome.{Outcome}
-use Rattle.timetable.specs.Program.{inputMax, emptyState, emptyTable, printed}
+use Rattle.timetable.specs.Program.{inputMax, lineFeed, emptyState, emptyTable, printed}
 use Rattle.timetable.specs.How.Run.{Line, short, tooLong, longer, ended, lineIn, Prints, Run, runIn, answered, overflow, roomMade, byteTaken, byteHands, chunkTaken, Stops, TakesChunk, written, chunksTaken, joined, ReadsAll, start}
 
 -- what was put behind the bytes that wait, waits with them
@@ -37,14 +37,14 @@ pub line-new : (buffer : List ℕ) (u : ℕ) → u ≡ 0 → lineIn buffer u ≡
 line-new buffer u e = rw (e, le-leb 0 (length buffer) (omega arith))
 
 -- A line feed: the answer waits behind what waited, and room is made for the next.
-module _ (s t buffer out : List ℕ) (used held b w u h : ℕ) (open' : Bool) {s' t' out' : List ℕ} (feed : b ≡ 10) (within : held ≤ length out)
+module _ (s t buffer out : List ℕ) (used held b w u h : ℕ) (open' : Bool) {s' t' out' : List ℕ} (feed : b ≡ lineFeed) (within : held ≤ length out)
     (p : Prints (ended s t (lineIn buffer used) 65536) held out w s' t' out') (opens : leb w 65536 ≡ true → open' ≡ true) where
   pub feed-taken : u ≡ 0 → h ≡ cond (leb w 65536) w 0 → runIn s' t' buffer u out' h ≡ byteTaken (runIn s t buffer used out held) b
   unfolding byteTaken
   feed-taken new e =
       let q = put-whole (ended s t (lineIn buffer used) 65536) out held w within p in
       let k = room-kept (take held out ++ printed (ended s t (lineIn buffer used) 65536 .reply)) out' w h (q .0) (q .1) e in
-      rw (eq-eqb b 10 feed, p .state, p .table, line-new buffer u new, k)
+      rw (eq-eqb b lineFeed feed, p .state, p .table, line-new buffer u new, k)
 
   pub feed-opens : byteHands (runIn s t buffer used out held) b ≡ [] → open' ≡ true
   unfolding byteHands
@@ -52,21 +52,21 @@ module _ (s t buffer out : List ℕ) (used held b w u h : ℕ) (open' : Bool) {s
       let q = put-whole (ended s t (lineIn buffer used) 65536) out held w within p in
       byCase (leb w 65536) opens
       (λ e.
-      let k : take held out ++ printed (ended s t (lineIn buffer used) 65536 .reply) ≡ [] = rw (eq-eqb b 10 feed, q .0, e) at z in
+      let k : take held out ++ printed (ended s t (lineIn buffer used) 65536 .reply) ≡ [] = rw (eq-eqb b lineFeed feed, q .0, e) at z in
       absurd (omega (arith, leb-false w 65536 e, q .0, ap length k)))
 
 -- Any other byte: the line has one more, or is too long.
-module _ (s t buffer out : List ℕ) (used held b : ℕ) (other : b ≡ 10 → ⊥) (size : length buffer ≡ 1024) where
+module _ (s t buffer out : List ℕ) (used held b : ℕ) (other : b ≡ lineFeed → ⊥) (size : length buffer ≡ 1024) where
   pub byte-taken : used < 1024 → runIn s t (set buffer used b) (used + 1) out held ≡ byteTaken (runIn s t buffer used out held) b
   unfolding byteTaken
   byte-taken h =
       let l : length (take used buffer) < 1024 = omega (arith, length-take-le used buffer (omega arith)) in
-      rw (ne-eqb b 10 other, add-one used, length-set buffer used b, le-leb (suc used) (length buffer) (omega arith), le-leb used (length buffer) (omega arith), take-suc-set buffer used b (omega arith), lt-ltb (length (take used buffer)) 1024 l)
+      rw (ne-eqb b lineFeed other, add-one used, length-set buffer used b, le-leb (suc used) (length buffer) (omega arith), le-leb used (length buffer) (omega arith), take-suc-set buffer used b (omega arith), lt-ltb (length (take used buffer)) 1024 l)
 
   pub byte-too-many : 1024 ≤ used → runIn s t buffer 1025 out held ≡ byteTaken (runIn s t buffer used out held) b
   unfolding byteTaken
   byte-too-many h =
-      rw (ne-eqb b 10 other, lt-leb 1025 (length buffer) (omega arith))
+      rw (ne-eqb b lineFeed other, lt-leb 1025 (length buffer) (omega arith))
       (ap (λ (l : Line). record { state = s; table = t; line = l; waits = take held out }) (sym (byCase (leb used (length buffer))
       (λ e.
       let l : 1024 ≤ length (take used buffer) = omega (arith, length-take-le used buffer (leb-true used (length buffer) e)) in

@@ -8,7 +8,7 @@ use borrow.Author.Tests.{leb-false, ltb-true, ltb-false, le-leb, lt-leb}
 use lib.Dec.{leb, ltb, eqb}
 use lib.ListN.{length, take, length-append}
 use Rattle.rights.proofs.ListLaws.{byCase}
-use Rattle.timetable.specs.Program.{lineMax, areaBytes, inputMax, lastLine, linesFrom, outcomeOf, repliesFrom, repliesTo, printed, printedAll, answersTo}
+use Rattle.timetable.specs.Program.{lineMax, areaBytes, inputMax, lineFeed, linesFrom, outcomeOf, repliesFrom, repliesTo, printed, printedAll, answersTo}
 use Rattle.timetable.specs.How.Run.{Line, short, tooLong, longer, ended, Run, lineEnded, overflow, byteTaken, byteHands, chunkTaken, chunkHands, written, joined, lastHands, runHands, start}
 
 -- The line so far as the program keeps it
@@ -35,7 +35,7 @@ answersFrom m line rest = printedAll (repliesFrom (m .state) (m .table) (linesFr
 
 -- the line so far after a byte, and after a chunk
 abbrev lineAfter : List ℕ → ℕ → List ℕ
-lineAfter line b = cond (eqb b 10) [] (line ++ (b ∷ []))
+lineAfter line b = cond (eqb b lineFeed) [] (line ++ (b ∷ []))
 
 unfoldable lineBehind : List ℕ → List ℕ → List ℕ
 lineBehind line [] = line
@@ -44,7 +44,7 @@ lineBehind line (b ∷ bs) = lineBehind (lineAfter line b) bs
 module _ (m : Run) (line : List ℕ) (e : m .line ≡ lineOf line) where
   line-kept : (b : ℕ) → byteTaken m b .line ≡ lineOf (lineAfter line b)
   unfolding byteTaken
-  line-kept b = byCase (eqb b 10) (λ q. rw q) (λ q. rw (q, e) (longer-of line b))
+  line-kept b = byCase (eqb b lineFeed) (λ q. rw q) (λ q. rw (q, e) (longer-of line b))
 
   -- what waits, and what is handed over, is what waited and the answer behind it
   overflow-waits : (w rest : List ℕ) → overflow w ++ (cond (leb (length w) areaBytes) w [] ++ rest) ≡ w ++ rest
@@ -54,7 +54,7 @@ module _ (m : Run) (line : List ℕ) (e : m .line ≡ lineOf line) where
       → m .waits ++ answersFrom m line (b ∷ rest) ≡ byteHands m b ++ (byteTaken m b .waits ++ answersFrom (byteTaken m b) (lineAfter line b) rest)
   unfolding byteTaken byteHands linesFrom repliesFrom printedAll
   byte-answers b rest =
-      byCase (eqb b 10)
+      byCase (eqb b lineFeed)
       (λ q.
       let o : ended (m .state) (m .table) (m .line) areaBytes ≡ outcomeOf (m .state) (m .table) line = rw e (ended-of (m .state) (m .table) line) in
       rw (q, o)

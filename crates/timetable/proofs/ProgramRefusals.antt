@@ -8,9 +8,11 @@ use native.Mathlib.Omega.{arith}
 use lib.Dec.{leb}
 use lib.ListN.{length, take, length-replicate}
 use Rattle.rights.proofs.ListLaws.{byCase}
+use Rattle.forms.specs.Text.{lineOk}
 use Rattle.answers.specs.AnswerChoice.{chosen, chosen-lawful}
 use Rattle.lines.specs.Outcome.{Reply, says, refuses, Outcome}
-use Rattle.lines.specs.Refusal.{areaShort, badStore}
+use Rattle.lines.specs.Effect.{performed}
+use Rattle.lines.specs.Refusal.{areaShort, badStore, checked}
 use Rattle.lines.specs.State.{storeOk}
 use Rattle.store.specs.Line.{step}
 use Rattle.guarantee.proofs.AreaSuffices.{passing-not-13, area-suffices, table-length-kept}
@@ -57,6 +59,11 @@ unfolding repliesFrom
 replies-refuse s t g [] n m = absurd (List·Memᴰ·not-nil m)
 replies-refuse s t g (line ∷ lines) n m =
     ⊎-elim (λ e. outcome-refuses s t line g n (sym e)) (λ k. replies-refuse _ _ (outcome-good s t line g) lines n k) (List·Memᴰ·cases-cons m)
+
+-- A line that is too long is no case of its own: from a store that passes, `step` refuses it as the program does.
+pub long-lines-stepped : (s t line : List ℕ) → storeOk s t ≡ true → outcomeOf s t line ≡ step chosen s t line areaBytes
+unfolding outcomeOf step performed checked lineOk
+long-lines-stepped s t line ok = byCase (leb (length line) lineMax) (λ e. rw e) (λ e. rw (e, ok))
 
 -- No line of any input is answered `(refused 12)` or `(refused 13)`.
 pub never-12-or-13 : (input : List ℕ) (n : ℕ) → List·Memᴰ (refuses n) (repliesTo input) → OfTheLine n

@@ -4,6 +4,7 @@ use mathlib.Core.Bool.{cond}
 use mathlib.Core.List.{List, [], _∷_, _++_}
 use lib.Dec.{leb, eqb}
 use lib.ListN.{length, take, replicate}
+use Rattle.rights.specs.Bytes.{bytes}
 use Rattle.answers.specs.Answer.{refusedText}
 use Rattle.answers.specs.AnswerChoice.{chosen}
 use Rattle.lines.specs.Outcome.{Reply, says, refuses, Outcome, refusal}
@@ -22,15 +23,19 @@ areaBytes = 65536
 abbrev pub inputMax : ℕ
 inputMax = 4294967295
 
+-- the byte that ends a line
+abbrev pub lineFeed : ℕ
+lineFeed = 10
+
 -- "a last line that is not empty may lack its line feed"
 abbrev pub lastLine : List ℕ → List (List ℕ)
 lastLine [] = []
 lastLine (a ∷ line) = (a ∷ line) ∷ []
 
--- The lines of an input, of which the first has the bytes of `line` already. A line feed ends a line.
+-- The lines of an input (proofs/LinesLaws has them by what is typed), of which the first has the bytes of `line` already. A line feed ends a line.
 unfoldable pub linesFrom : List ℕ → List ℕ → List (List ℕ)
 linesFrom line [] = lastLine line
-linesFrom line (b ∷ rest) = cond (eqb b 10) (line ∷ linesFrom [] rest) (linesFrom (line ++ (b ∷ [])) rest)
+linesFrom line (b ∷ rest) = cond (eqb b lineFeed) (line ∷ linesFrom [] rest) (linesFrom (line ++ (b ∷ [])) rest)
 
 -- What the program makes of a line, from the state s and the table t: "The program reads a longer one up to its line feed and refuses it once."
 unfoldable pub outcomeOf : List ℕ → List ℕ → List ℕ → Outcome
@@ -64,3 +69,8 @@ printedAll (r ∷ rest) = printed r ++ printedAll rest
 -- What the program writes
 unfoldable pub answersTo : List ℕ → List ℕ
 answersTo input = printedAll (repliesTo input)
+
+-- Lines as they are typed, each with its line feed
+unfoldable pub typed : List (List ℕ) → List ℕ
+typed [] = []
+typed (line ∷ rest) = line ++ (bytes "\n" ++ typed rest)

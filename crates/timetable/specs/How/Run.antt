@@ -11,7 +11,7 @@ use Rattle.answers.specs.How.AnswerArea.{Puts}
 use Rattle.lines.specs.Outcome.{Outcome, refusal}
 use Rattle.lines.specs.Refusal.{badLine}
 use Rattle.store.specs.Line.{step}
-use Rattle.timetable.specs.Program.{lineMax, areaBytes, inputMax, emptyState, emptyTable, printed}
+use Rattle.timetable.specs.Program.{lineMax, areaBytes, lineFeed, inputMax, emptyState, emptyTable, printed}
 
 -- The line so far: its bytes, or too many of them.
 pub data Line : Type 0 where
@@ -68,10 +68,10 @@ roomMade m = record { state = m .state; table = m .table; line = m .line; waits 
 -- one byte of the input: the program after it, and what is handed to `write`
 unfoldable pub byteTaken : Run → ℕ → Run
 byteTaken m b =
-    cond (eqb b 10) (roomMade (lineEnded m)) (record { state = m .state; table = m .table; line = longer (m .line) b; waits = m .waits })
+    cond (eqb b lineFeed) (roomMade (lineEnded m)) (record { state = m .state; table = m .table; line = longer (m .line) b; waits = m .waits })
 
 unfoldable pub byteHands : Run → ℕ → List ℕ
-byteHands m b = cond (eqb b 10) (overflow (lineEnded m .waits)) []
+byteHands m b = cond (eqb b lineFeed) (overflow (lineEnded m .waits)) []
 
 -- the bytes of a chunk: one read
 unfoldable pub chunkTaken : Run → List ℕ → Run
