@@ -24,9 +24,9 @@ functions, types = set(), set()
 for path in glob.glob("crates/*/src/*.rt"):
     module = os.path.basename(path)[:-3]
     text = open(path).read()
-    for name in re.findall(r"(?m)^\s*(?:#\[no_mangle\] )?(?:pub )?(?:extern \"C\" )?fn (\w+)", text):
+    for name in re.findall(r"(?m)^\s*(?:#\[no_mangle\] )?(?:pub(?:\(crate\))? )?(?:extern \"C\" )?fn (\w+)", text):
         functions.update((name, module + "::" + name))
-    types.update(re.findall(r"(?m)^\s*(?:pub )?(?:enum|struct|const) (\w+)", text))
+    types.update(re.findall(r"(?m)^\s*(?:pub(?:\(crate\))? )?(?:enum|struct|const) (\w+)", text))
     types.update(re.findall(r"(?m)^    ([A-Z]\w*)\b", text))
 edits = {path.split("/")[1] + "/" + os.path.basename(path)[:-5] for path in glob.glob("crates/*/edits/*.edit") + glob.glob("crates/*/must-fail/*.edit")}
 crates = {os.path.basename(path) for path in glob.glob("crates/*")}

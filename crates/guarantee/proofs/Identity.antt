@@ -8,7 +8,7 @@ use mathlib.Core.List.{List, [], _∷_, _++_, map, Sublistᴰ, Sublistᴰ·slnil
 use mathlib.Core.Option.{Option, none, some}
 use native.Mathlib.Omega.{arith}
 use Rattle.rights.specs.Table.{records, level}
-use Rattle.views.specs.Change.{chunks, raise, relabel, inserted}
+use Rattle.views.specs.Change.{chunks, raise, relabel, insertMarked}
 use Rattle.views.specs.Nodes.{tags, All}
 use Rattle.views.specs.declared.done.Change.the-variants as change
 use Rattle.views.specs.declared.insert.Place.{Place}
@@ -39,13 +39,13 @@ use Rattle.guarantee.proofs.TableAfter.{table-after}
 
 -- A function of nodes that keeps levels, and goes with what makes nodes and with every change of their records, goes with every effect.
 module _ {E N : Type 0} (lev : E → ℕ) (lev' : N → ℕ) (f : E → N) (same : (x : E) → lev' (f x) ≡ lev x) where
-  map-inserted : (at : Place) (tree : ℕ → List E) (tree' : ℕ → List N) → ((l : ℕ) → map f (tree l) ≡ tree' l) → (ms : List Bool) (ns : List E)
-      → map f (inserted lev at tree ms ns) ≡ inserted lev' at tree' ms (map f ns)
-  map-inserted place.Append tree tree' e ms ns =
+  map-insert : (at : Place) (tree : ℕ → List E) (tree' : ℕ → List N) → ((l : ℕ) → map f (tree l) ≡ tree' l) → (ms : List Bool) (ns : List E)
+      → map f (insertMarked lev at tree ms ns) ≡ insertMarked lev' at tree' ms (map f ns)
+  map-insert place.Append tree tree' e ms ns =
       map-insertBehind lev lev' f same (λ x. tree (suc (lev x))) (λ y. tree' (suc (lev' y))) (λ x. rw (same x) (e (suc (lev x)))) ms ns
-  map-inserted place.After tree tree' e ms ns =
+  map-insert place.After tree tree' e ms ns =
       map-insertBehind lev lev' f same (λ x. tree (lev x)) (λ y. tree' (lev' y)) (λ x. rw (same x) (e (lev x))) ms ns
-  map-inserted place.Before tree tree' e ms ns =
+  map-insert place.Before tree tree' e ms ns =
       map-insertInFront lev lev' f same (λ x. tree (lev x)) (λ y. tree' (lev' y)) (λ x. rw (same x) (e (lev x))) ms ns
 
   module _ (new : List (List ℕ) → List E) (new' : List (List ℕ) → List N) (brought : (rs : List (List ℕ)) → map f (new rs) ≡ new' rs)
@@ -54,7 +54,7 @@ module _ {E N : Type 0} (lev : E → ℕ) (lev' : N → ℕ) (f : E → N) (same
     map-after (policy p g) ns = refl
     map-after (root l) ns = brought (nodeRecord 0 l ∷ [])
     map-after (insertion at ms m tree g) ns =
-        map-inserted at (λ l. new (raise l (chunks m tree))) (λ l. new' (raise l (chunks m tree))) (λ l. brought (raise l (chunks m tree))) ms ns
+        map-insert at (λ l. new (raise l (chunks m tree))) (λ l. new' (raise l (chunks m tree))) (λ l. brought (raise l (chunks m tree))) ms ns
     map-after (renaming l ms) ns = map-rename lev lev' f same (on (relabel l)) (on' (relabel l)) (goes (relabel l)) ms ns
     map-after (removal ms) ns = map-remove lev lev' f same ms ns
     map-after (login u) ns = refl

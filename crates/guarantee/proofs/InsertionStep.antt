@@ -12,10 +12,11 @@ use Rattle.rights.specs.Marks.{markCount}
 use Rattle.rights.specs.Nodes.{Node, node}
 use Rattle.rights.specs.Record.{noSpare}
 use Rattle.rights.specs.Table.{count, records, tableOk}
-use Rattle.rights.specs.Tree.{Tree, tree, none, nodesOf}
+use Rattle.rights.specs.Held.{nodeIn, storedNodes}
+use Rattle.rights.specs.Tree.{Tree, tree, none, nodesOf, sizeOf}
 use Rattle.rights.proofs.RecordOfLaws.{level-made, label-made}
 use Rattle.views.specs.Change.{chunks}
-use Rattle.views.specs.StoredTree.{nodeIn, storedNodes, HoldsTree, size, Lands}
+use Rattle.views.specs.StoredTree.{HoldsTree, Lands}
 use Rattle.views.specs.declared.done.Change.{Change}
 use Rattle.views.specs.declared.done.Change.the-variants as change
 use Rattle.views.specs.declared.insert.Place.{Place}
@@ -68,7 +69,7 @@ short-line line ok = let f = simp (lineOk, and-eq-true-iff) at ok in leb-true (l
 
 -- the records of the line's tree are its nodes
 line-tree : (line : List ℕ) (m : ℕ) (new : Tree) → lineOk line ≡ true → TreePart line m → treeIn line ≡ nodesOf 0 new
-    → (map nodeIn (chunks m (recordsOf (treeIn line))) ≡ nodesOf 0 new) × (m ≡ size new)
+    → (map nodeIn (chunks m (recordsOf (treeIn line))) ≡ nodesOf 0 new) × (m ≡ sizeOf new)
 line-tree line m new ok x e =
     let h : UpTo 255 (nodesOf 0 (x .is)) = levels-held (x .is) (x .good) (omega (arith, x .short, short-line line ok)) in
     (ap (map nodeIn) (tree-records line m x) ∙ nodes-back (nodesOf 0 (x .is)) h ∙ sym (x .nodes) ∙ e, x .size ∙ ap length e)

@@ -13,7 +13,8 @@ use Rattle.rights.specs.declared.path.Axis.{Axis}
 use Rattle.rights.specs.Nodes.{Nodes}
 use Rattle.rights.specs.Policy.{Right, bitOf, Rule, Policy, nameOf}
 use Rattle.rights.specs.Rights.{applies, lastSays, holds, chains}
-use Rattle.rights.specs.RuleXPath.{storedNodes, plainPath, stepsSelected}
+use Rattle.rights.specs.Held.{storedNodes}
+use Rattle.rights.specs.RuleXPath.{plainPath, stepsSelected}
 use Rattle.rights.specs.Table.{count, records, tableOk}
 use Rattle.rights.specs.XPath.{xpathSelected, xpathSelection}
 use Rattle.rights.proofs.OwnNames.{own-name}

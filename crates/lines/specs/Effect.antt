@@ -5,7 +5,7 @@ use mathlib.Core.List.{List, [], _∷_, _++_}
 use lib.ListN.{length}
 use Rattle.rights.specs.Record.{nodeRecord}
 use Rattle.rights.specs.Table.{records, level}
-use Rattle.views.specs.Change.{inserted, rename, remove, chunks, raise, relabel, changed}
+use Rattle.views.specs.Change.{insertMarked, rename, remove, chunks, raise, relabel, changed}
 use Rattle.views.specs.declared.insert.Place.{Place}
 use Rattle.lines.specs.Outcome.{Outcome, says, Made}
 use Rattle.lines.specs.Refusal.{Check, areaCheck, checked}
@@ -42,7 +42,7 @@ module _ {E : Type 0} (lev : E → ℕ) (new : List (List ℕ) → List E) (on :
   abbrev pub nodesAfter : Effect → List E → List E
   nodesAfter (policy p g) ns = ns
   nodesAfter (root l) ns = new (nodeRecord 0 l ∷ [])
-  nodesAfter (insertion at ms m tree g) ns = inserted lev at (λ l. new (raise l (chunks m tree))) ms ns
+  nodesAfter (insertion at ms m tree g) ns = insertMarked lev at (λ l. new (raise l (chunks m tree))) ms ns
   nodesAfter (renaming l ms) ns = rename lev (on (relabel l)) ms ns
   nodesAfter (removal ms) ns = remove lev ms ns
   nodesAfter (login u) ns = ns

@@ -18,7 +18,8 @@ use Rattle.rights.specs.PolicyCheck.{ruleOk, rulesOk, policyOk}
 use Rattle.rights.specs.Table.{recAt, recordAt, recordsFrom, records, level, label, count, recordOk, recordsOk, tableOk}
 use Rattle.rights.specs.Nodes.{node, levelOf, labelOf, levelAt, labelAt, TreeShaped}
 use Rattle.rights.specs.Rights.{Step, stepFor, reaches, pathFor, applies, lastSays, hasRight, holds, rightsBy, chains, rightsOn}
-use Rattle.rights.specs.RuleXPath.{storedNodes, plainPath, stepsSelected}
+use Rattle.rights.specs.Held.{storedNodes}
+use Rattle.rights.specs.RuleXPath.{plainPath, stepsSelected}
 use Rattle.rights.specs.How.Automaton.{chainTo, chainOf}
 use Rattle.rights.specs.How.Selection.{above, under, keeps, selects, fromDocument}
 use Rattle.rights.proofs.ChainLaws.{grown, fit, chains-length}

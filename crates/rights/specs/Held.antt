@@ -25,7 +25,7 @@ join (r ∷ rs) = r ++ join rs
 abbrev pub tableBytes : ℕ → List (List ℕ) → List ℕ
 tableBytes n rs = le4 (length rs) ++ (join rs ++ replicate (n - (4 + length rs * 32)) 0)
 
--- a node as a record, and the nodes of a table's records
+-- a node as a record; what a record says, and the nodes of the stored tree: of each record its level and its true label ("A true label is the stored one.")
 abbrev pub nodeBytes : Node → List ℕ
 nodeBytes x = nodeRecord (levelOf x) (labelOf x)
 

@@ -1,15 +1,10 @@
 -- What a rule's path selects in the stored tree, as XPath 1.0 says it ("XPath 1.0 decides on paths"; "the nodes its path selects in the stored tree").
 use Prim.Native.Nat.{ℕ}
 use mathlib.Core.Bool.{Bool, false}
-use mathlib.Core.List.{List, [], _∷_, map}
+use mathlib.Core.List.{List, [], _∷_}
 use Rattle.rights.specs.Path.{Test, Axis, Path, last, next, none}
-use Rattle.rights.specs.Table.{level, label, records}
-use Rattle.rights.specs.Nodes.{Nodes, node}
+use Rattle.rights.specs.Nodes.{Nodes}
 use Rattle.rights.specs.XPath.{has, document, nodeSet}
-
--- The nodes of the stored tree: of each record its level and its true label. ("A true label is the stored one.")
-abbrev pub storedNodes : List ℕ → Nodes
-storedNodes t = map (λ r. node (level r) (label r)) (records t)
 
 -- the path of a step and the steps after it, without brackets ("6 a bracket in a rule's path")
 unfoldable pub plainPath : Axis × Test → List (Axis × Test) → Path

@@ -2,6 +2,7 @@
 -- A line holds one to be inserted, and a view is printed as one.
 use Prim.Native.Nat.{ℕ, suc}
 use mathlib.Core.List.{List, [], _∷_, _++_}
+use lib.ListN.{length}
 use Rattle.rights.specs.Nodes.{Node, node}
 
 mutual
@@ -29,3 +30,7 @@ unfoldable mutual
   pub nodesIn : ℕ → Trees → List Node
   nodesIn k none = []
   nodesIn k (more t ts) = nodesOf k t ++ nodesIn k ts
+
+-- how many nodes a tree has
+abbrev pub sizeOf : Tree → ℕ
+sizeOf u = length (nodesOf 0 u)

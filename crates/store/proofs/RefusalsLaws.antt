@@ -12,7 +12,7 @@ use lib.ListN.{length}
 use Rattle.rights.specs.Labels.{sameLabel, restricted}
 use Rattle.rights.specs.Policy.{policyWord}
 use Rattle.rights.specs.Table.{count}
-use Rattle.rights.specs.Tree.{Tree}
+use Rattle.rights.specs.Tree.{Tree, sizeOf}
 use Rattle.rights.proofs.BoolLaws.{or-left, or-right, or-split}
 use Rattle.rights.proofs.ListLaws.{byCase}
 use Rattle.views.specs.Change.{free}
@@ -31,7 +31,7 @@ use Rattle.lines.specs.State.{stage, userByte, policyBytes, policyIn, storeOk}
 use Rattle.lines.specs.Work.{onView, workInsert}
 use Rattle.lines.proofs.StateLaws.{store-held}
 use Rattle.store.specs.Line.{inStage, step}
-use Rattle.store.specs.Clause.{stageFor, sizeOf, treeBytes, clause, frontChecks}
+use Rattle.store.specs.Clause.{stageFor, treeBytes, clause, frontChecks}
 use Rattle.store.specs.Refusals as table
 use Rattle.store.specs.Refusals.{Conditions, BadLine, pathRows, insertRows, rows, Says, nothing, refusals, Holds, First}
 use Rattle.store.proofs.ClauseLaws.{step-written, step-unwritten}

@@ -3,9 +3,8 @@
 use Prim.Native.Nat.{ℕ}
 use mathlib.Core.Bool.{not}
 use mathlib.Core.List.{List, [], _∷_}
-use lib.ListN.{length}
 use Rattle.rights.specs.Policy.{bitOf}
-use Rattle.rights.specs.Tree.{Tree, nodesOf}
+use Rattle.rights.specs.Tree.{Tree, nodesOf, sizeOf}
 use Rattle.views.specs.declared.done.Change.the-variants as change
 use Rattle.views.specs.declared.insert.Place.the-variants as place
 use Rattle.forms.specs.Text.{lineOk}
@@ -38,10 +37,7 @@ stageFor (command.before p u) = stageE
 stageFor (command.after p u) = stageE
 stageFor (command.remove p) = stageE
 
--- how many nodes a tree has, and their records, the root at level 0
-abbrev pub sizeOf : Tree → ℕ
-sizeOf u = length (nodesOf 0 u)
-
+-- the records of its nodes, the root at level 0
 abbrev pub treeBytes : Tree → List ℕ
 treeBytes u = recordsOf (nodesOf 0 u)
 

@@ -14,7 +14,7 @@ use Rattle.rights.specs.Path.{Path}
 use Rattle.rights.specs.PathText.{write, Within}
 use Rattle.rights.specs.Policy.{Policy, nameOf, policyWord, some, uses}
 use Rattle.rights.specs.Table.{count, level, recordAt}
-use Rattle.rights.specs.Tree.{Tree, nodesOf}
+use Rattle.rights.specs.Tree.{Tree, nodesOf, sizeOf}
 use Rattle.views.specs.Change.{lower, free}
 use Rattle.views.specs.declared.insert.Place.{Place}
 use Rattle.views.specs.declared.insert.Place.the-variants as place
@@ -25,7 +25,7 @@ use Rattle.lines.specs.PolicyEdit.{isaHeld, bracketed, stepList}
 use Rattle.lines.specs.State.{stageC, stage, userByte, policyIn, storeOk}
 use Rattle.lines.specs.UserView.{doneIn}
 use Rattle.lines.specs.Work.{changeAt}
-use Rattle.store.specs.Clause.{stageFor, sizeOf, clause}
+use Rattle.store.specs.Clause.{stageFor, clause}
 
 -- some element has P
 abbrev pub Some : {A : Type 0} → (A → Type 0) → List A → Type 0

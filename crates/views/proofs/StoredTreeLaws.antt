@@ -10,13 +10,14 @@ use lib.ListN.{length, getD, drop, length-append}
 use lib.Seq.{drop-drop, getD-drop}
 use Rattle.rights.specs.Nodes.{Node, node, Nodes, levelOf, labelOf}
 use Rattle.rights.specs.Table.{level}
-use Rattle.rights.specs.Tree.{Tree, tree, Trees, none, more, nodesOf, nodesIn}
+use Rattle.rights.specs.Held.{nodeIn}
+use Rattle.rights.specs.Tree.{Tree, tree, Trees, none, more, nodesOf, nodesIn, sizeOf}
 use Rattle.rights.proofs.ListLaws.{byCase}
 use Rattle.views.specs.declared.insert.Place.{Place}
 use Rattle.views.specs.declared.insert.Place.the-variants.{Append, After, Before}
 use Rattle.views.specs.Change.{putBehind, insertBehind, insertInFront, chunks, raised, raise, lower, placed}
 use Rattle.views.specs.Nodes.{Above, Front}
-use Rattle.views.specs.StoredTree.{nodeIn, HoldsTree, size, isBefore, isAfter, isLastChild, landing, inserted, insertedAmong}
+use Rattle.views.specs.StoredTree.{HoldsTree, isBefore, isAfter, isLastChild, landing, inserted, insertedAmong}
 use Rattle.views.proofs.InsertionLaws.{skip-one, in-front, above-less}
 use Rattle.views.proofs.NodeLaws.{front-less}
 use Rattle.views.proofs.MapLaws.{map-insertBehind, map-insertInFront}
@@ -136,10 +137,10 @@ module _ (place : Place) (done : ℕ → Bool) (new : Tree) where
       let b : Nodes = landed new (isBefore place && done n) k in
       let i : Nodes = nodesOf k (into n t) in
       let a : Nodes = landed new (isAfter place && done n) k in
-      let r : Nodes = nodesIn k (among (n + size t) ts none) in
-      around-nodes n k t (among (n + size t) ts last)
-      ∙ ap (λ (v : Nodes). b ++ (i ++ (a ++ v))) (among-last (n + size t) k ts last)
-      ∙ sym (ap (λ (v : Nodes). v ++ nodesIn k last) (around-nodes n k t (among (n + size t) ts none))
+      let r : Nodes = nodesIn k (among (n + sizeOf t) ts none) in
+      around-nodes n k t (among (n + sizeOf t) ts last)
+      ∙ ap (λ (v : Nodes). b ++ (i ++ (a ++ v))) (among-last (n + sizeOf t) k ts last)
+      ∙ sym (ap (λ (v : Nodes). v ++ nodesIn k last) (around-nodes n k t (among (n + sizeOf t) ts none))
       ∙ append-assoc b (i ++ (a ++ r)) (nodesIn k last)
       ∙ ap (λ (v : Nodes). b ++ v) (append-assoc i (a ++ r) (nodesIn k last) ∙ ap (λ (v : Nodes). i ++ v) (append-assoc a r (nodesIn k last))))
 
@@ -148,9 +149,9 @@ module _ (place : Place) (done : ℕ → Bool) (new : Tree) where
       unfolding nodesOf nodesIn inserted insertedAmong
 
       tree-inserted : (t : Tree) (k n : ℕ) (rest : Nodes) → Front levelOf k rest
-          → W n (nodesOf k t ++ rest) ≡ landed new (isBefore place && done n) k ++ (nodesOf k (into n t) ++ (landed new (isAfter place && done n) k ++ W (n + size t) rest))
+          → W n (nodesOf k t ++ rest) ≡ landed new (isBefore place && done n) k ++ (nodesOf k (into n t) ++ (landed new (isAfter place && done n) k ++ W (n + sizeOf t) rest))
       tree-inserted (tree l ts) k n rest f =
-          let e : n + size (tree l ts) ≡ suc n + sizes ts = omega (arith, sizes-at 1 0 ts) in
+          let e : n + sizeOf (tree l ts) ≡ suc n + sizes ts = omega (arith, sizes-at 1 0 ts) in
           let c : Nodes = landed new (isLastChild place && done n) (suc k) in
           let z : Nodes = landed new (isAfter place && done n) k ++ W (suc n + sizes ts) rest in
           rw e (w .at-node n (suc n + sizes ts) (node k l) (nodesIn (suc k) ts) (nodesIn (suc k) (among (suc n) ts none)) rest
@@ -168,13 +169,13 @@ module _ (place : Place) (done : ℕ → Bool) (new : Tree) where
           let b : Nodes = landed new (isBefore place && done n) k in
           let i : Nodes = nodesOf k (into n t) in
           let a : Nodes = landed new (isAfter place && done n) k in
-          let r : Nodes = nodesIn k (among (n + size t) ts none) in
-          let e : n + sizes (more t ts) ≡ n + size t + sizes ts = omega (arith, length-append (nodesOf 0 t) (nodesIn 0 ts)) in
-          let v : Nodes = W (n + size t + sizes ts) rest in
+          let r : Nodes = nodesIn k (among (n + sizeOf t) ts none) in
+          let e : n + sizes (more t ts) ≡ n + sizeOf t + sizes ts = omega (arith, length-append (nodesOf 0 t) (nodesIn 0 ts)) in
+          let v : Nodes = W (n + sizeOf t + sizes ts) rest in
           rw (append-assoc (nodesOf k t) (nodesIn k ts) rest, e)
           (tree-inserted t k n (nodesIn k ts ++ rest) (trees-front k ts rest f)
-          ∙ ap (λ (u : Nodes). b ++ (i ++ (a ++ u))) (trees-inserted ts k (n + size t) rest f)
-          ∙ sym (ap (λ (u : Nodes). u ++ v) (around-nodes n k t (among (n + size t) ts none))
+          ∙ ap (λ (u : Nodes). b ++ (i ++ (a ++ u))) (trees-inserted ts k (n + sizeOf t) rest f)
+          ∙ sym (ap (λ (u : Nodes). u ++ v) (around-nodes n k t (among (n + sizeOf t) ts none))
           ∙ append-assoc b (i ++ (a ++ r)) v
           ∙ ap (λ (u : Nodes). b ++ u) (append-assoc i (a ++ r) v ∙ ap (λ (u : Nodes). i ++ u) (append-assoc a r v))))
 
@@ -184,7 +185,7 @@ module _ (place : Place) (done : ℕ → Bool) (new : Tree) where
         let z = no-sibling place (done 0) h in
         sym (ap (W 0) (append-nil (nodesOf 0 t)))
         ∙ tree-inserted t 0 0 [] tt
-        ∙ rw (z .0, z .1, w .nothing (0 + size t)) (append-nil (nodesOf 0 (into 0 t)))
+        ∙ rw (z .0, z .1, w .nothing (0 + sizeOf t)) (append-nil (nodesOf 0 (into 0 t)))
 
 -- Both passes do so
 

@@ -15,13 +15,13 @@ use Rattle.rights.specs.Policy.{read}
 use Rattle.rights.specs.How.Places.{Text}
 use Rattle.rights.specs.Rights.{holds}
 use Rattle.rights.specs.Nodes.{node, Nodes, TreeShaped}
+use Rattle.rights.specs.Held.{nodeIn, storedNodes}
 use Rattle.rights.specs.How.Numbers.{recordPlace, seen, viewOf, Fits}
 use Rattle.rights.proofs.TableLaws.{both, record-levels}
 use Rattle.rights.proofs.ListLaws.{byCase}
 use Rattle.rights.proofs.TreeShapeLaws.{Linked, linked-nested, nothing-nested}
 use Rattle.views.specs.Shown.{Stored, storedFrom, stored, storedLevel, grants, granted, shown, carried, view}
 use Rattle.views.specs.Nodes.{All}
-use Rattle.views.specs.StoredTree.{nodeIn, storedNodes}
 use Rattle.views.specs.How.Numbers.{isShownAt, shownFrom, shownNumber, shownNumbers}
 use Rattle.views.proofs.StoredLaws.{record-text, table-by-depth}
 use Rattle.views.proofs.TableLaws.{facts}

@@ -52,10 +52,10 @@ module _ {E : Type 0} (lev : E → ℕ) where
   insertBefore tree = insertInFront (λ x. tree (lev x))
 
   -- at places of one of the three kinds
-  abbrev pub inserted : Place → (ℕ → List E) → List Bool → List E → List E
-  inserted Append tree ms t = append tree ms t
-  inserted After tree ms t = insertAfter tree ms t
-  inserted Before tree ms t = insertBefore tree ms t
+  abbrev pub insertMarked : Place → (ℕ → List E) → List Bool → List E → List E
+  insertMarked Append tree ms t = append tree ms t
+  insertMarked After tree ms t = insertAfter tree ms t
+  insertMarked Before tree ms t = insertBefore tree ms t
 
   -- rename, and update, which concerns children: the nodes that are done become f of them; every other stays as it is.
   unfoldable pub rename : (E → E) → List Bool → List E → List E
@@ -83,7 +83,7 @@ lower Before = 0
 
 -- the records after an insertion of a tree of m records
 abbrev pub placed : Place → ℕ → List ℕ → List Bool → List (List ℕ) → List (List ℕ)
-placed place m tree ms rs = inserted level place (λ l. raise l (chunks m tree)) ms rs
+placed place m tree ms rs = insertMarked level place (λ l. raise l (chunks m tree)) ms rs
 
 -- the records after a removal
 abbrev pub removed : List Bool → List (List ℕ) → List (List ℕ)

@@ -3,30 +3,18 @@
 use Prim.Native.Nat.{ℕ, suc, _+_, _*_}
 use mathlib.Core.Path.{_≡_}
 use mathlib.Core.Bool.{Bool, true, false, _&&_}
-use mathlib.Core.List.{List, map}
-use lib.ListN.{length, getD}
+use mathlib.Core.List.{List}
+use lib.ListN.{getD}
+use Rattle.rights.specs.Held.{storedNodes}
 use Rattle.rights.specs.Marks.{markCount}
-use Rattle.rights.specs.Nodes.{Node, node, Nodes}
-use Rattle.rights.specs.Table.{records, level, label, count}
-use Rattle.rights.specs.Tree.{Tree, tree, Trees, none, more, nodesOf}
+use Rattle.rights.specs.Table.{count}
+use Rattle.rights.specs.Tree.{Tree, tree, Trees, none, more, nodesOf, sizeOf}
 use Rattle.views.specs.declared.insert.Place.{Place}
 use Rattle.views.specs.declared.insert.Place.the-variants.{Append, After, Before}
-
--- what a record says: its level and its label
-abbrev pub nodeIn : List ℕ → Node
-nodeIn r = node (level r) (label r)
-
--- the nodes that a table holds
-abbrev pub storedNodes : List ℕ → Nodes
-storedNodes t = map nodeIn (records t)
 
 -- the table t holds the tree u: its nodes are those of u, in document order
 abbrev pub HoldsTree : List ℕ → Tree → Type 0
 HoldsTree t u = storedNodes t ≡ nodesOf 0 u
-
--- how many nodes a tree has
-abbrev pub size : Tree → ℕ
-size u = length (nodesOf 0 u)
 
 -- where the new tree lands at a node: directly before it, directly after it, or as its last child
 abbrev pub isBefore : Place → Bool
@@ -62,11 +50,11 @@ module _ (place : Place) (done : ℕ → Bool) (new : Tree) where
         landing (isBefore place && done n) new
         (more (inserted n t)
         (landing (isAfter place && done n) new
-        (insertedAmong (n + size t) ts last)))
+        (insertedAmong (n + sizeOf t) ts last)))
 
 -- What an insertion of the tree `new` makes of the table t, at the nodes that are marked as done: t holds a tree, and t' holds it with `new` inserted at every node that
 -- is done and at no other; it has D × tree size records more.
 pub record Lands (place : Place) (done : List Bool) (new : Tree) (t t' : List ℕ) : Type 0 where
   pub held : (u : Tree) × HoldsTree t u
   pub lands : (u : Tree) → HoldsTree t u → HoldsTree t' (inserted place (λ n. getD done n false) new 0 u)
-  pub counted : count t' ≡ count t + markCount done * size new
+  pub counted : count t' ≡ count t + markCount done * sizeOf new
