@@ -21,7 +21,7 @@ use Rattle.views.specs.How.Numbers.{shownNumber}
 use Rattle.views.specs.declared.done.Change.{Change}
 use Rattle.views.specs.declared.done.Change.the-variants as change
 use Rattle.views.proofs.TableLaws.{facts}
-use Rattle.views.proofs.ViewLaws.{view-nested, shown-few}
+use Rattle.views.proofs.ViewLaws.{view-nested, keep-length, shown-few}
 use Rattle.answers.specs.AnswerChoice.{Choice, Lawful}
 use Rattle.answers.proofs.AnswerLengths.{AllSmall, small-kept, query-most, find-most, done-most, view-most}
 use Rattle.forms.specs.Form.{readForm, treeIn}
@@ -66,13 +66,6 @@ few-marks [] = omega arith
 few-marks (true ∷ ms) = let h = few-marks ms in omega arith
 few-marks (false ∷ ms) = let h = few-marks ms in omega arith
 
-few-kept : {A : Type 0} (ms : List Bool) (xs : List A) → length (keep ms xs) ≤ length xs
-unfolding keep
-few-kept [] xs = omega arith
-few-kept (m ∷ ms) [] = omega arith
-few-kept (true ∷ ms) (x ∷ xs) = let h = few-kept ms xs in omega arith
-few-kept (false ∷ ms) (x ∷ xs) = let h = few-kept ms xs in omega arith
-
 module _ (s t : List ℕ) (ok : storeOk s t ≡ true) where
   table-ok : tableOk t ≡ true
   table-ok = store-held s t ok .table
@@ -108,13 +101,13 @@ module _ (s t : List ℕ) (ok : storeOk s t ≡ true) where
         omega (arith, view-most (viewIn s t) (view-nested t (rightsIn s t) table-ok) view-small (omega (arith, facts t table-ok .few, view-few)), view-few)
     answer-most (form.Query p) line tree =
         let ms = marksIn s t (bytesOf line p) in
-        omega (arith, query-most (keep ms (viewIn s t)) (small-kept ms (viewIn s t) view-small), few-kept ms (viewIn s t), view-few)
+        omega (arith, query-most (keep ms (viewIn s t)) (small-kept ms (viewIn s t) view-small), keep-length ms (viewIn s t), view-few)
     answer-most (form.Find p) line tree =
         let ms = marksIn s t (bytesOf line p) in
         omega (
           arith,
           find-most (choice ms (viewIn s t)) (keep ms (viewIn s t)) (small-kept ms (viewIn s t) view-small) (λ n e. lawful .listed ms (viewIn s t) n e),
-          few-kept ms (viewIn s t),
+          keep-length ms (viewIn s t),
           view-few,
         )
     answer-most (form.Rename p l) line tree = count-most change.Rename (bytesOf line p)

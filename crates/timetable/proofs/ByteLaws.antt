@@ -8,7 +8,7 @@ use native.Mathlib.Omega.{arith}
 use native.Mathlib.Numerals.{add-one}
 use borrow.Author.Tests.{eq-eqb, ne-eqb, leb-true, leb-false, le-leb, lt-leb, lt-ltb, le-ltb}
 use lib.Dec.{leb, ltb, eqb}
-use lib.ListN.{length, getD, take, drop, set, length-append, length-set, length-take}
+use lib.ListN.{length, getD, take, drop, set, length-append, length-set}
 use lib.Seq.{take-all, take-at, take-suc, take-suc-set, length-take-le}
 use Rattle.rights.proofs.ListLaws.{byCase}
 use Rattle.lines.specs.Outcome.{Outcome}
@@ -25,6 +25,11 @@ put-whole o out held w {s'} {t'} {out'} h p =
       ap (take w) (p .text .fits (p .fits) ∙ sym (append-assoc (take held out) (printed (o .reply)) (drop w out)))
           ∙ take-at (take held out ++ printed (o .reply)) (drop w out) w size,
     )
+
+-- an answer with nothing before it
+pub put-alone : (o : Outcome) (out : List ℕ) (w : ℕ) {s' t' out' : List ℕ} → Prints o 0 out w s' t' out'
+    → take (length (take 0 out ++ printed (o .reply))) out' ≡ take 0 out ++ printed (o .reply)
+put-alone o out w p = let q = put-whole o out 0 w (omega arith) p in rw (q .0) (q .1)
 
 -- where room is made
 room-kept : (whole out' : List ℕ) (w h : ℕ) → length whole ≡ w → take w out' ≡ whole → h ≡ cond (leb w 65536) w 0 → take h out' ≡ cond (leb (length whole) 65536) whole []
@@ -112,12 +117,12 @@ chunk-written m chunk got {n} e =
 
 pub record ReadSoFar (m m' : Run) (left : ℕ) : Type 0 where
   pub chunks : List (List ℕ)
-  pub within : length (joined chunks) + left ≤ inputMax
+  pub brought : length (joined chunks) + left ≡ inputMax
   pub is : m' ≡ chunksTaken m chunks
 
 pub read-none : (s t buffer out : List ℕ) → s ≡ emptyState → t ≡ emptyTable → ReadSoFar start (runIn s t buffer 0 out 0) inputMax
 unfolding chunksTaken joined
-read-none s t buffer out p q = record { chunks = []; within = omega arith; is = rw (p, q, line-new buffer 0 refl) }
+read-none s t buffer out p q = record { chunks = []; brought = omega arith; is = rw (p, q, line-new buffer 0 refl) }
 
 chunks-snoc : (m : Run) (cs : List (List ℕ)) (c : List ℕ) → chunksTaken m (cs ++ (c ∷ [])) ≡ written (chunkTaken (chunksTaken m cs) c)
 unfolding chunksTaken
@@ -129,16 +134,31 @@ unfolding joined
 joined-snoc [] c = rw (append-nil c) (omega arith)
 joined-snoc (d ∷ cs) c = rw (length-append d (joined (cs ++ (c ∷ []))), length-append d (joined cs), joined-snoc cs c) (omega arith)
 
-module _ {m m' m'' : Run} {left : ℕ} (r : ReadSoFar m m' left) (chunk : List ℕ) (got : ℕ) where
-  pub read-more : got ≤ left → m'' ≡ written (chunkTaken m' (take got chunk)) → ReadSoFar m m'' (left - got)
-  read-more h e = record {
-    chunks = r .chunks ++ (take got chunk ∷ []);
-    within = omega (arith, r .within, joined-snoc (r .chunks) (take got chunk), length-take got chunk);
-    is = e ∙ ap (λ (n : Run). written (chunkTaken n (take got chunk))) (r .is) ∙ sym (chunks-snoc m (r .chunks) (take got chunk));
-  }
+chunk-after : {m m' m'' : Run} {left : ℕ} (r : ReadSoFar m m' left) (c : List ℕ) → m'' ≡ written (chunkTaken m' c) → m'' ≡ chunksTaken m (r .chunks ++ (c ∷ []))
+chunk-after {m} r c e = e ∙ ap (λ (n : Run). written (chunkTaken n c)) (r .is) ∙ sym (chunks-snoc m (r .chunks) c)
 
-pub read-all : {m m' : Run} {left : ℕ} → ReadSoFar m m' left → (used : ℕ) → ReadsAll m m' used
-read-all r used = record { chunks = r .chunks; within = omega (arith, r .within); is = inr (r .is) }
+-- a read, and one that brings nothing
+pub read-more : {m m' m'' : Run} {left : ℕ} → ReadSoFar m m' left → (chunk : List ℕ) (got : ℕ) → got ≤ left → got ≤ length chunk
+    → m'' ≡ written (chunkTaken m' (take got chunk)) → ReadSoFar m m'' (left - got)
+read-more r chunk got h l e = record {
+  chunks = r .chunks ++ (take got chunk ∷ []);
+  brought = omega (arith, r .brought, joined-snoc (r .chunks) (take got chunk), length-take-le got chunk l);
+  is = chunk-after r (take got chunk) e;
+}
+
+pub read-ended : {m m' m'' : Run} {left : ℕ} → ReadSoFar m m' left → (chunk : List ℕ) (got : ℕ) → got ≡ 0
+    → m'' ≡ written (chunkTaken m' (take got chunk)) → (used : ℕ) → ReadsAll m m'' used
+read-ended {m} {m'} {m''} r chunk got z e used =
+    let q : m'' ≡ written (chunkTaken m' []) = rw z at e in
+    record {
+      chunks = r .chunks ++ ([] ∷ []);
+      within = omega (arith, r .brought, joined-snoc (r .chunks) []);
+      is = inr (chunk-after r [] q, inr (r .chunks, refl));
+    }
+
+-- the limit, and a standard output that failed
+pub read-all : {m m' : Run} {left : ℕ} → ReadSoFar m m' left → left ≤ 0 → (used : ℕ) → ReadsAll m m' used
+read-all r h used = record { chunks = r .chunks; within = omega (arith, r .brought); is = inr (r .is, inl (omega (arith, r .brought))) }
 
 pub read-shut : {m m' : Run} {left : ℕ} → ReadSoFar m m' left → (m'' : Run) (used : ℕ) → used ≡ 0 → ReadsAll m m'' used
-read-shut r m'' used e = record { chunks = r .chunks; within = omega (arith, r .within); is = inl e }
+read-shut r m'' used e = record { chunks = r .chunks; within = omega (arith, r .brought); is = inl e }

@@ -1,12 +1,13 @@
 -- "In the program 12 and 13 cannot occur": its store always passes, and its area of 65,536 bytes has room for every answer over 1,024 records. Assumes nothing.
-use Prim.Native.Nat.{ℕ, _≤_}
+use Prim.Native.Nat.{ℕ, _+_, _*_, _≤_}
 use mathlib.Core.Path.{_≡_, refl, sym, ap, _∙_}
 use mathlib.Core.Bool.{Bool, true, false}
 use mathlib.Core.List.{List, [], _∷_, List·Memᴰ, List·Memᴰ·cases-cons, List·Memᴰ·not-nil}
 use mathlib.Core.Logic.{⊎-elim}
 use native.Mathlib.Omega.{arith}
 use lib.Dec.{leb}
-use lib.ListN.{length, take, length-replicate}
+use lib.ListN.{length, take}
+use Rattle.rights.specs.Table.{capacity}
 use Rattle.rights.proofs.ListLaws.{byCase}
 use Rattle.forms.specs.Text.{lineOk}
 use Rattle.answers.specs.AnswerChoice.{chosen, chosen-lawful}
@@ -20,14 +21,19 @@ use Rattle.guarantee.proofs.Cases.{new-passes}
 use Rattle.guarantee.proofs.SessionKept.{store-kept}
 use Rattle.timetable.specs.Program.{lineMax, areaBytes, inputMax, linesFrom, outcomeOf, repliesFrom, emptyState, emptyTable, repliesTo}
 
+-- 1,024 records: the area has room for every answer
+empty-room : 12 + 35 * capacity (length emptyTable) ≤ areaBytes
+unfolding emptyTable
+empty-room = omega arith
+
 -- the program's store
 record Good (s t : List ℕ) : Type 0 where
   passes : storeOk s t ≡ true
-  size : length t ≡ 32772
+  room : 12 + 35 * capacity (length t) ≤ areaBytes
 
 empty-good : Good emptyState emptyTable
 unfolding emptyState emptyTable
-empty-good = record { passes = new-passes; size = length-replicate {A = ℕ} 32772 0 }
+empty-good = record { passes = new-passes; room = empty-room }
 
 -- neither 12 nor 13
 abbrev pub OfTheLine : ℕ → Type 0
@@ -36,7 +42,7 @@ OfTheLine n = (n ≡ areaShort → ⊥) × (n ≡ badStore → ⊥)
 module _ (s t line : List ℕ) (g : Good s t) where
   step-refuses : (n : ℕ) → step chosen s t line areaBytes .reply ≡ refuses n → OfTheLine n
   step-refuses n e = (
-    λ q. area-suffices chosen s t line areaBytes (g .passes) chosen-lawful (rw (g .size) (omega arith)) (e ∙ ap refuses q),
+    λ q. area-suffices chosen s t line areaBytes (g .passes) chosen-lawful (g .room) (e ∙ ap refuses q),
     λ q. passing-not-13 chosen s t line areaBytes (g .passes) (e ∙ ap refuses q),
   )
 
@@ -51,7 +57,7 @@ module _ (s t line : List ℕ) (g : Good s t) where
   unfolding outcomeOf
   outcome-good =
       byCase (leb (length line) lineMax)
-      (λ q. rw q (record { passes = store-kept chosen s t line areaBytes (g .passes); size = table-length-kept chosen s t line areaBytes ∙ g .size }))
+      (λ q. rw q (record { passes = store-kept chosen s t line areaBytes (g .passes); room = rw (table-length-kept chosen s t line areaBytes) (g .room) }))
       (λ q. rw q g)
 
 replies-refuse : (s t : List ℕ) → Good s t → (lines : List (List ℕ)) (n : ℕ) → List·Memᴰ (refuses n) (repliesFrom s t lines) → OfTheLine n

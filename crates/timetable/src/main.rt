@@ -17,7 +17,8 @@ ghost use lib.ListN.{length, take};
 ghost use Rattle.answers.specs.AnswerChoice.{chosen};
 ghost use Rattle.store.specs.Line.{step};
 ghost use Rattle.timetable.specs.Program.{emptyState, emptyTable};
-ghost use Rattle.timetable.specs.How.Run.{Prints, ReadsAll, TakesChunk, byteHands, byteTaken, chunkTaken, ended, lineIn, runIn, start, written};
+ghost use Rattle.timetable.specs.How.Run.{Prints, TakesChunk, ReadsAll, RunsAll, ended, lineIn};
+ghost use Rattle.timetable.specs.How.Run.{runIn, byteTaken, byteHands, chunkTaken, written, start};
 
 // A line of so many bytes stands for every longer one.
 const TOO_LONG: usize = LINE_MAX + 1;
@@ -216,7 +217,7 @@ fn read_turn(
     left: usize,
 ) -> Turn
     requires { ⌜ (length (now buffer) ≡ 1024) × (used ≤ 1025) × (length (now out) ≡ 131072) ⌝ }
-    ensures { λ r. ⌜ (r .used ≤ 1025) × (r .got ≤ left)
+    ensures { λ r. ⌜ (r .used ≤ 1025) × (r .got ≤ left) × (r .got ≤ length (now (chunk .exit)))
         × (((r .used ≡ 0) × (r .got ≡ 0))
         ⊎ (runIn (now (state .exit)) (now (table .exit)) (now (buffer .exit)) (r .used) (now (out .exit)) 0
         ≡ written (chunkTaken (runIn (now (state .entry)) (now (table .entry)) (now (buffer .entry)) used (now (out .entry)) 0)
@@ -259,6 +260,7 @@ fn read_lines(
 // "a last line that is not empty may lack its line feed"
 fn run(state: &mut [u8], table: &mut [u8], buffer: &mut [u8], out: &mut [u8], chunk: &mut [u8])
     requires { ⌜ (now state ≡ emptyState) × (now table ≡ emptyTable) × (length (now buffer) ≡ 1024) × (length (now out) ≡ 131072) ⌝ }
+    ensures { λ _. ⌜ RunsAll (now (out .exit)) ⌝ }
 {
     let used = read_lines(state, table, buffer, out, chunk);
     if 0 < used {

@@ -190,7 +190,7 @@ stored-nested t ok = nested-stored (records t) (facts t ok .nested)
 
 -- What the passes of a selection ask of the numbers
 
-keep-length : {A : Type 0} (bs : List Bool) (xs : List A) → length (keep bs xs) ≤ length xs
+pub keep-length : {A : Type 0} (bs : List Bool) (xs : List A) → length (keep bs xs) ≤ length xs
 unfolding keep
 keep-length [] xs = omega arith
 keep-length (b ∷ bs) [] = omega arith

@@ -9,4 +9,6 @@ unfolding emptyState
 returns c = (search needs, refl)
 
 pub empty-state-spec : {M : Type 1} → statement M
-empty-state-spec = tie.close (tie.spec returns)
+empty-state-spec =
+    tie.close
+    (tie.spec returns)

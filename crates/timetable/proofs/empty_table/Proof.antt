@@ -9,4 +9,6 @@ unfolding emptyTable
 returns c = (search needs, refl)
 
 pub empty-table-spec : {M : Type 1} → statement M
-empty-table-spec = tie.close (tie.spec returns)
+empty-table-spec =
+    tie.close
+    (tie.spec returns)

@@ -14,4 +14,6 @@ returns-2 c =
     (refl, rw (lt-leb n 65536 (at-if .if1 .left)), λ e. absurd (omega (arith, leb-true n 65536 e, at-if .if1 .left)))
 
 pub make-room-spec : {M : Type 1} → statement M
-make-room-spec = tie.close (tie.spec returns (λ c κs. search needs) returns-2)
+make-room-spec =
+    tie.close
+    (tie.spec returns (λ c κs. search needs) returns-2)

@@ -5,7 +5,7 @@ use mathlib.Core.Logic.{⊎-elim}
 use lib.ListN.{length}
 use borrow.Author.Needs.{needs}
 use Rattle.timetable.specs.How.Run.{runIn, start}
-use Rattle.timetable.proofs.ByteLaws.{ReadSoFar, read-none, read-more, read-all, read-shut}
+use Rattle.timetable.proofs.ByteLaws.{ReadSoFar, read-none, read-more, read-ended, read-all, read-shut}
 use Rattle.timetable.proofs.read_lines.Statement.{statement}
 use Rattle.timetable.proofs.read_lines.Tie as tie
 
@@ -24,23 +24,32 @@ loop-holds c =
 
 returns : tie.Need-returns Inv-loop μ-loop
 returns c =
-    let at-turn = c .before .before .before .before .before .before .before .before .before .before .before .before in let x = at-turn .before .before .before .before .before .before .before .loop in let e = at-turn .read-turn .ensures in
-    ⊎-elim (λ w. read-shut (x .inv .6) _ _ (w .0)) (λ w. read-all (read-more (x .inv .6) _ _ (e .1) w) _) (e .2)
+    let at-turn = c .before .before .before .before .before .before .before .before .before .before .before .before in
+    let x = at-turn .before .before .before .before .before .before .before .loop in
+    let e = at-turn .read-turn .ensures in
+    ⊎-elim (λ w. read-shut (x .inv .6) _ _ (w .0)) (λ w. read-ended (x .inv .6) _ _ (c .if1 .taken) w _) (e .3)
 
 loop-again : tie.Need-loop-again Inv-loop μ-loop
 loop-again c =
-    let at-turn = c .before .before .before .before .before .before .before .before .before .before .before .before .before in let x = at-turn .before .before .before .before .before .before .before .loop in let e = at-turn .read-turn .ensures in (
+    let at-turn = c .before .before .before .before .before .before .before .before .before .before .before .before .before in
+    let x = at-turn .before .before .before .before .before .before .before .loop in
+    let e = at-turn .read-turn .ensures in (
       e .0,
       search needs,
       search needs,
       search needs,
       search needs,
       search needs,
-      ⊎-elim (λ w. absurd (c .before .if1 .left (w .1))) (λ w. read-more (x .inv .6) _ _ (e .1) w) (e .2),
+      ⊎-elim (λ w. absurd (c .before .if1 .left (w .1))) (λ w. read-more (x .inv .6) _ _ (e .1) (e .2) w) (e .3),
     )
 
 returns-2 : tie.Need-returns-2 Inv-loop μ-loop
-returns-2 c = read-all (c .before .loop .inv .6) _
+returns-2 c = read-all (c .before .loop .inv .6) (c .loop-test .left) _
 
 pub read-lines-spec : {M : Type 1} → statement M
-read-lines-spec = tie.close (tie.spec Inv-loop μ-loop loop-holds (λ c κs. search needs) (λ c. search needs) (λ c. search needs) (λ c. search needs) (λ c. search needs) (λ c. search needs) returns (λ c. search needs) (λ c. search needs) loop-again (λ c. search needs) (λ c. search needs) (λ c. search needs) (λ c. search needs) (λ c. search needs) returns-2)
+read-lines-spec =
+    tie.close
+    (tie.spec Inv-loop μ-loop loop-holds (λ c κs. search needs) (λ c. search needs) (λ c. search needs)
+    (λ c. search needs) (λ c. search needs) (λ c. search needs) returns (λ c. search needs) (λ c. search needs)
+    loop-again (λ c. search needs) (λ c. search needs) (λ c. search needs) (λ c. search needs) (λ c. search needs)
+    returns-2)

@@ -25,7 +25,8 @@ loop-holds c = (search needs, search needs, search needs, refl, refl, refl, refl
 
 loop-again : tie.Need-loop-again Inv-loop μ-loop
 loop-again c =
-    let at-byte = c .before .before .before .before .before .before .before .before .before in let at-loop = at-byte .before .before .before .before .before .before .before in
+    let at-byte = c .before .before .before .before .before .before .before .before .before in
+    let at-loop = at-byte .before .before .before .before .before .before .before in
     let x = at-loop .loop in let e = at-byte .take-byte .ensures in let a = at-loop .before .before .before .before .before .before .args in (
       search needs,
       e .0,
@@ -39,7 +40,8 @@ loop-again c =
 
 returns : tie.Need-returns Inv-loop μ-loop
 returns c =
-    let at-byte = c .before .before .before .before .before .before .before .before .before in let at-loop = at-byte .before .before .before .before .before .before .before in
+    let at-byte = c .before .before .before .before .before .before .before .before .before in
+    let at-loop = at-byte .before .before .before .before .before .before .before in
     let x = at-loop .loop in let e = at-byte .take-byte .ensures in let a = at-loop .before .before .before .before .before .before .args in (
       e .0,
       e .1,
@@ -54,4 +56,6 @@ returns-2 c =
 pub take-chunk-spec : {M : Type 1} → statement M
 take-chunk-spec =
     tie.close
-    (tie.spec Inv-loop μ-loop loop-holds (λ c. search needs) (λ c κs. search needs) (λ c. search needs) (λ c. search needs) loop-again (λ c. search needs) (λ c. search needs) (λ c. search needs) (λ c. search needs) returns (λ c. search needs) (λ c. search needs) (λ c. search needs) (λ c. search needs) returns-2)
+    (tie.spec Inv-loop μ-loop loop-holds (λ c. search needs) (λ c κs. search needs) (λ c. search needs)
+    (λ c. search needs) loop-again (λ c. search needs) (λ c. search needs) (λ c. search needs) (λ c. search needs)
+    returns (λ c. search needs) (λ c. search needs) (λ c. search needs) (λ c. search needs) returns-2)

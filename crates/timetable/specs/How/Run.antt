@@ -1,5 +1,5 @@
 -- The program between two bytes of its input, and what each of its functions makes of that.
-use Prim.Native.Nat.{ℕ, _≤_}
+use Prim.Native.Nat.{ℕ, _≤_, _<_}
 use mathlib.Core.Path.{_≡_}
 use mathlib.Core.Bool.{Bool, true, false, cond}
 use mathlib.Core.Logic.{_⊎_}
@@ -78,11 +78,15 @@ unfoldable pub chunkTaken : Run → List ℕ → Run
 chunkTaken m [] = m
 chunkTaken m (b ∷ bs) = chunkTaken (byteTaken m b) bs
 
--- and after them all that waits is handed over
+-- After them all that waits is handed over: the program then, and all that is handed over meanwhile.
 abbrev pub written : Run → Run
 written m = record { state = m .state; table = m .table; line = m .line; waits = [] }
 
--- The program after a chunk, m' being what it is then: all of it is taken, or standard output took not what a byte of it handed over, and `open` says so.
+unfoldable pub chunkHands : Run → List ℕ → List ℕ
+chunkHands m [] = m .waits
+chunkHands m (b ∷ bs) = byteHands m b ++ chunkHands (byteTaken m b) bs
+
+-- The program after a chunk, m' being what it is then: all of it is taken; or, where `open'` is false, it stops at a byte that handed something over.
 pub record Stops (m : Run) (chunk : List ℕ) (m' : Run) : Type 0 where
   pub at : ℕ
   pub is : m' ≡ byteTaken (chunkTaken m (take at chunk)) (getD chunk at 0)
@@ -92,10 +96,6 @@ pub record TakesChunk (m : Run) (chunk : List ℕ) (m' : Run) (open' : Bool) : T
   pub whole : open' ≡ true → m' ≡ chunkTaken m chunk
   pub stops : open' ≡ false → Stops m chunk m'
 
-unfoldable pub chunkHands : Run → List ℕ → List ℕ
-chunkHands m [] = m .waits
-chunkHands m (b ∷ bs) = byteHands m b ++ chunkHands (byteTaken m b) bs
-
 -- a list of reads
 unfoldable pub chunksTaken : Run → List (List ℕ) → Run
 chunksTaken m [] = m
@@ -104,12 +104,6 @@ chunksTaken m (c ∷ cs) = chunksTaken (written (chunkTaken m c)) cs
 unfoldable pub joined : List (List ℕ) → List ℕ
 joined [] = []
 joined (c ∷ cs) = c ++ joined cs
-
--- The program after its reads, m' being what it is then: what they brought is taken, unless standard output failed; then no line is begun.
-pub record ReadsAll (m : Run) (m' : Run) (used : ℕ) : Type 0 where
-  pub chunks : List (List ℕ)
-  pub within : length (joined chunks) ≤ inputMax
-  pub is : (used ≡ 0) ⊎ (m' ≡ chunksTaken m chunks)
 
 -- the end of the input: a line that is not empty is answered
 abbrev pub lastHands : Run → Line → List ℕ
@@ -125,3 +119,20 @@ runHands m (c ∷ cs) = chunkHands m c ++ runHands (written (chunkTaken m c)) cs
 -- the program before its first byte
 abbrev pub start : Run
 start = record { state = emptyState; table = emptyTable; line = short []; waits = [] }
+
+-- The reads stop at the limit, or at one that brings nothing.
+abbrev pub AtEnd : List (List ℕ) → Type 0
+AtEnd chunks = (length (joined chunks) ≡ inputMax) ⊎ ((before : List (List ℕ)) × (chunks ≡ before ++ ([] ∷ [])))
+
+-- The program after its reads, m' being what it is then: what they brought is taken, unless standard output failed; then no line is begun.
+pub record ReadsAll (m : Run) (m' : Run) (used : ℕ) : Type 0 where
+  pub chunks : List (List ℕ)
+  pub within : length (joined chunks) ≤ inputMax
+  pub is : (used ≡ 0) ⊎ ((m' ≡ chunksTaken m chunks) × AtEnd chunks)
+
+-- And at its end: a last line without its line feed, `used` bytes of it, has its answer at the front of the area whose bytes are handed over.
+pub record RunsAll (out' : List ℕ) : Type 0 where
+  pub used : ℕ
+  pub last : Run
+  pub reads : ReadsAll start last used
+  pub answer : 0 < used → take (length (lineEnded last .waits)) out' ≡ lineEnded last .waits
