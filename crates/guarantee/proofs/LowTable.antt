@@ -70,9 +70,12 @@ some-none : {C : Type 0} (a : List ℕ) → _≡_ {A = Key} (some a) none → C
 some-none a z = absurd (let o : _≡_ {A = ℕ} 0 1 = cc in omega arith)
 
 module _ (P : Policy) (a b : List ℕ) where
+  no-key : policyWord P a ≡ false → policyWord P b ≡ false → keyOf P a ≡ keyOf P b
+  no-key e f = rw (e, f)
+
   key-same : NoWordDiffers P a b → keyOf P a ≡ keyOf P b
   key-same (inl e) = rw (word-same P a b e, same-folded a b e)
-  key-same (inr e) = rw (e .0, e .1)
+  key-same (inr e) = no-key (e .0) (e .1)
 
   same-key : keyOf P a ≡ keyOf P b → NoWordDiffers P a b
   same-key e = byCase (policyWord P a)

@@ -249,7 +249,7 @@ hiddenChild =
           ∷ [];
     }
 
--- Staff sees places alone; `mark` is a policy word by a rule of another subject, and the names are by its `$`.
+-- Staff sees places alone, and has update everywhere; `mark` is a policy word by a rule of another subject, and the names are by its `$`.
 abbrev pub wordsOfOthers : Case
 wordsOfOthers =
     record {
@@ -258,11 +258,14 @@ wordsOfOthers =
           ok "(subject staff)"
           ∷ ok "(subject all)"
           ∷ ok "(rule accept position //* staff)"
+          ∷ ok "(rule accept update //* staff)"
           ∷ ok "(rule accept read //mark/$ all)"
           ∷ ok "(root school)"
           ∷ ok "(user staff)"
           -- command paths run on the stored labels
           ∷ "(query /school)" gives "(end 0)\n"
+          -- rename without read: 000's axiom 19 forgets it
+          ∷ "(rename //* hall)" gives "(done 1 0)\n"
           -- policy words of the reader's rules alone; rename into a policy word
           ∷ "(rename //* mark)" refused 9
           -- `$` without the subjects' names
