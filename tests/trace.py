@@ -1,6 +1,6 @@
 #!/usr/bin/env python3
 """Docs that name what is there: each definition, law, function, file and edit that docs/TRACE.md names in its columns stands in the crates. README.md's list of
-the definitions to be believed has each file with its lines, blank ones and imports apart, and their sum, below 1,500.
+the definitions to be believed has the lines of each, blank ones and imports apart, and their sum, below 1,500.
 
 A name in backquotes that is one word is a definition or a law (`specs/`, `proofs/`) or a function (`src/`); `module::function` is a function of that module; CRATE/NAME in the last
 column is an edit. The last line is `N passed, M failed`, a name counted once.
@@ -62,12 +62,25 @@ for number, row in enumerate(open("docs/TRACE.md"), 1):
                 there = [p for end in ("", ".antt", ".rt") for p in glob.glob("crates/%s/%s/%s%s" % (crate, part, name, end))]
                 look("file", "/".join((crate, part, name)), there, number)
 
-rows = re.findall(r"(?m)^\| ([a-z]+/specs/\w+) \| .* \| (\d+) \|$", open("README.md").read())
+
+
+def declared(block, name):
+    return re.search(r"(?m)^\s*(?:abbrev |unfoldable )?(?:pub )?(?:data |record )?%s(?: |$)" % re.escape(name), block)
+
+
+# README.md's list: a file, `whole` or the definitions of it that are to be read, what they say, their lines
 total = 0
-for name, said in rows:
+rows = re.findall(r"(?m)^\| ([a-z]+/specs/\w+) \| ([^|]*) \| [^|]* \| (\d+) \|$", open("README.md").read())
+for name, which, said in rows:
     path = "crates/%s.antt" % name
-    there = os.path.isfile(path)
-    count = sum(1 for line in open(path) if line.strip() and not re.match(r"(pub )?use ", line)) if there else 0
+    text = open(path).read() if os.path.isfile(path) else ""
+    blocks = ["\n".join(line for line in block.split("\n") if line and not re.match(r"(pub )?use ", line)) for block in re.split(r"\n\s*\n", text)]
+    if which != "whole":
+        names = re.findall(r"`([^`]+)`", which)
+        missing = [one for one in names if not any(declared(block, one) for block in blocks)]
+        wrong.extend("README.md: %s has no `%s`" % (name, one) for one in missing)
+        blocks = [block for block in blocks if any(declared(block, one) for one in names)]
+    count = sum(len([line for line in block.split("\n") if line.strip()]) for block in blocks)
     total += count
     seen.add(("README", name))
     if count != int(said):
