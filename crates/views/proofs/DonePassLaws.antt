@@ -1,4 +1,4 @@
--- The pass that marks what a change does: its step and its end. Assumes nothing.
+-- The pass that marks what a change does: its step and its end, and the marks once those of policy words are cleared. Assumes nothing.
 use Prim.Native.Nat.{ℕ, zero, suc, _+_, _*_, _-_, _%_, _≤_, _<_}
 use mathlib.Core.Bool.{Bool, true, false, cond, not, _&&_, and-true}
 use mathlib.Core.Path.{_≡_, refl, sym, ap, ap₂, _∙_, fun-ext}
