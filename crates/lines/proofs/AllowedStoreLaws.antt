@@ -78,7 +78,7 @@ module _ (s : List ℕ) (ok : stateOk s ≡ true) where
     stages : stage s ≤ 4
     user : userByte s ≤ subjectCount (policyBytes s)
     spare : zeros s 2 6 ≡ true
-    rules : (eqb (ruleCount (policyBytes s)) 0 || leb 1 (stage s)) ≡ true
+    rules : stage s ≡ 0 → ruleCount (policyBytes s) ≡ 0
     logged : Bool·beq (eqb (stage s) 4) (leb 1 (userByte s)) ≡ true
 
   passed : Passed
@@ -91,7 +91,7 @@ module _ (s : List ℕ) (ok : stateOk s ≡ true) where
         stages = leb-true _ _ (f .1 .1 .0);
         user = leb-true _ _ (f .1 .1 .1 .0);
         spare = f .1 .1 .1 .1 .0;
-        rules = f .1 .1 .1 .1 .1 .0;
+        rules = λ e. or-split (eqb (ruleCount (policyBytes s)) 0) _ (f .1 .1 .1 .1 .1 .0) (λ q. eqb-true _ _ q) (λ q. absurd (omega (arith, e, leb-true 1 (stage s) q)));
         logged = f .1 .1 .1 .1 .1 .1;
       }
 
@@ -102,9 +102,7 @@ module _ (s : List ℕ) (ok : stateOk s ≡ true) where
       record {
         policy = policy-allowed (policyBytes s) (h .policy) .allowed;
         stage = h .stages;
-        rules = λ e. or-split (eqb (ruleCount (policyBytes s)) 0) (leb 1 (stage s)) (h .rules)
-            (λ q. no-rules (policyBytes s) (eqb-true _ _ q))
-            (λ q. absurd (omega (arith, e, leb-true 1 (stage s) q)));
+        rules = λ e. no-rules (policyBytes s) (h .rules e);
         user = λ u e.
             let b = user-is (userByte s) u e in
             (eqb-true (stage s) 4 (a .1 (le-leb 1 (userByte s) (omega (arith, b)))), omega (arith, b, h .user, names-length (policyBytes s)));

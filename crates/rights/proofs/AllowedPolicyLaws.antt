@@ -1,19 +1,19 @@
 -- A policy that passes the check is one that document 01 allows, and its bytes hold it and nothing else. Assumes nothing.
 use Prim.Native.Nat.{ℕ, zero, suc, _+_, _*_, _-_, _≤_, _<_}
 use mathlib.Core.Path.{_≡_, refl, sym, ap, ap₂, _∙_, subst}
-use mathlib.Core.Bool.{Bool, true, false, not, false≢true, and-eq-true-iff}
-use mathlib.Core.List.{List, [], _∷_, _++_, map}
+use mathlib.Core.Bool.{true, false, not, false≢true, and-eq-true-iff}
+use mathlib.Core.List.{List, [], _∷_, _++_}
 use native.Mathlib.Nat.{zero-add}
 use native.Mathlib.Omega.{arith}
 use borrow.Author.Tests.{leb-true, ltb-true, eqb-true, eq-eqb, not-true}
-use lib.Dec.{eqb, leb}
+use lib.Dec.{eqb}
 use lib.ListN.{length, getD, take, drop, replicate, take-append-drop, length-drop}
 use lib.Seq.{take-add, take-all, length-take-le, drop-drop}
 use Rattle.rights.specs.Bytes.{every, zeros}
 use Rattle.rights.specs.Marks.{bit, eachFrom}
 use Rattle.rights.specs.Labels.{sameLabel}
 use Rattle.rights.specs.Path.{Axis, Test, Child, any}
-use Rattle.rights.specs.Policy.{position, read, insert, update, delete, Rule, Policy, nameOf}
+use Rattle.rights.specs.Policy.{position, read, insert, update, delete, nameOf}
 use Rattle.rights.specs.PolicyBytes.{subjectCount, isaCount, ruleCount, subjectAt, isaAt, ruleAt, stepsAt, nameAt, isaN, isaR, accepts, rightBit, whose, stepCount, stepOf, storedPath, ruleOf, policyOf}
 use Rattle.rights.specs.PolicyCheck.{textOk, stepOk, bitOk, ruleOk, subjectOk, sameIsa, isaOk, policyOk}
 use Rattle.rights.specs.Record.{nameRecord}

@@ -1,15 +1,13 @@
 -- A table passes the check exactly if it holds the nodes of a tree that document 01 allows, and nothing else. Assumes nothing.
-use Prim.Native.Nat.{ℕ, suc, _+_, _*_, _-_, _/_, _≤_, _<_, min}
+use Prim.Native.Nat.{ℕ, _+_, _*_, _-_, _≤_, _<_}
 use mathlib.Core.Path.{_≡_, refl, sym, ap, ap₂, _∙_}
 use mathlib.Core.Bool.{true}
 use mathlib.Core.List.{List, [], _∷_, _++_, map}
-use native.Mathlib.Numerals.{add-one}
 use native.Mathlib.Omega.{arith}
 use lib.ListN.{length, getD, take, drop, replicate, take-append-drop, length-drop, length-map, List·getD-map}
 use lib.Seq.{drop-drop}
-use Rattle.rights.specs.Bytes.{all, isZero}
-use Rattle.rights.specs.Nodes.{Node, node, levelOf, labelOf, Nodes, TreeShaped}
-use Rattle.rights.specs.Table.{recordAt, recordsFrom, level, label, recordOk, recordsOk, count, capacity, records, tableOk}
+use Rattle.rights.specs.Nodes.{node, levelOf, labelOf, Nodes}
+use Rattle.rights.specs.Table.{recordAt, level, recordOk, recordsOk, count, records, tableOk}
 use Rattle.rights.specs.Record.{noSpare}
 use Rattle.rights.specs.Allowed.{All, LabelOk, AllowedNodes}
 use Rattle.rights.specs.Held.{join, tableBytes, nodeBytes, nodeIn, storedNodes, HoldsNodes}
@@ -36,7 +34,7 @@ below : (l : ℕ) (rs : List (List ℕ)) → Full rs → recordsOk 1 (l + 1) rs 
 unfolding recordsOk
 below l [] h e = record { linked = tt; levels = tt; labels = tt; made = refl }
 below l (r ∷ rs) h e =
-    let f = both (recordOk 1 (l + 1) r) (recordsOk 1 (level r + 1) rs) e in
+    let f = both (recordOk 1 (l + 1) r) _ e in
     let v = record-levels 1 (l + 1) r (f .0) in
     let b = below (level r) rs (h .1) (f .1) in
     record {
@@ -50,7 +48,7 @@ allowed-records : (rs : List (List ℕ)) → Full rs → recordsOk 0 0 rs ≡ tr
 unfolding recordsOk
 allowed-records [] h e = (record { shape = nothing-nested; levels = tt; labels = tt }, refl)
 allowed-records (r ∷ rs) h e =
-    let f = both (recordOk 0 0 r) (recordsOk 1 (level r + 1) rs) e in
+    let f = both (recordOk 0 0 r) _ e in
     let v = record-levels 0 0 r (f .0) in
     let b = below (level r) rs (h .1) (f .1) in (
       record {

@@ -1,26 +1,26 @@
 -- A policy that document 01 allows passes the check as it is held, and is read again. Assumes nothing.
-use Prim.Native.Nat.{ℕ, zero, suc, _+_, _*_, _-_, _≤_, _<_}
+use Prim.Native.Nat.{ℕ, _+_, _*_, _-_, _≤_, _<_}
 use mathlib.Core.Path.{_≡_, refl, sym, ap, ap₂, _∙_}
-use mathlib.Core.Bool.{Bool, true, false, not, _&&_}
-use mathlib.Core.List.{List, [], _∷_, _++_, map}
+use mathlib.Core.Bool.{Bool, true, false, not}
+use mathlib.Core.List.{List, [], _∷_, _++_}
 use native.Mathlib.Nat.{zero-add, add-zero}
 use native.Mathlib.Omega.{arith}
 use borrow.Author.Tests.{le-leb, lt-ltb, eqb-true}
-use lib.Dec.{lit<, eqb, leb, ltb}
+use lib.Dec.{lit<, eqb}
 use lib.ListN.{length, getD, take, drop, length-append}
 use lib.Seq.{getD-take, getD-drop, take-length}
-use Rattle.rights.specs.Bytes.{all, isZero, every, zeros}
+use Rattle.rights.specs.Bytes.{all, isZero, zeros}
 use Rattle.rights.specs.Marks.{bit, eachFrom}
 use Rattle.rights.specs.Labels.{sameLabel}
 use Rattle.rights.specs.Path.{Axis, Test, Child, any}
 use Rattle.rights.specs.Policy.{Right, position, read, insert, update, delete, bitOf, Rule, Policy, nameOf}
-use Rattle.rights.specs.PolicyBytes.{subjectCount, isaCount, ruleCount, subjectAt, isaAt, ruleAt, stepsAt, nameAt, isaN, isaR, accepts, rightBit, whose, stepCount, stepOf, storedPath, ruleOf, policyOf}
+use Rattle.rights.specs.PolicyBytes.{subjectCount, isaAt, ruleAt, stepsAt, nameAt, isaN, isaR, whose, stepCount, stepOf, storedPath, ruleOf, policyOf}
 use Rattle.rights.specs.PolicyCheck.{textOk, stepOk, bitOk, ruleOk, subjectOk, sameIsa, isaOk, policyOk}
 use Rattle.rights.specs.Record.{noSpare, nameRecord}
 use Rattle.rights.specs.Table.{recAt, label}
 use Rattle.rights.specs.Allowed.{All, LabelOk, AllowedIsa, AllowedTest, AllowedRule, AllowedPolicy}
 use Rattle.rights.specs.Held.{inPlaces, isaBytes, stepRecord, ruleHead, ruleBytes, policyHead, heldPolicy, HoldsPolicy}
-use Rattle.rights.proofs.AllLaws.{all-nth, all-with, each-of, steps-each, listed, policy-listed}
+use Rattle.rights.proofs.AllLaws.{all-nth, all-with, each-of, steps-each, policy-listed}
 use Rattle.rights.proofs.EveryLaws.{every-all}
 use Rattle.rights.proofs.PartLaws.{part-split}
 use Rattle.rights.proofs.PlaceLaws.{Wide, Places, length-places, bytes-places}

@@ -1,8 +1,8 @@
 -- A step that is held passes the check and is read again; and a step that passes is one that may be held. Assumes nothing.
 use Prim.Native.Nat.{ℕ, zero, suc, _+_, _≤_}
 use mathlib.Core.Path.{_≡_, refl, sym, ap, ap₂, _∙_, subst}
-use mathlib.Core.Bool.{Bool, true, _||_, or-true, and-eq-true-iff}
-use mathlib.Core.List.{List, [], _∷_, _++_}
+use mathlib.Core.Bool.{true, _||_, or-true, and-eq-true-iff}
+use mathlib.Core.List.{List, [], _∷_}
 use native.Mathlib.Omega.{arith}
 use borrow.Author.Tests.{le-leb, ne-eqb, leb-true, eqb-true}
 use lib.Dec.{lit<, eqb}
@@ -17,7 +17,7 @@ use Rattle.rights.specs.PolicyCheck.{textOk, signOk, stepOk}
 use Rattle.rights.specs.Record.{noSpare, padded, recordOf, nameRecord}
 use Rattle.rights.specs.Table as table
 use Rattle.rights.specs.Table.{recAt, level}
-use Rattle.rights.specs.Allowed.{LabelOk, AllowedTest}
+use Rattle.rights.specs.Allowed.{AllowedTest}
 use Rattle.rights.specs.Held.{axisByte, stepRecord}
 use Rattle.rights.proofs.BoolLaws.{or-split}
 use Rattle.rights.proofs.PathComplete.{label-not}

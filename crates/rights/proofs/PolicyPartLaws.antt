@@ -7,8 +7,7 @@ use borrow.Author.Tests.{leb-true, eqb-true, eq-eqb}
 use lib.Dec.{leb, ltb}
 use lib.ListN.{length, getD}
 use Rattle.rights.specs.Bytes.{every, zeros}
-use Rattle.rights.specs.Policy.{Rule}
-use Rattle.rights.specs.PolicyBytes.{subjectCount, isaCount, ruleCount, subjectAt, isaAt, ruleAt, stepsAt, isaN, isaR, rightBit, whose, stepCount, namesFrom, isaFrom, rulesFrom, policyOf}
+use Rattle.rights.specs.PolicyBytes.{subjectCount, isaCount, ruleCount, subjectAt, isaAt, ruleAt, stepsAt, isaN, isaR, rightBit, whose, stepCount}
 use Rattle.rights.specs.PolicyCheck.{stepOk, bitOk, ruleOk, subjectOk, sameIsa, isaOk, subjectsOk, isasOk, rulesOk, policyOk}
 
 -- what makes an isa line, a rule, and each part of a policy

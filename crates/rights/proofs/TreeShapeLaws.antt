@@ -1,7 +1,7 @@
 -- What makes a list of nodes a tree, node by node. Assumes nothing.
 use Prim.Native.Nat.{ℕ, zero, suc, _≤_, _<_}
 use mathlib.Core.Path.{_≡_, refl}
-use mathlib.Core.List.{List, [], _∷_}
+use mathlib.Core.List.{[], _∷_}
 use native.Mathlib.Omega.{arith}
 use lib.ListN.{length}
 use Rattle.rights.specs.Nodes.{Node, Nodes, levelOf, levelAt, TreeShaped}
