@@ -1,6 +1,5 @@
 pub mod FormParts
 pub mod LineLaws
-pub mod ChecksOrdered
 pub mod ClauseLaws
 pub mod ConditionLaws
 pub mod NameRows

@@ -26,7 +26,7 @@ use Rattle.forms.proofs.CommandLaws.{command-or-none, none-written}
 use Rattle.answers.specs.AnswerChoice.{Choice}
 use Rattle.lines.specs.Effect.{guarded, checksIn, performed}
 use Rattle.lines.specs.Outcome.{says, refuses, Outcome}
-use Rattle.lines.specs.Refusal.{Check, check, areaCheck, badStore, badLine, noForm, checked, indexIn, rising}
+use Rattle.lines.specs.Refusal.{Check, check, areaCheck, badStore, badLine, noForm, checked, indexIn, rising, Ordered}
 use Rattle.lines.specs.State.{stage, userByte, policyBytes, policyIn, storeOk}
 use Rattle.lines.specs.Work.{onView, workInsert}
 use Rattle.lines.proofs.StateLaws.{store-held}
@@ -92,31 +92,31 @@ module _ (choice : Choice) (s t : List ℕ) (L : Conditions) (ls : List Check) w
   own-tells (command.remove p) g ok h w = path-tells p w
 
 module _ (choice : Choice) (s t : List ℕ) (room : ℕ) where
-  abbrev checksFor : Command → List Check
+  abbrev pub checksFor : Command → List Check
   checksFor c = checksIn room (guarded (frontChecks c s t) (clause choice c s t))
 
   -- the checks of each form stand in the paper's order, each with the number of its row
-  record Shaped (c : Command) : Type 0 where
-    numbers : (line : List ℕ) (g : GoodCommand c) (e : line ≡ written c) → numbered (refusals choice s t room (table.says c g e)) (checksFor c) ≡ true
-    ordered : rising 0 (checksFor c) ≡ true
+  pub record InOrder (c : Command) : Type 0 where
+    pub numbers : (line : List ℕ) (g : GoodCommand c) (e : line ≡ written c) → numbered (refusals choice s t room (table.says c g e)) (checksFor c) ≡ true
+    pub ordered : Ordered (checksFor c)
 
-  shaped : (c : Command) → Shaped c
+  pub checks-ordered : (c : Command) → InOrder c
   unfolding rising indexIn
-  shaped (command.subject n) = record { numbers = λ l g e. refl; ordered = refl }
-  shaped (command.isa n r) = record { numbers = λ l g e. refl; ordered = refl }
-  shaped (command.rule a r p n) = record { numbers = λ l g e. refl; ordered = refl }
-  shaped (command.root l) = record { numbers = λ l g e. refl; ordered = refl }
-  shaped (command.child u) = record { numbers = λ l g e. refl; ordered = refl }
-  shaped (command.user n) = record { numbers = λ l g e. refl; ordered = refl }
-  shaped command.view = record { numbers = λ l g e. refl; ordered = refl }
-  shaped (command.query p) = record { numbers = λ l g e. refl; ordered = refl }
-  shaped (command.find p) = record { numbers = λ l g e. refl; ordered = refl }
-  shaped (command.rename p l) = record { numbers = λ l g e. refl; ordered = refl }
-  shaped (command.update p l) = record { numbers = λ l g e. refl; ordered = refl }
-  shaped (command.append p u) = record { numbers = λ l g e. refl; ordered = refl }
-  shaped (command.before p u) = record { numbers = λ l g e. refl; ordered = refl }
-  shaped (command.after p u) = record { numbers = λ l g e. refl; ordered = refl }
-  shaped (command.remove p) = record { numbers = λ l g e. refl; ordered = refl }
+  checks-ordered (command.subject n) = record { numbers = λ l g e. refl; ordered = refl }
+  checks-ordered (command.isa n r) = record { numbers = λ l g e. refl; ordered = refl }
+  checks-ordered (command.rule a r p n) = record { numbers = λ l g e. refl; ordered = refl }
+  checks-ordered (command.root l) = record { numbers = λ l g e. refl; ordered = refl }
+  checks-ordered (command.child u) = record { numbers = λ l g e. refl; ordered = refl }
+  checks-ordered (command.user n) = record { numbers = λ l g e. refl; ordered = refl }
+  checks-ordered command.view = record { numbers = λ l g e. refl; ordered = refl }
+  checks-ordered (command.query p) = record { numbers = λ l g e. refl; ordered = refl }
+  checks-ordered (command.find p) = record { numbers = λ l g e. refl; ordered = refl }
+  checks-ordered (command.rename p l) = record { numbers = λ l g e. refl; ordered = refl }
+  checks-ordered (command.update p l) = record { numbers = λ l g e. refl; ordered = refl }
+  checks-ordered (command.append p u) = record { numbers = λ l g e. refl; ordered = refl }
+  checks-ordered (command.before p u) = record { numbers = λ l g e. refl; ordered = refl }
+  checks-ordered (command.after p u) = record { numbers = λ l g e. refl; ordered = refl }
+  checks-ordered (command.remove p) = record { numbers = λ l g e. refl; ordered = refl }
 
   -- What a line's checks are, and what they tell
   record Told {line : List ℕ} (w : Says line) : Type 0 where
@@ -126,7 +126,7 @@ module _ (choice : Choice) (s t : List ℕ) (room : ℕ) where
     said : answer .reply ≡ says text
     is : step choice s t line room ≡ checked checks s t answer
     numbers : numbered (refusals choice s t room w) checks ≡ true
-    ordered : rising 0 checks ≡ true
+    ordered : Ordered checks
     tells : Tells (refusals choice s t room w) checks
 
   told : {line : List ℕ} (w : Says line) → Told w
@@ -140,8 +140,8 @@ module _ (choice : Choice) (s t : List ℕ) (room : ℕ) where
         text = clause choice c s t .text;
         said = refl;
         is = z;
-        numbers = shaped c .numbers line g e;
-        ordered = shaped c .ordered;
+        numbers = checks-ordered c .numbers line g e;
+        ordered = checks-ordered c .ordered;
         tells = (
           not-told (storeOk s t),
           λ a. (

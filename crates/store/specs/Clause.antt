@@ -1,5 +1,5 @@
 -- What each form does, on the values that its line writes (document 01, "Lines", "Changes", "What is written", "Who can be turned down"): one clause a form.
--- Law step-written: the answer to a line that writes a command is the command's clause; no other line is any (law step-unwritten).
+-- A line that writes a command does what its clause says (law step-written); every other line is refused (law step-unwritten).
 use Prim.Native.Nat.{ℕ}
 use mathlib.Core.Bool.{not}
 use mathlib.Core.List.{List, [], _∷_}

@@ -1,6 +1,6 @@
 -- The refusals in one table (document 01, "Who can be turned down, and for what"): for each form the numbers that it may be refused with, in the paper's
--- order, each with its condition in the paper's words. Law refused-exactly: a line is refused with a number exactly if the number's condition holds and none
--- before it does; law accepted-exactly: it is accepted exactly if none holds.
+-- order, each with its condition in the paper's words. A line is refused with a number exactly if the number's condition holds and none before it does
+-- (law refused-exactly), and accepted exactly if none holds (law accepted-exactly).
 use Prim.Native.Nat.{ℕ, _+_, _*_, _≤_, _<_}
 use mathlib.Core.Path.{_≡_}
 use mathlib.Core.Bool.{Bool, true, false}
@@ -78,7 +78,7 @@ TreeRestricted u = Some (λ n. IsRestricted (labelOf n)) (nodesOf 0 u)
 abbrev pub DeepAt : ℕ → Tree → Type 0
 DeepAt l u = Some (λ n. 11 < levelOf n) (nodesOf l u)
 
--- Rows of numbers and their conditions
+-- Rows: a number, and its condition
 abbrev pub Conditions : Type 1
 Conditions = List (ℕ × Type 0)
 
@@ -134,7 +134,7 @@ pub data Says (line : List ℕ) : Type 0 where
   says : (c : Command) → GoodCommand c → line ≡ written c → Says line
   nothing : ((c : Command) → GoodCommand c → line ≡ written c → ⊥) → Says line
 
--- "13 is tested first, then 1 to 12 rising": the rows of a line; "2 no form listed above", "12 answer area shorter than the answer"
+-- the rows of a line: 13, 1 and 2 or 3 in front of its form's own, behind them "12 answer area shorter than the answer"
 abbrev pub refusals : Choice → List ℕ → List ℕ → ℕ → {line : List ℕ} → Says line → Conditions
 refusals choice s t room {line} (says c g e) =
     (13, storeOk s t ≡ false)
