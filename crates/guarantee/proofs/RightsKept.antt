@@ -11,6 +11,7 @@ use Rattle.rights.specs.Policy.{Policy}
 use Rattle.rights.specs.PolicyBytes.{policyOf}
 use Rattle.rights.specs.Rights.{rightsBy, chains, rightsOn}
 use Rattle.rights.specs.Table.{records, tableOk}
+use Rattle.rights.proofs.ChainLaws.{chains-length}
 use Rattle.views.specs.Nodes.{tags, All}
 use Rattle.answers.specs.AnswerChoice.{Choice}
 use Rattle.forms.specs.Form.{readForm}
@@ -65,11 +66,6 @@ tagged-set Q ((r, none) ∷ ns) (x ∷ ss) zero i h a e = absurd (let z : _≡_ 
 tagged-set Q ((r, some j) ∷ ns) (x ∷ ss) zero i h a e = let z : j ≡ i = cc in rw (← z) (a .0)
 tagged-set Q ((r, none) ∷ ns) (x ∷ ss) (suc k) i h a e = tagged-set Q ns ss k i (omega arith) a e
 tagged-set Q ((r, some j) ∷ ns) (x ∷ ss) (suc k) i h a e = tagged-set Q ns ss k i (omega arith) (a .1) e
-
-chains-length : (c rs : List (List ℕ)) → length (chains c rs) ≡ length rs
-unfolding chains
-chains-length c [] = refl
-chains-length c (r ∷ rs) = ap suc (chains-length _ rs)
 
 sets-length : (P : Policy) (u : ℕ) (ns : List Tagged) → length (rightsOn P u (map (λ n. n .0) ns)) ≡ length ns
 sets-length P u ns = length-map (chains [] (map (λ n. n .0) ns)) (rightsBy P u) ∙ chains-length [] (map (λ n. n .0) ns) ∙ length-map ns (λ n. n .0)

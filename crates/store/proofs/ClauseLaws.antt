@@ -87,6 +87,6 @@ path-selected : (p : Path) (mine : List ℕ → Bool) (ns : Nodes) (i : ℕ) →
 unfolding xpathSelected
 path-selected p mine ns i w = rw (complete p w)
 
-pub marks-xpath : (s t : List ℕ) (p : Path) → Within p
+pub written-marks : (s t : List ℕ) (p : Path) → Within p
     → marksIn s t (write p) ≡ eachFrom (λ i. has i (nodeSet p (passesOwn (policyIn s) (userOf s)) (viewIn s t) document)) 0 (length (viewIn s t))
-marks-xpath s t p w = ap (λ f. eachFrom f 0 (length (viewIn s t))) (fun-ext (λ i. path-selected p (passesOwn (policyIn s) (userOf s)) (viewIn s t) i w))
+written-marks s t p w = ap (λ f. eachFrom f 0 (length (viewIn s t))) (fun-ext (λ i. path-selected p (passesOwn (policyIn s) (userOf s)) (viewIn s t) i w))
