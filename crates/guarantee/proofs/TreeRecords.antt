@@ -20,7 +20,7 @@ use Rattle.forms.specs.TreeText.{GoodLabel, GoodTree, GoodTrees}
 use Rattle.forms.specs.Form.{treeIn}
 use Rattle.lines.proofs.StoredSteps.{or-none}
 use Rattle.store.proofs.FormParts.{TreePart}
-use Rattle.store.proofs.TreeRows.{Labelled, nodeRecords, good-labels, tree-chunks}
+use Rattle.lines.proofs.TreeRows.{Labelled, nodeRecords, good-labels, tree-chunks}
 
 abbrev nodeLevel : Node → ℕ
 nodeLevel (node l x) = l

@@ -14,3 +14,7 @@ pub mod ChangeLaws
 pub mod ViewReadBack
 pub mod StoreXPathLaws
 pub mod AllowedStoreLaws
+pub mod ConditionLaws
+pub mod NameRows
+pub mod TreeRows
+pub mod OwnRows

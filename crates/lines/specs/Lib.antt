@@ -6,4 +6,6 @@ pub mod PolicyEdit
 pub mod UserView
 pub mod Effect
 pub mod Work
+pub mod Clause
+pub mod Conditions
 pub mod How

@@ -13,7 +13,6 @@ use Rattle.rights.specs.XPath.{has, nodeSet, document, xpathSelected}
 use Rattle.rights.proofs.ListLaws.{byCase}
 use Rattle.rights.proofs.PathComplete.{complete}
 use Rattle.views.specs.declared.insert.Place.the-variants as place
-use Rattle.rights.specs.Tree.{sizeOf}
 use Rattle.forms.specs.declared.form.Form.{Form}
 use Rattle.forms.specs.Text.{lineOk}
 use Rattle.forms.specs.Tree.{recordsOf}
@@ -29,7 +28,8 @@ use Rattle.lines.specs.Refusal.{Check, check, badStore, badLine, noForm, wrongS
 use Rattle.lines.specs.Effect.{guarded, performed}
 use Rattle.lines.specs.Work.{workChild, workInsert}
 use Rattle.store.specs.Line.{inStage, lineChecks, workOf, step}
-use Rattle.store.specs.Clause.{stageFor, clause, frontChecks}
+use Rattle.lines.specs.Clause.{stageFor, sizeOf, clause}
+use Rattle.store.specs.Refusals.{frontChecks}
 
 module _ (choice : Choice) (s t : List ℕ) (room : ℕ) where
   -- a form that says a command has the command's stage and the command's clause

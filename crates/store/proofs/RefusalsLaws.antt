@@ -2,24 +2,17 @@
 -- if no condition holds. Assumes nothing.
 use Prim.Native.Nat.{ℕ, _≤_, _<_}
 use mathlib.Core.Path.{_≡_, refl, ap, _∙_}
-use mathlib.Core.Bool.{Bool, true, false, not, _||_, Bool·beq}
-use mathlib.Core.List.{List, [], _∷_, _++_}
+use mathlib.Core.Bool.{Bool, true, false, not, Bool·beq}
+use mathlib.Core.List.{List, [], _∷_}
 use mathlib.Core.Logic.{_⊎_, inl, inr, ⊎-elim, _↔_}
 use native.Mathlib.Omega.{arith}
-use borrow.Author.Tests.{leb-true, leb-false, not-false}
-use lib.Dec.{leb}
+use borrow.Author.Tests.{leb-true, leb-false, le-leb, lt-leb, ltb-true, ltb-false, lt-ltb, not-true, not-false}
+use lib.Dec.{leb, ltb}
 use lib.ListN.{length}
-use Rattle.rights.specs.Labels.{sameLabel, restricted}
-use Rattle.rights.specs.Policy.{policyWord}
+use Rattle.rights.specs.Bytes.{all}
 use Rattle.rights.specs.Table.{count}
-use Rattle.rights.specs.Tree.{Tree, sizeOf}
-use Rattle.rights.proofs.BoolLaws.{or-left, or-right, or-split}
 use Rattle.rights.proofs.ListLaws.{byCase}
-use Rattle.views.specs.Change.{free}
-use Rattle.views.specs.declared.insert.Place.{Place}
-use Rattle.views.specs.declared.insert.Place.the-variants as place
-use Rattle.forms.specs.Text.{lineOk}
-use Rattle.forms.specs.TreeText.{GoodTree}
+use Rattle.forms.specs.Text.{lineByte, lineOk}
 use Rattle.forms.specs.Command.{Command, written, GoodCommand}
 use Rattle.forms.specs.Command as command
 use Rattle.forms.proofs.CommandLaws.{command-or-none, none-written}
@@ -27,69 +20,79 @@ use Rattle.answers.specs.AnswerChoice.{Choice}
 use Rattle.lines.specs.Effect.{guarded, checksIn, performed}
 use Rattle.lines.specs.Outcome.{says, refuses, Outcome}
 use Rattle.lines.specs.Refusal.{Check, check, areaCheck, badStore, badLine, noForm, checked, indexIn, rising, Ordered}
-use Rattle.lines.specs.State.{stage, userByte, policyBytes, policyIn, storeOk}
-use Rattle.lines.specs.Work.{onView, workInsert}
+use Rattle.lines.specs.State.{stage, storeOk}
+use Rattle.lines.specs.Clause.{stageFor, clause}
+use Rattle.lines.specs.Conditions.{Some, Holds, First}
 use Rattle.lines.proofs.StateLaws.{store-held}
+use Rattle.lines.proofs.OwnRows.{own-tells}
+use Rattle.lines.proofs.ConditionLaws.{numbered, Tells, clash, first-exactly, none-exactly}
+use Rattle.lines.proofs.NameRows.{not-told, less-told}
 use Rattle.store.specs.Line.{inStage, step}
-use Rattle.store.specs.Clause.{stageFor, treeBytes, clause, frontChecks}
 use Rattle.store.specs.Refusals as table
-use Rattle.store.specs.Refusals.{Conditions, BadLine, pathRows, insertRows, rows, Says, nothing, refusals, Holds, First}
+use Rattle.store.specs.Refusals.{frontChecks, BadLine, Says, nothing, refusals}
 use Rattle.store.proofs.ClauseLaws.{step-written, step-unwritten}
-use Rattle.store.proofs.ConditionLaws.{numbered, Tells, clash, first-exactly, none-exactly}
-use Rattle.store.proofs.NameRows.{not-told, less-told, equal-told, line-told, stage-told, path-told, bracket-told, restricted-told, unknown-told, declared-told, before-told, repeated-told, subjects-told, isa-told, rules-told}
-use Rattle.store.proofs.TreeRows.{tree-told, place-told, places-room-told, child-told, child-room-told}
 
-same : {A : Type 0} → A ↔ A
-same = (λ x. x, λ x. x)
+-- 1
 
-or-told : (a b : Bool) → ((a ≡ true) ⊎ (b ≡ true)) ↔ (a || b ≡ true)
-or-told a b = (⊎-elim (or-left a b) (or-right a b), λ e. or-split a b e inl inr)
+byte-told : (b : ℕ) → ((b < 32) ⊎ (126 < b)) ↔ (lineByte b ≡ false)
+unfolding lineByte
+byte-told b = (
+  ⊎-elim (λ h. rw (lt-leb 32 b h)) (λ h. byCase (leb 32 b) (λ e. rw (e, lt-leb b 126 h)) (λ e. rw e)),
+  λ e. byCase (leb 32 b) (λ p. byCase (leb b 126) (λ q. clash {b = true} refl (rw (p, q) at e)) (λ q. inr (leb-false b 126 q))) (λ p. inl (leb-false 32 b p)),
+)
+
+all-told : (f : ℕ → Bool) (P : ℕ → Type 0) → ((b : ℕ) → P b ↔ (f b ≡ false)) → (xs : List ℕ) → Some P xs ↔ (all f xs ≡ false)
+unfolding all
+all-told f P h [] = (λ x. absurd x, λ e. clash {b = true} refl e)
+all-told f P h (x ∷ xs) =
+    let ih = all-told f P h xs in (
+      ⊎-elim (λ p. rw (h x .0 p)) (λ q. byCase (f x) (λ e. rw (e, ih .0 q)) (λ e. rw e)),
+      λ e. byCase (f x) (λ b. inr (ih .1 (rw b at e))) (λ b. inl (h x .1 b)),
+    )
+
+line-told : (line : List ℕ) → BadLine line ↔ (not (lineOk line) ≡ true)
+unfolding lineOk
+line-told line =
+    let x = all-told lineByte (λ b. (b < 32) ⊎ (126 < b)) byte-told line in (
+      ⊎-elim (λ h. rw (lt-leb (length line) 1024 h)) (λ q. byCase (leb (length line) 1024) (λ e. rw (e, x .0 q)) (λ e. rw e)),
+      λ e. byCase (leb (length line) 1024) (λ a. inr (x .1 (not-true (all lineByte line) (rw a at e)))) (λ a. inl (leb-false (length line) 1024 a)),
+    )
+
+-- 3: a form of stage k where the state is in stage g
+
+abbrev Wrong : ℕ → ℕ → Type 0
+Wrong k g = (k < g) ⊎ ((2 < k) × (g < 2)) ⊎ ((k ≡ 2) × (2 ≤ g))
+
+stage-told : (k g : ℕ) → Wrong k g ↔ (not (inStage k g) ≡ true)
+stage-told k g = (left, right)
+  where
+    left : Wrong k g → not (inStage k g) ≡ true
+    left (inl h) = rw (lt-leb g k h)
+    left (inr (inl h)) = byCase (leb g k) (λ e. rw (e, lt-ltb 2 k (h .0), lt-leb 2 g (h .1))) (λ e. rw e)
+    left (inr (inr h)) = byCase (leb g k) (λ e. let z : ltb 2 k ≡ false = rw (h .0) in rw (e, z, le-leb 2 g (h .1))) (λ e. rw e)
+
+    right : not (inStage k g) ≡ true → Wrong k g
+    right e =
+        byCase (leb g k)
+        (λ a. byCase (ltb 2 k)
+        (λ b. byCase (leb 2 g)
+        (λ c. let z : false ≡ true = rw (a, b, c) at e in clash {b = false} z refl)
+        (λ c. inr (inl (ltb-true 2 k b, leb-false 2 g c))))
+        (λ b. byCase (leb 2 g)
+        (λ c. inr (inr (omega (arith, leb-true g k a, ltb-false 2 k b, leb-true 2 g c), leb-true 2 g c)))
+        (λ c. let z : false ≡ true = rw (a, b, c) at e in clash {b = false} z refl)))
+        (λ a. inl (leb-false g k a))
 
 -- a root stands where a form behind C is not refused with 3
-root-there : (s t : List ℕ) → storeOk s t ≡ true → inStage 3 (stage s) ≡ true → 1 ≤ count t
-root-there s t ok h =
+root-there : (s t : List ℕ) (k : ℕ) → storeOk s t ≡ true → 2 < k → inStage k (stage s) ≡ true → 1 ≤ count t
+root-there s t k ok l h =
     byCase (leb 2 (stage s))
     (λ e. let q : Bool·beq (leb 2 (stage s)) (leb 1 (count t)) ≡ true = store-held s t ok .root in leb-true 1 (count t) (yes (leb 1 (count t)) (rw e at q)))
-    (λ e. let q : not true ≡ true = rw h at (stage-told 3 (stage s) .0 (inr (inl (omega arith, leb-false 2 (stage s) e)))) in clash {b = false} q refl)
+    (λ e. let q : not true ≡ true = rw h at (stage-told k (stage s) .0 (inr (inl (l, leb-false 2 (stage s) e)))) in clash {b = false} q refl)
   where
     yes : (b : Bool) → Bool·beq true b ≡ true → b ≡ true
     yes true e = refl
     yes false e = e
-
-module _ (choice : Choice) (s t : List ℕ) (L : Conditions) (ls : List Check) where
-  path-tells : (p : List ℕ) → Tells L ls → Tells (pathRows s t p ++ L) (onView p s ++ ls)
-  path-tells p w = (path-told p, λ _. (equal-told (userByte s) 0, λ _. w))
-
-  insert-tells : (at : Place) (p : List ℕ) (u : Tree) → GoodTree u → Tells L ls → Tells (insertRows s t at p u ++ L) (workInsert at s t p (sizeOf u) (treeBytes u) .checks ++ ls)
-  insert-tells at p u g w =
-      (path-told p, λ _. (equal-told (userByte s) 0, λ _. (tree-told u g, λ _. (place-told s t u g at p, λ _. (places-room-told s t u g at p, λ _. w)))))
-
-  -- the own checks of each form beside its own rows
-  own-tells : (c : Command) → GoodCommand c → storeOk s t ≡ true → inStage (stageFor c) (stage s) ≡ true → Tells L ls → Tells (rows s t c ++ L) (clause choice c s t .checks ++ ls)
-  unfolding GoodCommand
-  own-tells (command.subject n) g ok h w = (declared-told (policyIn s) n, λ _. (subjects-told (policyBytes s), λ _. (same, λ _. w)))
-  own-tells (command.isa n r) g ok h w =
-      let p = store-held s t ok .policy in (
-        unknown-told (policyIn s) n,
-        λ kn. (unknown-told (policyIn s) r, λ kr. (before-told (policyBytes s) p n r kn kr, λ _. (repeated-told (policyBytes s) p n r kn kr, λ _. (isa-told (policyBytes s), λ _. w)))),
-      )
-  own-tells (command.rule a r p n) g ok h w =
-      (path-told p, λ _. (unknown-told (policyIn s) n, λ _. (bracket-told p, λ _. (rules-told (policyBytes s), λ _. (restricted-told p, λ _. w)))))
-  own-tells (command.root l) g ok h w = (same, λ _. (less-told (free t) 1, λ _. w))
-  own-tells (command.child u) g ok h w =
-      let k = store-held s t ok .table in
-      let r = root-there s t ok h in
-      (tree-told u g, λ _. (child-told s t u g k r, λ _. (child-room-told s t u g k r, λ _. w)))
-  own-tells (command.user n) g ok h w = (unknown-told (policyIn s) n, λ _. w)
-  own-tells command.view g ok h w = (equal-told (userByte s) 0, λ _. w)
-  own-tells (command.query p) g ok h w = path-tells p w
-  own-tells (command.find p) g ok h w = path-tells p w
-  own-tells (command.rename p l) g ok h w = (path-told p, λ _. (equal-told (userByte s) 0, λ _. (or-told (sameLabel l restricted) (policyWord (policyIn s) l), λ _. w)))
-  own-tells (command.update p l) g ok h w = (path-told p, λ _. (equal-told (userByte s) 0, λ _. (or-told (sameLabel l restricted) (policyWord (policyIn s) l), λ _. w)))
-  own-tells (command.append p u) g ok h w = insert-tells place.Append p u (g .1) w
-  own-tells (command.before p u) g ok h w = insert-tells place.Before p u (g .1) w
-  own-tells (command.after p u) g ok h w = insert-tells place.After p u (g .1) w
-  own-tells (command.remove p) g ok h w = path-tells p w
 
 module _ (choice : Choice) (s t : List ℕ) (room : ℕ) where
   abbrev pub checksFor : Command → List Check
@@ -150,7 +153,7 @@ module _ (choice : Choice) (s t : List ℕ) (room : ℕ) where
               stage-told (stageFor c) (stage s),
               λ b.
                   let n = length (clause choice c s t .text) in
-                  own-tells choice s t ((12, room < n) ∷ []) (areaCheck room n ∷ []) c g (not-false (storeOk s t) a) (not-false (inStage (stageFor c) (stage s)) b) (less-told room n, λ _. tt),
+                  own-tells choice s t ((12, room < n) ∷ []) (areaCheck room n ∷ []) c g (not-false (storeOk s t) a) (λ l. root-there s t (stageFor c) (not-false (storeOk s t) a) l (not-false (inStage (stageFor c) (stage s)) b)) (less-told room n, λ _. tt),
             ),
           ),
         );

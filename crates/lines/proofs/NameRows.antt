@@ -1,14 +1,13 @@
--- Each check of a line, a stage, a path or a name fails exactly if its condition in the paper's words holds. Assumes nothing.
+-- Each check of a path or a name fails exactly if its condition in the paper's words holds. Assumes nothing.
 use Prim.Native.Nat.{ℕ, zero, suc, _≤_, _<_}
 use mathlib.Core.Path.{_≡_, refl, sym, ap, ap₂, _∙_}
 use mathlib.Core.Bool.{Bool, true, false, not, and-eq-true-iff}
 use mathlib.Core.List.{List, [], _∷_}
-use mathlib.Core.Logic.{_⊎_, inl, inr, ⊎-elim, _↔_}
+use mathlib.Core.Logic.{_↔_}
 use native.Mathlib.Omega.{arith}
-use borrow.Author.Tests.{leb-true, leb-false, le-leb, lt-leb, ltb-true, ltb-false, lt-ltb, eqb-true, eq-eqb, not-true}
+use borrow.Author.Tests.{leb-true, le-leb, ltb-true, ltb-false, lt-ltb, eqb-true, eq-eqb, not-true}
 use lib.Dec.{leb, ltb, eqb}
 use lib.ListN.{length, getD}
-use Rattle.rights.specs.Bytes.{all}
 use Rattle.rights.specs.Labels.{sameLabel}
 use Rattle.rights.specs.Path.{Path}
 use Rattle.rights.specs.PathReader.{Got, got, bad, pathOf}
@@ -22,15 +21,13 @@ use Rattle.rights.proofs.PathComplete.{complete}
 use Rattle.rights.proofs.PathSound.{sound}
 use Rattle.rights.proofs.PathWritten.{refused-none}
 use Rattle.rights.proofs.PolicyBytesLaws.{name-held, names-length}
-use Rattle.forms.specs.Text.{lineByte, lineOk}
 use Rattle.lines.specs.PolicyEdit.{subjectNamed, isUnknown, numberIn, isaHeld, bracketed, hasBracket, stepsIn, pathRestricted}
 use Rattle.lines.specs.UserView.{notPath}
 use Rattle.lines.specs.declared.policy_edit.Found.{Found}
 use Rattle.lines.specs.declared.policy_edit.Found.the-variants as found
 use Rattle.lines.proofs.EditTests.{unknown-new, found-named}
-use Rattle.store.specs.Line.{inStage}
-use Rattle.store.specs.Refusals.{Some, BadLine, NoPath, PathThat, Named, Declared, Unknown, NotBefore, Repeated, namesRestricted}
-use Rattle.store.proofs.ConditionLaws.{clash}
+use Rattle.lines.specs.Conditions.{NoPath, PathThat, Named, Declared, Unknown, NotBefore, Repeated, namesRestricted}
+use Rattle.lines.proofs.ConditionLaws.{clash}
 
 pub not-told : (b : Bool) → (b ≡ false) ↔ (not b ≡ true)
 not-told true = (λ e. sym e, λ e. sym e)
@@ -44,57 +41,6 @@ less-told a b = (lt-ltb a b, ltb-true a b)
 
 pub equal-told : (a b : ℕ) → (a ≡ b) ↔ (eqb a b ≡ true)
 equal-told a b = (eq-eqb a b, eqb-true a b)
-
--- 1
-
-byte-told : (b : ℕ) → ((b < 32) ⊎ (126 < b)) ↔ (lineByte b ≡ false)
-unfolding lineByte
-byte-told b = (
-  ⊎-elim (λ h. rw (lt-leb 32 b h)) (λ h. byCase (leb 32 b) (λ e. rw (e, lt-leb b 126 h)) (λ e. rw e)),
-  λ e. byCase (leb 32 b) (λ p. byCase (leb b 126) (λ q. clash {b = true} refl (rw (p, q) at e)) (λ q. inr (leb-false b 126 q))) (λ p. inl (leb-false 32 b p)),
-)
-
-all-told : (f : ℕ → Bool) (P : ℕ → Type 0) → ((b : ℕ) → P b ↔ (f b ≡ false)) → (xs : List ℕ) → Some P xs ↔ (all f xs ≡ false)
-unfolding all
-all-told f P h [] = (λ x. absurd x, λ e. clash {b = true} refl e)
-all-told f P h (x ∷ xs) =
-    let ih = all-told f P h xs in (
-      ⊎-elim (λ p. rw (h x .0 p)) (λ q. byCase (f x) (λ e. rw (e, ih .0 q)) (λ e. rw e)),
-      λ e. byCase (f x) (λ b. inr (ih .1 (rw b at e))) (λ b. inl (h x .1 b)),
-    )
-
-pub line-told : (line : List ℕ) → BadLine line ↔ (not (lineOk line) ≡ true)
-unfolding lineOk
-line-told line =
-    let x = all-told lineByte (λ b. (b < 32) ⊎ (126 < b)) byte-told line in (
-      ⊎-elim (λ h. rw (lt-leb (length line) 1024 h)) (λ q. byCase (leb (length line) 1024) (λ e. rw (e, x .0 q)) (λ e. rw e)),
-      λ e. byCase (leb (length line) 1024) (λ a. inr (x .1 (not-true (all lineByte line) (rw a at e)))) (λ a. inl (leb-false (length line) 1024 a)),
-    )
-
--- 3: a form of stage k where the state is in stage g
-
-abbrev Wrong : ℕ → ℕ → Type 0
-Wrong k g = (k < g) ⊎ ((2 < k) × (g < 2)) ⊎ ((k ≡ 2) × (2 ≤ g))
-
-pub stage-told : (k g : ℕ) → Wrong k g ↔ (not (inStage k g) ≡ true)
-stage-told k g = (left, right)
-  where
-    left : Wrong k g → not (inStage k g) ≡ true
-    left (inl h) = rw (lt-leb g k h)
-    left (inr (inl h)) = byCase (leb g k) (λ e. rw (e, lt-ltb 2 k (h .0), lt-leb 2 g (h .1))) (λ e. rw e)
-    left (inr (inr h)) = byCase (leb g k) (λ e. let z : ltb 2 k ≡ false = rw (h .0) in rw (e, z, le-leb 2 g (h .1))) (λ e. rw e)
-
-    right : not (inStage k g) ≡ true → Wrong k g
-    right e =
-        byCase (leb g k)
-        (λ a. byCase (ltb 2 k)
-        (λ b. byCase (leb 2 g)
-        (λ c. let z : false ≡ true = rw (a, b, c) at e in clash {b = false} z refl)
-        (λ c. inr (inl (ltb-true 2 k b, leb-false 2 g c))))
-        (λ b. byCase (leb 2 g)
-        (λ c. inr (inr (omega (arith, leb-true g k a, ltb-false 2 k b, leb-true 2 g c), leb-true 2 g c)))
-        (λ c. let z : false ≡ true = rw (a, b, c) at e in clash {b = false} z refl)))
-        (λ a. inl (leb-false g k a))
 
 -- 4, 6 and 9 of a rule's path
 

@@ -1,23 +1,21 @@
 -- What each form does, on the values that its line writes (document 01, "Lines", "Changes", "What is written", "Who can be turned down"): one clause a form.
--- A line that writes a command does what its clause says (law step-written); every other line is refused (law step-unwritten).
+-- A line that writes a command does what its clause says (store, law step-written); every other line is refused (law step-unwritten).
 use Prim.Native.Nat.{ℕ}
-use mathlib.Core.Bool.{not}
-use mathlib.Core.List.{List, [], _∷_}
+use mathlib.Core.List.{List}
+use Rattle.rights.specs.Marks.{bit}
 use Rattle.rights.specs.Policy.{bitOf}
-use Rattle.rights.specs.Tree.{Tree, nodesOf, sizeOf}
+use Rattle.rights.specs.Tree.{Tree, nodesOf}
+pub use Rattle.rights.specs.Tree.{sizeOf}
 use Rattle.views.specs.declared.done.Change.the-variants as change
 use Rattle.views.specs.declared.insert.Place.the-variants as place
-use Rattle.forms.specs.Text.{lineOk}
 use Rattle.forms.specs.Tree.{recordsOf}
-use Rattle.forms.specs.Command.{Command, written}
+use Rattle.forms.specs.Command.{Command}
 use Rattle.forms.specs.Command as command
 use Rattle.answers.specs.AnswerChoice.{Choice}
-use Rattle.lines.specs.State.{stageA, stageB, stageC, stageD, stageE, stage, storeOk}
-use Rattle.lines.specs.Refusal.{Check, check, badStore, badLine, wrongStage}
+use Rattle.lines.specs.State.{stageA, stageB, stageC, stageD, stageE}
 use Rattle.lines.specs.Effect.{Work}
 use Rattle.lines.specs.Work.{workSubject, workIsa, workRule, workRoot, workChild, workUser, workView, workAsk, workRename, workInsert, workRemove}
 use Rattle.lines.specs.declared.queries.Ask.the-variants as ask
-use Rattle.store.specs.Line.{inStage, acceptByte}
 
 -- "Stages, in order"
 abbrev pub stageFor : Command → ℕ
@@ -37,7 +35,7 @@ stageFor (command.before p u) = stageE
 stageFor (command.after p u) = stageE
 stageFor (command.remove p) = stageE
 
--- the records of its nodes, the root at level 0
+-- the records of a tree, the root at level 0
 abbrev pub treeBytes : Tree → List ℕ
 treeBytes u = recordsOf (nodesOf 0 u)
 
@@ -45,7 +43,7 @@ treeBytes u = recordsOf (nodesOf 0 u)
 abbrev pub clause : Choice → Command → List ℕ → List ℕ → Work
 clause choice (command.subject n) s t = workSubject s n
 clause choice (command.isa n r) s t = workIsa s n r
-clause choice (command.rule a r p n) s t = workRule s (acceptByte a) (bitOf r) p n
+clause choice (command.rule a r p n) s t = workRule s (bit a) (bitOf r) p n
 clause choice (command.root l) s t = workRoot t l
 clause choice (command.child u) s t = workChild t (sizeOf u) (treeBytes u)
 clause choice (command.user n) s t = workUser s n
@@ -58,11 +56,3 @@ clause choice (command.append p u) s t = workInsert place.Append s t p (sizeOf u
 clause choice (command.before p u) s t = workInsert place.Before s t p (sizeOf u) (treeBytes u)
 clause choice (command.after p u) s t = workInsert place.After s t p (sizeOf u) (treeBytes u)
 clause choice (command.remove p) s t = workRemove s t p
-
--- the checks in front of a form's own: 13, 1 and 3
-abbrev pub frontChecks : Command → List ℕ → List ℕ → List Check
-frontChecks c s t =
-    check badStore (not (storeOk s t))
-    ∷ check badLine (not (lineOk (written c)))
-    ∷ check wrongStage (not (inStage (stageFor c) (stage s)))
-    ∷ []

@@ -10,10 +10,10 @@ use lib.Dec.{leb, ltb, eqb}
 use lib.ListN.{length}
 use Rattle.rights.specs.Bytes.{within}
 use Rattle.rights.proofs.ListLaws.{byCase}
 use Rattle.lines.specs.Outcome.{Reply, says, refuses, Outcome}
 use Rattle.lines.specs.Refusal.{Check, checked, order, indexIn, rank, rising}
 use Rattle.lines.proofs.RefusalLaws.{rank-is}
-use Rattle.store.specs.Refusals.{Conditions, Holds, Before, First}
+use Rattle.lines.specs.Conditions.{Conditions, Holds, Before, First}
 
 -- each check has the number of its row, a known one
 abbrev pub numbered : Conditions → List Check → Bool

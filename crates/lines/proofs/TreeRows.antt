@@ -15,7 +15,7 @@ use Rattle.rights.specs.Nodes.{Node, node, levelOf, labelOf}
 use Rattle.rights.specs.Policy.{some}
 use Rattle.rights.specs.Record.{noSpare, nodeRecord}
 use Rattle.rights.specs.Table.{count, level, label, recordAt, recordsFrom, records, recordOk, recordsOk, tableOk}
-use Rattle.rights.specs.Tree.{Tree, tree, Trees, none, more, nodesOf, nodesIn, sizeOf}
+use Rattle.rights.specs.Tree.{Tree, tree, Trees, none, more, nodesOf, nodesIn}
 use Rattle.rights.proofs.BoolLaws.{or-split, or-left, or-right}
 use Rattle.rights.proofs.ListLaws.{byCase}
 use Rattle.rights.proofs.PathTexts.{and-left, and-right}
@@ -27,12 +27,12 @@ use Rattle.views.proofs.TableKept.{length-records, loosen}
 use Rattle.views.proofs.TableLaws.{facts}
 use Rattle.forms.specs.Tree.{held, recordsOf}
 use Rattle.forms.specs.TreeText.{GoodLabel, GoodTree, GoodTrees}
 use Rattle.lines.specs.UserView.{doneIn}
 use Rattle.lines.specs.Work.{treeRestricted, rootAlone, changeAt}
 use Rattle.lines.proofs.ChangeLaws.{done-size}
-use Rattle.store.specs.Clause.{treeBytes}
-use Rattle.store.specs.Refusals.{Some, IsRestricted, TreeRestricted, DeepAt, DeepPlace}
-use Rattle.store.proofs.ConditionLaws.{clash}
+use Rattle.lines.specs.Clause.{sizeOf, treeBytes}
+use Rattle.lines.specs.Conditions.{Some, IsRestricted, TreeRestricted, DeepAt, DeepPlace}
+use Rattle.lines.proofs.ConditionLaws.{clash}
 
 -- The records of a tree
 

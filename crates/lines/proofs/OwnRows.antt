@@ -1,0 +1,69 @@
+-- The own checks of each form fail exactly if their conditions in the paper's words hold. Assumes nothing.
+use Prim.Native.Nat.{ℕ, _≤_, _<_}
+use mathlib.Core.Path.{_≡_}
+use mathlib.Core.Bool.{Bool, true, _||_}
+use mathlib.Core.List.{List, _++_}
+use mathlib.Core.Logic.{_⊎_, inl, inr, ⊎-elim, _↔_}
+use native.Mathlib.Omega.{arith}
+use Rattle.rights.specs.Labels.{sameLabel, restricted}
+use Rattle.rights.specs.Policy.{policyWord}
+use Rattle.rights.specs.Table.{count}
+use Rattle.rights.specs.Tree.{Tree}
+use Rattle.rights.proofs.BoolLaws.{or-left, or-right, or-split}
+use Rattle.views.specs.Change.{free}
+use Rattle.views.specs.declared.insert.Place.{Place}
+use Rattle.views.specs.declared.insert.Place.the-variants as place
+use Rattle.forms.specs.TreeText.{GoodTree}
+use Rattle.forms.specs.Command.{Command, GoodCommand}
+use Rattle.forms.specs.Command as command
+use Rattle.answers.specs.AnswerChoice.{Choice}
+use Rattle.lines.specs.Refusal.{Check}
+use Rattle.lines.specs.State.{stageC, userByte, policyBytes, policyIn, storeOk}
+use Rattle.lines.specs.Work.{onView, workInsert}
+use Rattle.lines.proofs.StateLaws.{store-held}
+use Rattle.lines.specs.Clause.{stageFor, sizeOf, treeBytes, clause}
+use Rattle.lines.specs.Conditions.{Conditions, pathRows, insertRows, rows}
+use Rattle.lines.proofs.ConditionLaws.{Tells}
+use Rattle.lines.proofs.NameRows.{less-told, equal-told, path-told, bracket-told, restricted-told, unknown-told, declared-told, before-told, repeated-told, subjects-told, isa-told, rules-told}
+use Rattle.lines.proofs.TreeRows.{tree-told, place-told, places-room-told, child-told, child-room-told}
+
+same : {A : Type 0} → A ↔ A
+same = (λ x. x, λ x. x)
+
+or-told : (a b : Bool) → ((a ≡ true) ⊎ (b ≡ true)) ↔ (a || b ≡ true)
+or-told a b = (⊎-elim (or-left a b) (or-right a b), λ e. or-split a b e inl inr)
+
+module _ (choice : Choice) (s t : List ℕ) (L : Conditions) (ls : List Check) where
+  path-tells : (p : List ℕ) → Tells L ls → Tells (pathRows s t p ++ L) (onView p s ++ ls)
+  path-tells p w = (path-told p, λ _. (equal-told (userByte s) 0, λ _. w))
+
+  insert-tells : (at : Place) (p : List ℕ) (u : Tree) → GoodTree u → Tells L ls → Tells (insertRows s t at p u ++ L) (workInsert at s t p (sizeOf u) (treeBytes u) .checks ++ ls)
+  insert-tells at p u g w =
+      (path-told p, λ _. (equal-told (userByte s) 0, λ _. (tree-told u g, λ _. (place-told s t u g at p, λ _. (places-room-told s t u g at p, λ _. w)))))
+
+  -- the own checks of each form beside its own rows
+  pub own-tells : (c : Command) → GoodCommand c → storeOk s t ≡ true → (stageC < stageFor c → 1 ≤ count t) → Tells L ls → Tells (rows s t c ++ L) (clause choice c s t .checks ++ ls)
+  unfolding GoodCommand
+  own-tells (command.subject n) g ok h w = (declared-told (policyIn s) n, λ _. (subjects-told (policyBytes s), λ _. (same, λ _. w)))
+  own-tells (command.isa n r) g ok h w =
+      let p = store-held s t ok .policy in (
+        unknown-told (policyIn s) n,
+        λ kn. (unknown-told (policyIn s) r, λ kr. (before-told (policyBytes s) p n r kn kr, λ _. (repeated-told (policyBytes s) p n r kn kr, λ _. (isa-told (policyBytes s), λ _. w)))),
+      )
+  own-tells (command.rule a r p n) g ok h w =
+      (path-told p, λ _. (unknown-told (policyIn s) n, λ _. (bracket-told p, λ _. (rules-told (policyBytes s), λ _. (restricted-told p, λ _. w)))))
+  own-tells (command.root l) g ok h w = (same, λ _. (less-told (free t) 1, λ _. w))
+  own-tells (command.child u) g ok h w =
+      let k = store-held s t ok .table in
+      let r = h (omega arith) in
+      (tree-told u g, λ _. (child-told s t u g k r, λ _. (child-room-told s t u g k r, λ _. w)))
+  own-tells (command.user n) g ok h w = (unknown-told (policyIn s) n, λ _. w)
+  own-tells command.view g ok h w = (equal-told (userByte s) 0, λ _. w)
+  own-tells (command.query p) g ok h w = path-tells p w
+  own-tells (command.find p) g ok h w = path-tells p w
+  own-tells (command.rename p l) g ok h w = (path-told p, λ _. (equal-told (userByte s) 0, λ _. (or-told (sameLabel l restricted) (policyWord (policyIn s) l), λ _. w)))
+  own-tells (command.update p l) g ok h w = (path-told p, λ _. (equal-told (userByte s) 0, λ _. (or-told (sameLabel l restricted) (policyWord (policyIn s) l), λ _. w)))
+  own-tells (command.append p u) g ok h w = insert-tells place.Append p u (g .1) w
+  own-tells (command.before p u) g ok h w = insert-tells place.Before p u (g .1) w
+  own-tells (command.after p u) g ok h w = insert-tells place.After p u (g .1) w
+  own-tells (command.remove p) g ok h w = path-tells p w
