@@ -69,7 +69,8 @@ fn stands_for(roles: &[u8; 64], u: usize, k: usize) -> bool
 fn put_subject(on: bool, k: usize, m: usize, out: &mut [u8; 64]) -> usize
     requires { ⌜ (k < 64) × (m ≤ k) × (length (now out) ≡ 64) ⌝ }
     ensures { λ r. ⌜ (take r (now (out .exit)) ≡ cond on (take m (now (out .entry)) ++ (k ∷ [])) (take m (now (out .entry)))) × (r ≤ m + 1)
-        × (length (now (out .exit)) ≡ 64) × ((before : List ℕ) → drop m (now (out .entry)) ≡ drop m before → drop r (now (out .exit)) ≡ drop r before) ⌝ }
+        × (length (now (out .exit)) ≡ 64)
+        × ((before : List ℕ) → drop m (now (out .entry)) ≡ drop m before → drop r (now (out .exit)) ≡ drop r before) ⌝ }
 {
     if on {
         out[m] = k as u8;
