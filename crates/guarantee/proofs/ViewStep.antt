@@ -36,12 +36,12 @@ module _ (choice : Choice) (s t line : List ℕ) (room : ℕ) (text : List ℕ) 
   said = answer-is choice s t line room text answered ∙ ap (λ (f : Form). workIn choice line f s t .text) form
 
   -- "nothing but `(end 0)` if the root is hidden": if the user has neither read nor position on it.
-  pub hidden-root : grants (getD (rightsIn s t) 0 0) ≡ false → text ≡ bytes "(end 0)\n"
-  hidden-root h = said ∙ ap viewText (view-hidden t (rightsIn s t) (store-held s t (taken .passes) .table) h) ∙ view-empty
+  pub view-of-hidden-root : grants (getD (rightsIn s t) 0 0) ≡ false → text ≡ bytes "(end 0)\n"
+  view-of-hidden-root h = said ∙ ap viewText (view-hidden t (rightsIn s t) (store-held s t (taken .passes) .table) h) ∙ view-empty
 
   -- Otherwise "`(root L)`, a `(child TREE)` for each shown child, `(end K)`, K shown nodes".
-  pub shown-root : grants (getD (rightsIn s t) 0 0) ≡ true → Printed (viewIn s t) text
-  shown-root h =
+  pub view-of-shown-root : grants (getD (rightsIn s t) 0 0) ≡ true → Printed (viewIn s t) text
+  view-of-shown-root h =
       let ok = store-held s t (taken .passes) .table in
       let k = some-right (rightsIn s t) h in
       subst (Printed (viewIn s t)) (sym said)
