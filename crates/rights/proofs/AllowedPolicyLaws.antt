@@ -6,7 +6,7 @@ use mathlib.Core.List.{List, [], _∷_, _++_}
 use native.Mathlib.Nat.{zero-add}
 use native.Mathlib.Omega.{arith}
 use borrow.Author.Tests.{leb-true, ltb-true, eqb-true, eq-eqb, not-true}
-use lib.Dec.{eqb}
+use lib.Dec.{eqb, leb}
 use lib.ListN.{length, getD, take, drop, replicate, take-append-drop, length-drop}
 use lib.Seq.{take-add, take-all, length-take-le, drop-drop}
 use Rattle.rights.specs.Bytes.{every, zeros}
@@ -73,6 +73,9 @@ bit-made zero h = refl
 bit-made (suc zero) h = refl
 bit-made (suc (suc b)) h = absurd (omega arith)
 
+between : (a b d : ℕ) → leb a b ≡ true → leb b d ≡ true → a ≤ d
+between a b d e f = omega (arith, leb-true a b e, leb-true b d f)
+
 -- rule k
 module _ (p : List ℕ) (k : ℕ) (long : length p ≡ 68872) (low : k < 128) (e : ruleOk p k ≡ true) where
   record Passed : Type 0 where
@@ -90,11 +93,11 @@ module _ (p : List ℕ) (k : ℕ) (long : length p ≡ 68872) (low : k < 128) (e
   passed =
       let f = simp (ruleOk, and-eq-true-iff) at e in
       record {
-        accept = leb-true _ _ (f .0);
+        accept = between (getD p (ruleAt k) 0) _ 1 (f .0) refl;
         right = f .1 .0;
         who = ltb-true _ _ (f .1 .1 .0);
-        some = leb-true _ _ (f .1 .1 .1 .0);
-        short = leb-true _ _ (f .1 .1 .1 .1 .0);
+        some = between 1 _ (stepCount p k) refl (f .1 .1 .1 .0);
+        short = between (stepCount p k) _ 16 (f .1 .1 .1 .1 .0) refl;
         spare = f .1 .1 .1 .1 .1 .0;
         steps = f .1 .1 .1 .1 .1 .1 .0;
         rest = f .1 .1 .1 .1 .1 .1 .1;

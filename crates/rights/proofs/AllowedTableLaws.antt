@@ -112,9 +112,13 @@ module _ (t : List ℕ) (ok : tableOk t ≡ true) where
       ∙ ap₂ _++_ (sym (count-bytes t (table-long t ok) b))
       (sym (take-append-drop (count t * 32) (drop 4 t)) ∙ ap₂ _++_ joined (drop-drop (count t * 32) 4 t ∙ blank)))
 
+-- The nodes of a table that passes are those of an allowed tree.
+pub nodes-allowed : (t : List ℕ) → tableOk t ≡ true → AllowedNodes (storedNodes t)
+nodes-allowed t ok = whole t ok .0
+
 -- 13, for a table of lent bytes: what passes holds the nodes of a tree that document 01 allows, and nothing else stands in its bytes.
 pub table-allowed : (t : List ℕ) → ((i : ℕ) → getD t i 0 < 256) → tableOk t ≡ true → HoldsNodes t (storedNodes t)
-table-allowed t b ok = record { allowed = whole t ok .0; head = table-long t ok; room = omega (arith, nodes-counted t, table-held t ok); bytes = bytes-are t ok b }
+table-allowed t b ok = record { allowed = nodes-allowed t ok; head = table-long t ok; room = omega (arith, nodes-counted t, table-held t ok); bytes = bytes-are t ok b }
 
 -- The other way: a table that holds the nodes of an allowed tree passes, and these nodes are read of it.
 pub allowed-table : (t : List ℕ) (nodes : Nodes) → HoldsNodes t nodes → (tableOk t ≡ true) × (storedNodes t ≡ nodes)
