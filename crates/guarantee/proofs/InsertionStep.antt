@@ -40,6 +40,7 @@ use Rattle.lines.specs.UserView.{marksIn, doneIn}
 use Rattle.lines.specs.Work.{rootAlone}
 use Rattle.lines.proofs.ChangeLaws.{done-size}
 use Rattle.lines.proofs.StateLaws.{store-held}
+use Rattle.lines.proofs.TreeRows.{nodeRecords}
 use Rattle.lines.specs.State.{stageD, stage}
 use Rattle.store.specs.Line.{bytesOf, step}
 use Rattle.store.proofs.FormParts.{TreePart, Fits, form-fits}
@@ -48,7 +49,7 @@ use Rattle.guarantee.proofs.FormLaws.{workIn}
 use Rattle.guarantee.proofs.Sound.{EffectSound, RootSound, InsertSound}
 use Rattle.guarantee.proofs.StoreKept.{root-held}
 use Rattle.guarantee.proofs.TableAfter.{table-after, recordsAfter}
-use Rattle.guarantee.proofs.TreeRecords.{nodeRecords, tree-records}
+use Rattle.guarantee.proofs.TreeRecords.{tree-records}
 
 -- A table that passes and has a root holds a tree.
 pub table-tree : (t : List ℕ) → tableOk t ≡ true → 1 ≤ count t → (u : Tree) × HoldsTree t u

@@ -23,6 +23,7 @@ pub mod KeptNodes
 pub mod RightsKept
 pub mod InsertionStep
 pub mod ViewStep
+pub mod WrittenLines
 pub mod Demand
 pub mod Cases
 pub mod Schools
