@@ -1,34 +1,33 @@
 -- A form's reader, turn by turn, as the code goes through it. Assumes nothing.
 use Prim.Native.Nat.{ℕ, zero, suc, _+_, _-_, _≤_, _<_}
-use mathlib.Core.Path.{_≡_, refl, sym, ap, _∙_}
+use mathlib.Core.Path.{_≡_, refl, sym, ap, subst, _∙_}
 use mathlib.Core.List.{List, [], _∷_, _++_, map, append-assoc}
-use mathlib.Core.Bool.{Bool, false}
+use mathlib.Core.Bool.{true, false}
 use native.Mathlib.Omega.{arith}
 use native.Mathlib.Numerals.{add-one}
 use lib.Dec.{eqb, leb}
-use lib.ListN.{length, getD, set, take, drop, replicate, length-append, length-replicate, length-set}
-use lib.Seq.{take-suc-set, getD-set-same, getD-set-other}
-use borrow.Author.Tests.{ne-eqb, eqb-true, eqb-false}
-use Rattle.rights.specs.Bytes.{byteAt}
+use lib.ListN.{length, getD, set, drop, replicate, length-append, length-replicate, length-set}
+use lib.Seq.{getD-set-same, getD-set-other, getD-append-seam}
+use borrow.Author.Tests.{ne-eqb, eqb-true, eqb-false, leb-true, leb-false}
+use Rattle.rights.specs.Bytes.{byteAt, all}
 use Rattle.rights.specs.Labels.{labelByte}
-use Rattle.rights.specs.Record.{pasted}
-use Rattle.rights.specs.declared.path.Read.{Read}
 use Rattle.rights.specs.declared.path.Read.the-variants.{At, Bad}
 use Rattle.rights.proofs.ListLaws.{byCase}
 use Rattle.rights.proofs.PathLaws.{inside}
 use Rattle.rights.proofs.PathTexts.{and-left}
-use Rattle.rights.proofs.RecordLaws.{pasted-none}
 use Rattle.forms.specs.declared.layout.Word.{Word}
+use Rattle.forms.specs.declared.layout.Word.the-variants as word
 use Rattle.forms.specs.declared.layout.Layout.{Layout}
-use Rattle.forms.specs.declared.form.Form.{Form}
+use Rattle.forms.specs.declared.reader.Progress.{Progress}
 use Rattle.forms.specs.declared.form.Form.the-variants.{NoForm}
-use Rattle.forms.specs.Layout.{shapeOf, wordAt}
-use Rattle.forms.specs.How.Codes.{LaidOut, codesOf, endBy, oneBy}
+use Rattle.forms.specs.Layout.{words, shapeOf, wordAt}
+use Rattle.forms.specs.How.Codes.{LaidOut, codesOf, byNumber, textNumberAt, endBy, saysBy, areaBy}
 use Rattle.forms.specs.Part.{runEnd}
 use Rattle.forms.specs.Kind.{Kind, Label, Path, Tree, Sign, Right, codeOf, partEnd}
-use Rattle.forms.specs.Tree.{recordsOf}
-use Rattle.forms.specs.Form.{onePart, Places, are, none, _onTo_, closesLine, partsOf, placeIn, treePlace, nodesAt, formWith, endsIn, readForm, treeIn}
-use Rattle.forms.specs.How.Reader.{PartsPut}
+use Rattle.forms.specs.Word.{rights, rightAt, labelBytesAt}
+use Rattle.forms.specs.Form.{Places, are, none, _onTo_, closesLine, partsOf, placeIn, treePlace, nodesAt, formWith, endsIn, readForm}
+use Rattle.forms.specs.How.Reader.{stoppedAt, heldTo, Reading, Whole, Came, Begun, Moves, areaAfter, areaIn, areaFrom, formSaid}
+use Rattle.forms.proofs.WordLaws.{among-is, numbered-among}
 
 -- A word with its kinds
 
@@ -37,6 +36,11 @@ laid-out w e = record { word = refl; kinds = refl; size = e }
 
 pub laid-at : {w v : Word} {l : Layout} → w ≡ v → LaidOut w l → LaidOut v l
 laid-at e h = rw (← e) h
+
+-- the word's number tells the word
+pub word-numbered : (s : List ℕ) (at : ℕ) → byNumber word.Other words (textNumberAt s at) ≡ wordAt s at
+unfolding wordAt labelByte all
+word-numbered s at = numbered-among word.Other words refl s at
 
 -- A shape's kinds by their numbers
 
@@ -99,135 +103,252 @@ onto-onto : (xs ys : List ℕ) (p : Places) → (xs ++ ys) onTo p ≡ xs onTo (y
 onto-onto xs ys (are es) = ap are (append-assoc xs ys es)
 onto-onto xs ys none = refl
 
--- what stands past n is 0, as it is past the end
-cut : (xs : List ℕ) (n : ℕ) → ((j : ℕ) → n ≤ j → getD xs j 0 ≡ 0) → (j : ℕ) → getD (take n xs) j 0 ≡ getD xs j 0
-cut [] zero h j = refl
-cut [] (suc n) h j = refl
-cut (x ∷ xs) zero h j = sym (h j (omega arith))
-cut (x ∷ xs) (suc n) h zero = refl
-cut (x ∷ xs) (suc n) h (suc j) = cut xs n (λ k l. h (suc k) (omega arith)) j
-
 set-under : (xs : List ℕ) (i e : ℕ) → i < length xs → ((j : ℕ) → getD xs j 0 ≤ e) → (j : ℕ) → getD (set xs i e) j 0 ≤ e
 set-under xs i e l h j =
     byCase (eqb j i)
     (λ b. let q = eqb-true j i b in rw q (omega (arith, getD-set-same xs i e 0 l)))
     (λ b. omega (arith, getD-set-other xs i j e 0 (eqb-false j i b), h j))
 
-set-past : (xs : List ℕ) (i e : ℕ) → ((j : ℕ) → i ≤ j → getD xs j 0 ≡ 0) → (j : ℕ) → i + 1 ≤ j → getD (set xs i e) j 0 ≡ 0
-set-past xs i e h j l = getD-set-other xs i j e 0 (λ z. omega arith) ∙ h j (omega arith)
+more-other : (xs : List ℕ) (e j : ℕ) → (j ≡ length xs → ⊥) → getD (xs ++ (e ∷ [])) j 0 ≡ getD xs j 0
+more-other [] e zero h = absurd (h refl)
+more-other [] e (suc j) h = refl
+more-other (x ∷ xs) e zero h = refl
+more-other (x ∷ xs) e (suc j) h = more-other xs e j (λ z. h (ap suc z))
 
--- i parts of the shape ks are read, up to e, and their places stand in ends
-pub record Reading (ks : List Kind) (s : List ℕ) (at e i : ℕ) (ends : List ℕ) : Type 0 where
-  pub size : length ends ≡ 5
-  pub on : e ≤ length s
-  pub read : partsOf ks s at ≡ take i ends onTo partsOf (drop i ks) s e
-  pub past : (j : ℕ) → i ≤ j → placeIn ends j ≡ 0
-  pub under : (j : ℕ) → placeIn ends j ≤ e
+-- a place more in the list is a place more in the array
+more-set : (xs ys : List ℕ) (n e : ℕ) → length xs ≡ n → n < length ys → ((j : ℕ) → getD xs j 0 ≡ getD ys j 0) → (j : ℕ) → getD (xs ++ (e ∷ [])) j 0 ≡ getD (set ys n e) j 0
+more-set xs ys n e l h same j =
+    byCase (eqb j n)
+    (λ b. let q = eqb-true j n b in rw (q, getD-set-same ys n e 0 h, ← l) (getD-append-seam xs e [] 0))
+    (λ b. let q = eqb-false j n b in more-other xs e j (λ z. q (z ∙ l)) ∙ same j ∙ sym (getD-set-other ys n j e 0 q))
 
-pub reading-starts : (ks : List Kind) (s : List ℕ) (at : ℕ) (ends : List ℕ) → at ≤ length s → length ends ≡ 5 → ((j : ℕ) → placeIn ends j ≡ 0) → Reading ks s at at 0 ends
-reading-starts ks s at ends l e z =
-    record { size = e; on = l; read = sym (onto-none (partsOf ks s at)); past = λ j _. z j; under = λ j. omega (arith, z j) }
+-- The word
 
-module _ (ks : List Kind) (s : List ℕ) (at e i : ℕ) (ends : List ℕ) (w : Reading ks s at e i ends) where
-  module _ (h : getD (codesOf ks) i 0 ≡ 0 → ⊥) where
-    one-at : oneBy (getD (codesOf ks) i 0) s e ≡ onePart (kind-at ks i h .0) s e
-    one-at = let x = kind-at ks i h in rw (x .2, code-end (x .0) s (e + 1))
+module _ (s : List ℕ) where
+  pub none-came : (i : ℕ) (p : Progress) → p .good ≡ false → endsIn s ≡ none → Came s i p
+  none-came i p g e = record { stops = λ _. e; reads = λ h. absurd (let z : false ≡ true = sym g ∙ h in let y : _≡_ {A = ℕ} 0 1 = cc in omega arith) }
 
-    pub part-missing : oneBy (getD (codesOf ks) i 0) s e ≡ Bad → partsOf ks s at ≡ none
-    unfolding partsOf
-    part-missing b =
-        let x = kind-at ks i h in
-        let o = sym one-at ∙ b in
-        w .read ∙ rw (x .1, o)
+  some-came : (i : ℕ) (p : Progress) → p .good ≡ true → Reading s i p → Came s i p
+  some-came i p g w = record { stops = λ h. absurd (let z : true ≡ false = sym g ∙ h in let y : _≡_ {A = ℕ} 0 1 = cc in omega arith); reads = λ _. w }
 
-    pub part-taken : (n : ℕ) → oneBy (getD (codesOf ks) i 0) s e ≡ At n → e ≤ n → n ≤ length s → i < 5 → Reading ks s at n (i + 1) (set ends i e)
-    unfolding partsOf
-    part-taken n b l m f =
-        let x = kind-at ks i h in
-        let o = sym one-at ∙ b in
-        let g = w .size in
-        let t : take (suc i) (set ends i e) ≡ take i ends ++ (e ∷ []) = take-suc-set ends i e (omega arith) in
-        record {
-          size = length-set ends i e ∙ g;
-          on = m;
-          read = w .read ∙ rw (x .1, o, add-one i, t) (sym (onto-onto (take i ends) (e ∷ []) (partsOf (drop (suc i) ks) s n)));
-          past = set-past ends i e (w .past);
-          under = λ j. omega (arith, set-under ends i e (omega arith) (w .under) j);
-        }
-
-  -- the shape is over, and `)` ends the line or does not
-  pub parts-over : getD (codesOf ks) i 0 ≡ 0 → i < 5 → (r : Bool) → r ≡ closesLine s e → PartsPut (partsOf ks s at) r (set ends i e) (length s)
-  unfolding partsOf
-  parts-over h f r q =
-      let g = w .size in
-      let z = kinds-over ks i h in
-      let t : take (suc i) (set ends i e) ≡ take i ends ++ (e ∷ []) = take-suc-set ends i e (omega arith) in
-      record {
-        there = λ y. (
-          take i ends ++ (e ∷ []),
-          w .read ∙ rw (z, sym q ∙ y),
-          λ j. ap (λ (xs : List ℕ). getD xs j 0) (sym t) ∙ cut (set ends i e) (suc i) (λ k l. set-past ends i e (w .past) k (omega arith)) j,
-        );
-        missing = λ y. w .read ∙ rw (z, sym q ∙ y);
-        inside = λ y j. omega (arith, set-under ends i e (omega arith) (w .under) j, inside s e 41 (omega arith) (eqb-true _ _ (and-left (eqb (byteAt s e) 41) (leb (length s) (e + 1)) (sym q ∙ y))));
-      }
-
-pub parts-none : {want : Places} {ends : List ℕ} {end : ℕ} → want ≡ none → PartsPut want false ends end
-parts-none e = record { there = λ y. absurd (let z : _≡_ {A = ℕ} 0 1 = cc in omega arith); missing = λ _. e; inside = λ y. absurd (let z : _≡_ {A = ℕ} 0 1 = cc in omega arith) }
-
--- The tree's place
-
-module _ (ks : List Kind) (i : ℕ) (p : ℕ → ℕ) where
-  pub tree-here : getD (codesOf ks) i 0 ≡ 3 → treePlace (drop i ks) i p ≡ At (p i + 1)
-  unfolding treePlace
-  tree-here e =
-      let x = kind-at ks i (λ z. omega arith) in
-      let c : codeOf (x .0) ≡ 3 = sym (x .2) ∙ e in
-      rw (x .1, c)
-
-  pub tree-later : (getD (codesOf ks) i 0 ≡ 0 → ⊥) → (getD (codesOf ks) i 0 ≡ 3 → ⊥) → treePlace (drop i ks) i p ≡ treePlace (drop (suc i) ks) (suc i) p
-  unfolding treePlace
-  tree-later h n =
-      let x = kind-at ks i h in
-      rw (x .1, ne-eqb (codeOf (x .0)) 3 (λ z. n (x .2 ∙ z)))
-
-  pub tree-none : getD (codesOf ks) i 0 ≡ 0 → treePlace (drop i ks) i p ≡ Bad
-  unfolding treePlace
-  tree-none h = rw (kinds-over ks i h)
-
--- What the code promises of a refused line, and of one that is read
-
-module _ (s d : List ℕ) where
-  refused : endsIn s ≡ none → (NoForm ≡ readForm s) × (d ≡ pasted d 0 (recordsOf (treeIn s)))
-  unfolding readForm treeIn recordsOf
-  refused e = (rw e, rw e (pasted-none d 0))
-
-  pub unbegun : (byteAt s 0 ≡ 40 → ⊥) → (NoForm ≡ readForm s) × (d ≡ pasted d 0 (recordsOf (treeIn s)))
-  unfolding endsIn
-  unbegun h = refused (rw (ne-eqb _ 40 h))
+  pub unbegun : (p : Progress) → (byteAt s 0 ≡ 40 → ⊥) → Begun s (stoppedAt p)
+  unfolding endsIn areaIn
+  unbegun p h = record { came = none-came 0 (stoppedAt p) refl (rw (ne-eqb _ 40 h)); area = λ a. rw (ne-eqb _ 40 h) }
 
   module _ (h : byteAt s 0 ≡ 40) where
-    pub wordless : runEnd labelByte s 1 ≡ Bad → (NoForm ≡ readForm s) × (d ≡ pasted d 0 (recordsOf (treeIn s)))
-    unfolding endsIn
-    wordless e = refused (rw (h, e))
+    pub wordless : (p : Progress) → runEnd labelByte s 1 ≡ Bad → Begun s (stoppedAt p)
+    unfolding endsIn areaIn
+    wordless p e = record { came = none-came 0 (stoppedAt p) refl (rw (h, e)); area = λ a. rw (h, e) }
 
-    module _ (e : ℕ) (w : Word) (a : runEnd labelByte s 1 ≡ At e) (b : w ≡ wordAt s 1) where
-      ends-parts : endsIn s ≡ partsOf (shapeOf w) s e
-      unfolding endsIn
-      ends-parts = rw (h, a, b)
+    pub word-read : (e : ℕ) (l : Layout) → runEnd labelByte s 1 ≡ At e → e ≤ length s → LaidOut (wordAt s 1) l
+        → Begun s (record { at = e; good = true; layout = l; ends = e ∷ 0 ∷ 0 ∷ 0 ∷ 0 ∷ []; says = 0 ∷ 0 ∷ 0 ∷ 0 ∷ [] })
+    unfolding endsIn areaIn
+    word-read e l r m x = record {
+      came = some-came 0 _ refl (record {
+        laid = x;
+        within = m;
+        before = [];
+        read = rw (h, r) (sym (onto-none (partsOf (shapeOf (wordAt s 1)) s e)));
+        count = λ _. refl;
+        places = first;
+        under = λ j. omega (arith, below j);
+        said = λ j k _. absurd (omega arith);
+        five = refl;
+        four = refl;
+      });
+      area = λ a. rw (h, r, x .word);
+    }
+      where
+        first : (j : ℕ) → placeIn (e ∷ []) j ≡ placeIn (e ∷ 0 ∷ 0 ∷ 0 ∷ 0 ∷ []) j
+        first zero = refl
+        first (suc j) = sym (zeros 4 j)
 
-      pub partless : partsOf (shapeOf w) s e ≡ none → (NoForm ≡ readForm s) × (d ≡ pasted d 0 (recordsOf (treeIn s)))
-      partless q = refused (ends-parts ∙ q)
+        below : (j : ℕ) → placeIn (e ∷ 0 ∷ 0 ∷ 0 ∷ 0 ∷ []) j ≤ e
+        below zero = omega arith
+        below (suc j) = omega (arith, zeros 4 j)
 
-      pub read-parts : (ends es : List ℕ) → partsOf (shapeOf w) s e ≡ are es → ((i : ℕ) → placeIn es i ≡ placeIn ends i)
-          → (n : ℕ) (place : Read) (form : Form) (after : List ℕ) → place ≡ treePlace (shapeOf w) 0 (placeIn ends)
-          → (n ≡ length (nodesAt s place)) × (after ≡ pasted d 0 (recordsOf (nodesAt s place))) → form ≡ formWith w s (placeIn ends) n
-          → (form ≡ readForm s) × (after ≡ pasted d 0 (recordsOf (treeIn s)))
-      unfolding readForm treeIn
-      read-parts ends es q same n place form after p g y =
-          let f : placeIn ends ≡ placeIn es = λ t i. sym (same i) t in
-          let z : place ≡ treePlace (shapeOf (wordAt s 1)) 0 (placeIn es) = p ∙ rw (f, b) in
-          let x : endsIn s ≡ are es = ends-parts ∙ q in (
-            y ∙ rw (x, f, b, g .0, z),
-            g .1 ∙ rw (x, z),
+-- A part
+
+module _ (s : List ℕ) (i : ℕ) (p : Progress) (g : p .good ≡ true) (w : Reading s i p) where
+  abbrev ks : List Kind
+  ks = shapeOf (wordAt s 1)
+
+  abbrev code : ℕ
+  code = getD (p .layout .kinds) i 0
+
+  code-is : code ≡ getD (codesOf ks) i 0
+  code-is = ap (λ (xs : List ℕ). getD xs i 0) (w .laid .kinds)
+
+  -- the shape is over: the reader stays
+  pub next-over : code ≡ 0 → (a : List ℕ) → Came s (i + 1) p × Moves s i p a p a
+  unfolding areaAfter
+  next-over h a =
+      let z = kinds-over ks i (sym code-is ∙ h) in
+      let y = drop-more ks i z in
+      let f : length ks ≤ i = drop-over ks i z in (
+        rw (add-one i) (some-came s (suc i) p g (record {
+          laid = w .laid;
+          within = w .within;
+          before = w .before;
+          read = w .read ∙ rw (z, y);
+          count = λ l. absurd (omega arith);
+          places = w .places;
+          under = w .under;
+          said = λ j _ k. w .said j (omega arith) k;
+          five = w .five;
+          four = w .four;
+        })),
+        record { on = omega arith; area = rw (g, w .laid .word, z, y) },
+      )
+    where
+      drop-more : (xs : List Kind) (n : ℕ) → drop n xs ≡ [] → drop (suc n) xs ≡ []
+      drop-more [] zero e = refl
+      drop-more [] (suc n) e = refl
+      drop-more (x ∷ xs) zero e = absurd (let z : _≡_ {A = ℕ} 0 1 = cc in omega arith)
+      drop-more (x ∷ xs) (suc n) e = drop-more xs n e
+
+      drop-over : (xs : List Kind) (n : ℕ) → drop n xs ≡ [] → length xs ≤ n
+      drop-over [] n e = omega arith
+      drop-over (x ∷ xs) zero e = absurd (let z : _≡_ {A = ℕ} 0 1 = cc in omega arith)
+      drop-over (x ∷ xs) (suc n) e = let l = drop-over xs n e in omega arith
+
+  module _ (h : code ≡ 0 → ⊥) where
+    kind : (k : Kind) × (drop i ks ≡ k ∷ drop (suc i) ks) × (getD (codesOf ks) i 0 ≡ codeOf k) × (i < length ks)
+    kind = kind-at ks i (λ z. h (code-is ∙ z))
+
+    part-end : (at : ℕ) → partEnd (kind .0) s at ≡ endBy code s at
+    part-end at = sym (code-end (kind .0) s at) ∙ ap (λ (n : ℕ). endBy n s at) (sym (code-is ∙ kind .2))
+
+    area-by : (at : ℕ) (a : List ℕ) → areaBy (codeOf (kind .0)) s at a ≡ areaBy code s at a
+    area-by at a = ap (λ (n : ℕ). areaBy n s at a) (sym (code-is ∙ kind .2))
+
+    stops-here : endsIn s ≡ none → (a b : List ℕ) → areaAfter (drop i ks) s (p .at) a ≡ b → Came s (i + 1) (stoppedAt p) × Moves s i p a (stoppedAt p) b
+    stops-here e a b q = (none-came s (i + 1) (stoppedAt p) refl e, record { on = omega arith; area = rw (g, w .laid .word) q })
+
+    pub next-unspaced : (byteAt s (p .at) ≡ 32 → ⊥) → (a : List ℕ) → Came s (i + 1) (stoppedAt p) × Moves s i p a (stoppedAt p) a
+    unfolding partsOf areaAfter
+    next-unspaced n a = stops-here (w .read ∙ rw (kind .1, ne-eqb _ 32 n)) a a (rw (kind .1, ne-eqb _ 32 n))
+
+    module _ (sp : byteAt s (p .at) ≡ 32) (a b : List ℕ) (c : b ≡ areaBy code s (p .at + 1) a) where
+      pub next-missing : endBy code s (p .at + 1) ≡ Bad → Came s (i + 1) (stoppedAt p) × Moves s i p a (stoppedAt p) b
+      unfolding partsOf areaAfter
+      next-missing e =
+          let q : partEnd (kind .0) s (p .at + 1) ≡ Bad = part-end (p .at + 1) ∙ e in
+          stops-here (w .read ∙ rw (kind .1, sp, q)) a b (rw (kind .1, sp, q) (area-by (p .at + 1) a ∙ sym c))
+
+      pub next-held : (e v : ℕ) → i < 4 → endBy code s (p .at + 1) ≡ At e → p .at + 2 ≤ e → e ≤ length s → v ≡ saysBy code s (p .at + 1)
+          → Came s (i + 1) (heldTo p i e v) × Moves s i p a (heldTo p i e v) b
+      unfolding partsOf areaAfter
+      next-held e v few r l m is =
+          let q : partEnd (kind .0) s (p .at + 1) ≡ At e = part-end (p .at + 1) ∙ r in
+          let n : length (w .before) ≡ i = w .count (omega (arith, kind .3)) in
+          let five = w .five in
+          let four = w .four in
+          let more = length-append (w .before) (p .at ∷ []) in
+          let here : placeIn (p .ends) i ≡ p .at = sym (w .places i) ∙ rw (← n) (getD-append-seam (w .before) (p .at) [] 0) in (
+            subst (λ (n : ℕ). Came s n (heldTo p i e v)) (sym (add-one i)) (some-came s (suc i) (heldTo p i e v) g (record {
+              laid = w .laid;
+              within = m;
+              before = w .before ++ (p .at ∷ []);
+              read = w .read ∙ rw (kind .1, sp, q) (sym (onto-onto (w .before) (p .at ∷ []) (partsOf (drop (suc i) ks) s e)));
+              count = λ _. omega arith;
+              places = more-set (w .before ++ (p .at ∷ [])) (p .ends) (i + 1) e (omega arith) (omega arith) (w .places);
+              under = set-under (p .ends) (i + 1) e (omega arith) (λ j. omega (arith, w .under j));
+              said = λ j x y. byCase (eqb j i)
+                  (λ z.
+                  let u = eqb-true j i z in
+                  rw (u, getD-set-same (p .says) i v 0 (omega arith), getD-set-other (p .ends) (i + 1) i e 0 (λ y. omega arith), here, ← code-is) is)
+                  (λ z.
+                  let u = eqb-false j i z in
+                  rw (getD-set-other (p .says) i j v 0 u, getD-set-other (p .ends) (i + 1) j e 0 (λ y. omega arith)) (w .said j (byCase (leb i j) (λ t. absurd (u (omega (arith, leb-true i j t)))) (λ t. leb-false i j t)) y));
+              five = length-set (p .ends) (i + 1) e ∙ five;
+              four = length-set (p .says) i v ∙ four;
+            })),
+            record { on = omega arith; area = rw (g, w .laid .word, kind .1, sp, q) (ap (λ (z : List ℕ). areaAfter (drop (suc i) ks) s e z) (area-by (p .at + 1) a ∙ sym c)) },
           )
+
+-- The line's end
+
+module _ (s : List ℕ) (p : Progress) (g : p .good ≡ true) (w : Reading s 4 p) where
+  over-four : drop 4 (shapeOf (wordAt s 1)) ≡ []
+  over-four = short (shapeOf (wordAt s 1)) (few-kinds (shapeOf (wordAt s 1)) (sym (ap length (w .laid .kinds)) ∙ w .laid .size))
+    where
+      short : (xs : List Kind) → length xs ≤ 4 → drop 4 xs ≡ []
+      short [] l = refl
+      short (a ∷ []) l = refl
+      short (a ∷ b ∷ []) l = refl
+      short (a ∷ b ∷ c ∷ []) l = refl
+      short (a ∷ b ∷ c ∷ d ∷ []) l = refl
+      short (a ∷ b ∷ c ∷ d ∷ e ∷ xs) l = absurd (omega arith)
+
+  pub line-unclosed : closesLine s (p .at) ≡ false → endsIn s ≡ none
+  unfolding partsOf
+  line-unclosed c = w .read ∙ rw (over-four, c)
+
+  pub line-closed : closesLine s (p .at) ≡ true → Whole s (record { at = length s; good = p .good; layout = p .layout; ends = p .ends; says = p .says })
+  unfolding partsOf
+  line-closed c = record {
+    laid = w .laid;
+    over = refl;
+    places = w .before ++ (p .at ∷ []);
+    read = w .read ∙ rw (over-four, c);
+    same = w .places;
+    inside = λ j. omega (arith, w .under j, inside s (p .at) 41 (omega arith) (eqb-true _ _ (and-left (eqb (byteAt s (p .at)) 41) (leb (length s) (p .at + 1)) c)));
+    said = w .said;
+    five = w .five;
+    four = w .four;
+  }
+
+  pub area-four : (a : List ℕ) → areaFrom s 4 p a ≡ a
+  unfolding areaAfter
+  area-four a = rw (g, w .laid .word, over-four)
+
+-- What the parts say makes the form
+
+pub form-said : (w : Word) (s : List ℕ) (e v : ℕ → ℕ) → ((j : ℕ) → j < length (shapeOf w) → v j ≡ saysBy (getD (codesOf (shapeOf w)) j 0) s (e j + 1))
+    → formSaid w e v ≡ formWith w s e (length (nodesAt s (treePlace (shapeOf w) 0 e)))
+unfolding saysBy treePlace
+form-said word.Subject s e v h = refl
+form-said word.Isa s e v h = refl
+form-said word.Rule s e v h = rw (h 0 (omega arith), h 1 (omega arith))
+form-said word.Root s e v h = refl
+form-said word.Child s e v h = rw (h 0 (omega arith))
+form-said word.User s e v h = refl
+form-said word.View s e v h = refl
+form-said word.Query s e v h = refl
+form-said word.Find s e v h = refl
+form-said word.Rename s e v h = refl
+form-said word.Update s e v h = refl
+form-said word.Append s e v h = rw (h 1 (omega arith))
+form-said word.Before s e v h = rw (h 1 (omega arith))
+form-said word.After s e v h = rw (h 1 (omega arith))
+form-said word.Remove s e v h = refl
+form-said word.Other s e v h = refl
+
+-- a right's bit is held in a byte
+right-small : (s : List ℕ) (at : ℕ) → rightAt s at < 256
+unfolding rightAt
+right-small s at = among-is (λ (x : ℕ) _. x < 256) 0 rights (labelBytesAt s at) (omega arith, (omega arith, (omega arith, (omega arith, (omega arith, tt))))) (omega arith)
+
+module _ (s : List ℕ) (p : Progress) (w : Whole s p) where
+  word-is : p .layout .word ≡ wordAt s 1
+  word-is = w .laid .word
+
+  says-are : (j : ℕ) → j < length (shapeOf (p .layout .word)) → getD (p .says) j 0 ≡ saysBy (getD (codesOf (shapeOf (p .layout .word))) j 0) s (placeIn (p .ends) j + 1)
+  says-are = rw word-is (λ j l. w .said j (omega (arith, few-kinds (shapeOf (wordAt s 1)) (sym (ap length (w .laid .kinds)) ∙ w .laid .size))) l)
+
+  pub whole-form : formSaid (p .layout .word) (placeIn (p .ends)) (λ i. getD (p .says) i 0) ≡ readForm s
+  unfolding readForm
+  whole-form =
+      let f : placeIn (p .ends) ≡ placeIn (w .places) = λ t i. sym (w .same i) t in
+      form-said (p .layout .word) s (placeIn (p .ends)) (λ i. getD (p .says) i 0) says-are ∙ rw (w .read, f, word-is)
+
+  pub whole-right : p .layout .word ≡ word.Rule → getD (p .says) 1 0 < 256
+  unfolding saysBy
+  whole-right e =
+      let q = rw e at (says-are 1) in
+      omega (arith, q (omega arith), right-small s (placeIn (p .ends) 1 + 1))
+
+pub none-form : (s : List ℕ) → endsIn s ≡ none → NoForm ≡ readForm s
+unfolding readForm
+none-form s e = rw e

@@ -256,10 +256,10 @@ module _ (s : List ℕ) (at : ℕ) where
       cond-elim (eqb (rightAt s at) 0) (λ _. never-read)
       λ b e. let x = run-sound labelByte j e in let y = right-of (eqb-false _ _ b) in record { is = y .0; good = tt; text = rw (sym (y .1) ∙ sym (x .run-is)) (x .text) }
 
-never-are : {C : Type 0} {es : List ℕ} → none ≡ are es → C
+pub never-are : {C : Type 0} {es : List ℕ} → none ≡ are es → C
 never-are e = absurd (let z : _≡_ {A = ℕ} 0 1 = cc in omega arith)
 
-then-elim : {C : Type 0} {es : List ℕ} (r : Read) (k : ℕ → Places) → ((e : ℕ) → r ≡ At e → k e ≡ are es → C) → (r andThen (none, k)) ≡ are es → C
+pub then-elim : {C : Type 0} {es : List ℕ} (r : Read) (k : ℕ → Places) → ((e : ℕ) → r ≡ At e → k e ≡ are es → C) → (r andThen (none, k)) ≡ are es → C
 then-elim (At e) k h q = h e refl q
 then-elim Bad k h q = never-are q
 

@@ -1,8 +1,10 @@
 pub mod WordLaws
 pub mod PartLaws
 pub mod TreeLaws
-pub mod ReaderLaws
 pub mod FormLaws
+pub mod ReaderLaws
+pub mod Lent
 pub mod TreeTextLaws
 pub mod FormTextLaws
 pub mod CommandLaws
+pub mod PlaceLaws

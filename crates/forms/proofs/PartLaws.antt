@@ -1,21 +1,26 @@
 -- Where parts end, case by case, as the code goes through them. Assumes nothing.
 use Prim.Native.Nat.{ℕ, _+_, _≤_, _<_}
-use mathlib.Core.Path.{_≡_, refl, sym, ap}
+use mathlib.Core.Path.{_≡_, refl, sym, ap, _∙_}
 use mathlib.Core.List.{List}
 use mathlib.Core.Bool.{Bool}
 use native.Mathlib.Omega.{arith}
-use lib.Dec.{leb}
+use lib.Dec.{leb, eqb}
 use lib.ListN.{length}
 use borrow.Author.Tests.{le-leb, lt-leb, leb-true, leb-false, ne-eqb}
 use Rattle.rights.specs.Bytes.{byteAt}
 use Rattle.rights.specs.Labels.{labelByte}
 use Rattle.rights.specs.PathReader.{runAt}
 use Rattle.rights.specs.How.Reading.{Onward, Ends}
+use Rattle.rights.specs.declared.path.Read.{Read}
 use Rattle.rights.specs.declared.path.Read.the-variants.{At, Bad}
 use Rattle.rights.proofs.ListLaws.{byCase}
 use Rattle.rights.proofs.PathLaws.{bad-onward, at-onward}
 use Rattle.forms.specs.Part.{labelEnd, runEnd, knownEnd}
-use Rattle.forms.specs.How.Reader.{movedTo}
+use Rattle.forms.specs.declared.part.PartRead.{PartRead}
+use Rattle.forms.specs.Word.{signs, rights, signAt, rightAt}
+use Rattle.forms.specs.How.Codes.{textNumberAt, byNumber, endBy, saysBy}
+use Rattle.forms.specs.How.Reader.{movedTo, knownTo, PartPassed}
+use Rattle.forms.proofs.WordLaws.{sign-numbered, right-numbered}
 use Rattle.forms.specs.Tree.{openEnd}
 
 module _ (s : List ℕ) (at n : ℕ) (e : n ≡ runAt labelByte s at) where
@@ -40,15 +45,32 @@ moved-run f s at e x =
     (λ b. rw (b, lt-leb 1 (runAt f s at) (omega (arith, leb-true e at b))) (bad-onward (at + 1) (length s) refl))
     (λ b. rw (b, le-leb 1 (runAt f s at) (omega (arith, leb-false e at b))) (at-onward (at + 1) (length s) e (ap At (sym q)) (omega (arith, leb-false e at b)) (x .to)))
 
+module _ (s : List ℕ) (at e : ℕ) (x : Ends labelByte s at e) where
+  pub run-none : e ≤ at → runEnd labelByte s at ≡ Bad
+  run-none l = let z : movedTo at e ≡ Bad = rw (le-leb e at l) in sym (moved-run labelByte s at e x .is) ∙ z
+
+  pub run-some : at < e → runEnd labelByte s at ≡ At e
+  run-some l = let z : movedTo at e ≡ At e = rw (lt-leb e at l) in sym (moved-run labelByte s at e x .is) ∙ z
+
+  -- a word that a table has as n, or has not
+  known-run : (n : ℕ) → Onward (knownEnd n s at) (knownTo n at e) (at + 1) (length s)
+  unfolding knownEnd
+  known-run n = byCase (eqb n 0) (λ b. rw b (bad-onward (at + 1) (length s) refl)) (λ b. rw b (moved-run labelByte s at e x))
+
+module _ (s : List ℕ) (at : ℕ) (r : PartRead) where
+  module _ (m e : ℕ) (k : (r .end ≡ knownTo m at e) × (r .says ≡ m)) where
+    pub sign-passed : m ≡ byNumber 0 signs (textNumberAt s at) → Ends labelByte s at e → PartPassed 4 s at r
+    unfolding endBy saysBy
+    sign-passed q x = let n = q ∙ sign-numbered s at in record { end = rw (k .0, n) (known-run s at e x (signAt s at)); says = k .1 ∙ n }
+
+    pub right-passed : m ≡ byNumber 0 rights (textNumberAt s at) → Ends labelByte s at e → PartPassed 5 s at r
+    unfolding endBy saysBy
+    right-passed q x = let n = q ∙ right-numbered s at in record { end = rw (k .0, n) (known-run s at e x (rightAt s at)); says = k .1 ∙ n }
+
+pub silent-passed : (k : ℕ) (s : List ℕ) (at : ℕ) (r : PartRead) (w : Read) → (r .end ≡ w) × (r .says ≡ 0) → Onward (endBy k s at) w (at + 1) (length s) → saysBy k s at ≡ 0 → PartPassed k s at r
+silent-passed k s at r w e o z = record { end = rw (e .0) o; says = e .1 ∙ sym z }
+
 module _ (s : List ℕ) (at : ℕ) where
-  pub known-none : (n : ℕ) → n ≡ 0 → knownEnd n s at ≡ Bad
-  unfolding knownEnd
-  known-none n e = rw e
-
-  pub known-some : (n : ℕ) → (n ≡ 0 → ⊥) → knownEnd n s at ≡ runEnd labelByte s at
-  unfolding knownEnd
-  known-some n e = rw (ne-eqb n 0 e)
-
   pub open-not : (byteAt s at ≡ 40 → ⊥) → openEnd s at ≡ Bad
   unfolding openEnd
   open-not h = rw (ne-eqb _ 40 h)

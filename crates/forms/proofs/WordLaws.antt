@@ -1,34 +1,78 @@
 -- Words by their letters and by their numbers. Assumes nothing.
-use Prim.Native.Nat.{ℕ, suc, _+_, _-_, _*_, _^_, _≤_, _<_}
+use Prim.Native.Nat.{ℕ, zero, suc, _+_, _-_, _*_, _^_, _≤_, _<_}
 use mathlib.Core.Path.{_≡_, refl, sym, ap, _∙_}
 use mathlib.Core.List.{List, [], _∷_}
 use mathlib.Core.Bool.{Bool, true, false, _&&_, _||_}
 use mathlib.Core.Logic.{_⊎_, inl, inr}
-use native.Mathlib.Nat.{pow-succ', pow-le-pow-right}
+use native.Mathlib.Nat.{mul-left-comm, mul-le-mul-right, pow-succ', pow-le-pow-right}
 use native.Mathlib.Omega.{arith}
-use lib.Dec.{eqb, leb}
-use lib.ListN.{length, getD, take, drop}
-use lib.Seq.{drop-cons}
-use borrow.Author.Tests.{eqb-true, eqb-false, eq-eqb, ne-eqb, leb-true, leb-false}
+use lib.Dec.{eqb, leb, ltb}
+use lib.ListN.{length, getD, take, drop, length-drop}
+use lib.Seq.{getD-drop}
+use borrow.Author.Tests.{eqb-true, eqb-false, eq-eqb, ne-eqb, leb-true, leb-false, ltb-true, ltb-false, lt-ltb}
 use Rattle.rights.specs.Bytes.{within, all}
 use Rattle.rights.specs.Labels.{labelByte}
 use Rattle.rights.specs.PathReader.{runAt}
 use Rattle.rights.proofs.ListLaws.{byCase}
 use Rattle.rights.proofs.PathTexts.{and-left, and-right, run-all, run-length}
-use Rattle.forms.specs.Word.{sameText, among, labelBytesAt}
-use Rattle.forms.specs.How.Codes.{textNumber, textNumberAt, byNumber}
+use Rattle.forms.specs.Word.{signs, rights, sameText, among, labelBytesAt, signAt, rightAt}
+use Rattle.forms.specs.How.Codes.{textNumber, textNumberAt, byNumber, nextWeight}
 
--- The textNumber of a text, from its end
+-- The textNumber of a text, letter by letter
 
-pub number-more : (s : List ℕ) (j e : ℕ) → j < e → e ≤ length s → textNumber (take (e - j) (drop j s)) ≡ textNumber (take (e - suc j) (drop (suc j) s)) * 256 + getD s j 0
+letter-more : (xs : List ℕ) (k : ℕ) → k < length xs → textNumber (take (suc k) xs) ≡ textNumber (take k xs) + getD xs k 0 * 256 ^ k
 unfolding textNumber
-number-more s j e h l = let z : e - j ≡ suc (e - suc j) = omega arith in rw (z, drop-cons s j 0 (omega arith))
+letter-more [] k l = absurd (omega arith)
+letter-more (x ∷ xs) zero l = omega arith
+letter-more (x ∷ xs) (suc k) l =
+    omega (arith, letter-more xs k (omega arith), ap (λ (z : ℕ). getD xs k 0 * z) (pow-succ' 256 k) ∙ mul-left-comm (getD xs k 0) 256 (256 ^ k))
 
-pub more-fits : (n k b : ℕ) → n < 256 ^ k → b < 256 → n * 256 + b < 256 ^ suc k
-more-fits n k b h l = rw (pow-succ' 256 k) (omega arith)
+pub number-letter : (s : List ℕ) (at i : ℕ) → at ≤ i → i < length s → textNumber (take (i + 1 - at) (drop at s)) ≡ textNumber (take (i - at) (drop at s)) + getD s i 0 * 256 ^ (i - at)
+number-letter s at i l h =
+    let z : i + 1 - at ≡ suc (i - at) = omega arith in
+    let y : at + (i - at) ≡ i = omega arith in
+    rw z (letter-more (drop at s) (i - at) (omega (arith, length-drop at s)) ∙ ap (λ (b : ℕ). textNumber (take (i - at) (drop at s)) + b * 256 ^ (i - at)) (getD-drop at s (i - at) 0 ∙ ap (λ (j : ℕ). getD s j 0) y))
 
-pub few-fit : (n k : ℕ) → k ≤ 7 → n < 256 ^ k → n < 256 ^ 7
-few-fit n k h l = omega (arith, pow-le-pow-right {n = 256} (omega arith) {i = k} {j = 7} h)
+pub letter-fits : (n b w : ℕ) → n < w → b < 256 → n + b * w < 256 * w
+letter-fits n b w h l = omega (arith, mul-le-mul-right w (let z : b ≤ 255 = omega arith in z))
+
+pub next-fits : (at i : ℕ) {n b m : ℕ} → at ≤ i → m ≡ n + b * 256 ^ (i - at) → n < 256 ^ (i - at) → b < 256 → m < 256 ^ (i + 1 - at)
+next-fits at i {n} {b} {m} l e h s =
+    let z : i + 1 - at ≡ suc (i - at) = omega arith in
+    rw z (omega (arith, e, letter-fits n b (256 ^ (i - at)) h s, pow-succ' 256 (i - at)))
+
+-- letter i of a word, counted from `at`, has the weight w: none but the first eight have one
+abbrev pub Weight : ℕ → ℕ → ℕ → Type 0
+Weight at i w = (i < at + 8 → w ≡ 256 ^ (i - at)) × (i ≡ at + 8 → w ≡ 0)
+
+module _ (at i w : ℕ) (l : at ≤ i) (m : i ≤ at + 8) (h : Weight at i w) where
+  pub weightless : w ≡ 0 → 0 < 256 ^ (i - at) → i ≡ at + 8
+  weightless z p = byCase (ltb i (at + 8)) (λ t. absurd (omega (arith, h .0 (ltb-true i (at + 8) t)))) (λ t. omega (arith, ltb-false i (at + 8) t))
+
+  pub weighed : (w ≡ 0 → ⊥) → i < at + 8
+  weighed n = byCase (ltb i (at + 8)) (ltb-true i (at + 8)) (λ t. absurd (n (h .1 (omega (arith, ltb-false i (at + 8) t)))))
+
+  pub weight-most : i < at + 8 → w ≤ 256 ^ 7
+  weight-most k = omega (arith, h .0 k, pow-le-pow-right {n = 256} (omega arith) {i = i - at} {j = 7} (omega arith))
+
+  pub next-weight-is : i < at + 8 → Weight at (i + 1) (nextWeight w)
+  next-weight-is k = (
+    λ t.
+        let e = h .0 k in
+        let z : i + 1 - at ≡ suc (i - at) = omega arith in
+        rw (e, lt-ltb (256 ^ (i - at)) (256 ^ 7) (below t), z) (omega (arith, pow-succ' 256 (i - at))),
+    λ t.
+        let e = h .0 k in
+        let z : i - at ≡ 7 = omega arith in
+        rw (e, z),
+  )
+    where
+      below : i + 1 < at + 8 → 256 ^ (i - at) < 256 ^ 7
+      below t = omega (arith, pow-le-pow-right {n = 256} (omega arith) {i = suc (i - at)} {j = 7} (omega arith), pow-succ' 256 (i - at), pow-pos (i - at))
+        where
+          pow-pos : (k : ℕ) → 0 < 256 ^ k
+          pow-pos zero = omega arith
+          pow-pos (suc k) = omega (arith, pow-succ' 256 k, pow-pos k)
 
 -- A label byte is 45 to 122
 
@@ -130,6 +174,14 @@ unfolding byNumber among
 numbered-among other [] g s at = refl
 numbered-among other ((w, x) ∷ rest) g s at =
     rw (same-at s at w (and-left (wordText w) (wordTexts rest) g), numbered-among other rest (and-right (wordText w) (wordTexts rest) g) s at)
+
+pub sign-numbered : (s : List ℕ) (at : ℕ) → byNumber 0 signs (textNumberAt s at) ≡ signAt s at
+unfolding signAt labelByte all
+sign-numbered s at = numbered-among 0 signs refl s at
+
+pub right-numbered : (s : List ℕ) (at : ℕ) → byNumber 0 rights (textNumberAt s at) ≡ rightAt s at
+unfolding rightAt labelByte all
+right-numbered s at = numbered-among 0 rights refl s at
 
 -- A textNumber that is none of a table's: what a `match` on the numbers leaves
 abbrev pub Missing : {A : Type 0} → Type 0 → List (List ℕ × A) → ℕ → Type 0

@@ -1,16 +1,19 @@
-// The kinds of a line's parts (document 01, "Lines"), each by its number, and where a part of each ends.
-use crate::part::known_end;
+// The kinds of a line's parts (document 01, "Lines"), each by its number, and how a part of each is passed.
+use crate::part::PartRead;
+use crate::part::known;
 use crate::part::label_part_end;
 use crate::part::path_part_end;
-use crate::part::word_end;
-use crate::tree::tree_end;
-use crate::word::right_at;
-use crate::word::sign_at;
+use crate::part::silent;
+use crate::tree::read_tree;
+use crate::word::numbered_right;
+use crate::word::numbered_sign;
+use crate::word::pass_run;
 use rights::path::Read;
-ghost use Prim.Native.Nat.{_+_, _≤_};
+ghost use mathlib.Core.Path.{_≡_};
+ghost use Prim.Native.Nat.{_*_, _≤_};
 ghost use lib.ListN.{length};
-ghost use Rattle.rights.specs.How.Reading.{Onward};
-ghost use Rattle.forms.specs.How.Codes.{endBy};
+ghost use Rattle.forms.specs.How.Codes.{areaBy};
+ghost use Rattle.forms.specs.How.Reader.{PartPassed};
 
 // No kind: it ends a shape.
 pub const END: u8 = 0;
@@ -24,21 +27,36 @@ pub const TREE: u8 = 3;
 pub const SIGN: u8 = 4;
 
 pub const RIGHT: u8 = 5;
-// The word of a form.
-pub const WORD: u8 = 6;
 
-// The place after the part of kind k that stands at `at`.
-pub fn part_end(s: &[u8], at: usize, k: u8) -> Read
+// `accept` or `deny` at `at`.
+fn pass_sign(s: &[u8], at: usize) -> PartRead
     requires { ⌜ at ≤ length (now s) ⌝ }
-    ensures { λ r. ⌜ Onward (endBy k (now (s .entry)) at) r (at + 1) (length (now (s .entry))) ⌝ }
+    ensures { λ r. ⌜ PartPassed 4 (now (s .entry)) at r ⌝ }
+{
+    let run = pass_run(s, at);
+    known(at, run.end, numbered_sign(run.number))
+}
+
+// A right at `at`.
+fn pass_right(s: &[u8], at: usize) -> PartRead
+    requires { ⌜ at ≤ length (now s) ⌝ }
+    ensures { λ r. ⌜ PartPassed 5 (now (s .entry)) at r ⌝ }
+{
+    let run = pass_run(s, at);
+    known(at, run.end, numbered_right(run.number))
+}
+
+// The part of kind k at `at`. What it says is found while it is passed, and so are a tree's records, which are put into the lent area.
+pub fn pass_part(s: &[u8], at: usize, k: u8, tree: &mut [u8]) -> PartRead
+    requires { ⌜ (at ≤ length (now s)) × (16 * length (now s) ≤ length (now tree)) ⌝ }
+    ensures { λ r. ⌜ PartPassed k (now (s .entry)) at r × (now (tree .exit) ≡ areaBy k (now (s .entry)) at (now (tree .entry))) ⌝ }
 {
     match k {
-        LABEL => label_part_end(s, at),
-        PATH => path_part_end(s, at),
-        TREE => tree_end(s, at),
-        SIGN => known_end(s, at, sign_at(s, at)),
-        RIGHT => known_end(s, at, right_at(s, at)),
-        WORD => word_end(s, at),
-        _ => Read::Bad,
+        LABEL => silent(label_part_end(s, at)),
+        PATH => silent(path_part_end(s, at)),
+        TREE => read_tree(s, at, tree),
+        SIGN => pass_sign(s, at),
+        RIGHT => pass_right(s, at),
+        _ => silent(Read::Bad),
     }
 }

@@ -5,11 +5,8 @@ use crate::kind::PATH;
 use crate::kind::RIGHT;
 use crate::kind::SIGN;
 use crate::kind::TREE;
-use crate::word::number_at;
-ghost use Prim.Native.Nat.{_≤_};
-ghost use lib.ListN.{length};
 ghost use Rattle.forms.specs.How.Codes.{byNumber, LaidOut};
-ghost use Rattle.forms.specs.Layout.{words, wordAt};
+ghost use Rattle.forms.specs.Layout.{words};
 
 pub enum Word {
     Subject,
@@ -36,7 +33,8 @@ pub struct Layout {
     pub kinds: [u8; 5],
 }
 
-fn numbered_layout(n: u64) -> Layout
+// The layout of a word by its number.
+pub fn numbered_layout(n: u64) -> Layout
     ensures { λ r. ⌜ LaidOut (byNumber Word.Other words n) r ⌝ }
 {
     match n {
@@ -105,12 +103,4 @@ fn numbered_layout(n: u64) -> Layout
             kinds: [END, END, END, END, END],
         },
     }
-}
-
-// The word of a form that stands at `at`, and its kinds.
-pub fn layout_at(s: &[u8], at: usize) -> Layout
-    requires { ⌜ at ≤ length (now s) ⌝ }
-    ensures { λ r. ⌜ LaidOut (wordAt (now (s .entry)) at) r ⌝ }
-{
-    numbered_layout(number_at(s, at))
 }

@@ -1,14 +1,19 @@
-// Where the parts of a line end that are a label, a path or a word.
+// Where the parts of a line end that are a label, a path or a word, and what they say.
 use rights::limits::LABEL_MAX;
 use rights::path::Read;
 use rights::path::label_end;
 ghost use mathlib.Core.Path.{_≡_};
 ghost use Prim.Native.Nat.{_+_, _≤_};
 ghost use lib.ListN.{length};
-ghost use Rattle.rights.specs.Labels.{labelByte};
 ghost use Rattle.rights.specs.How.Reading.{Ends, Onward};
-ghost use Rattle.forms.specs.Part.{pathByte, labelEnd, runEnd, knownEnd};
-ghost use Rattle.forms.specs.How.Reader.{movedTo};
+ghost use Rattle.forms.specs.Part.{pathByte, labelEnd, runEnd};
+ghost use Rattle.forms.specs.How.Reader.{movedTo, knownTo};
+
+// The place after a part, and what the form holds of it besides its place: a sign's number, a right's bit, how many nodes a tree has, 0 for a label or a path.
+pub struct PartRead {
+    pub end: Read,
+    pub says: usize,
+}
 
 // Whether a byte may stand in the run that passes as a path: no space, no parenthesis.
 fn path_byte(b: u8) -> bool
@@ -66,21 +71,22 @@ pub fn path_part_end(s: &[u8], at: usize) -> Read
     moved(at, path_run_end(s, at))
 }
 
-// A word: a run of one or more label bytes.
-pub fn word_end(s: &[u8], at: usize) -> Read
-    requires { ⌜ at ≤ length (now s) ⌝ }
-    ensures { λ r. ⌜ Onward (runEnd labelByte (now (s .entry)) at) r (at + 1) (length (now (s .entry))) ⌝ }
+// A part of which the form holds nothing but its place.
+pub fn silent(end: Read) -> PartRead
+    ensures { λ r. ⌜ (r .end ≡ end) × (r .says ≡ 0) ⌝ }
 {
-    moved(at, label_end(s, at))
+    PartRead { end, says: 0 }
 }
 
-// A word that a table has as n; 0 says that it has none.
-pub fn known_end(s: &[u8], at: usize, n: u8) -> Read
-    requires { ⌜ at ≤ length (now s) ⌝ }
-    ensures { λ r. ⌜ Onward (knownEnd n (now (s .entry)) at) r (at + 1) (length (now (s .entry))) ⌝ }
+// A word from `at` up to `end` that a table has as n; 0 says that it has none.
+pub fn known(at: usize, end: usize, n: u8) -> PartRead
+    ensures { λ r. ⌜ (r .end ≡ knownTo n at end) × (r .says ≡ n) ⌝ }
 {
     if n == 0 {
-        return Read::Bad;
+        return silent(Read::Bad);
     }
-    word_end(s, at)
+    PartRead {
+        end: moved(at, end),
+        says: n as usize,
+    }
 }

@@ -1,39 +1,69 @@
-// Words by their letters: accept and deny, and the rights (document 01, "Lines"). Those that begin a form stand in layout.
-use crate::limits::WORD_MAX;
+// Words by their letters: accept and deny, and the rights (document 01, "Lines"). Those that begin a form stand in layout. A word is turned into its number
+// while it is passed.
+use crate::limits::LAST_WEIGHT;
+use rights::labels::label_byte;
 use rights::path::label_end;
 ghost use mathlib.Core.Path.{_≡_};
-ghost use Prim.Native.Nat.{_+_, _-_, _≤_};
-ghost use lib.ListN.{length, take, drop};
-ghost use Rattle.forms.specs.Word.{signs, rights, signAt, rightAt};
-ghost use Rattle.forms.specs.How.Codes.{textNumber, textNumberAt, byNumber};
+ghost use Prim.Native.Nat.{_+_, _*_, _^_, _≤_, _<_};
+ghost use lib.ListN.{length};
+ghost use Rattle.rights.specs.Labels.{labelByte};
+ghost use Rattle.rights.specs.How.Reading.{Ends};
+ghost use Rattle.forms.specs.Word.{signs, rights};
+ghost use Rattle.forms.specs.How.Codes.{textNumberAt, byNumber, nextWeight};
 
-// The bytes from a up to e as a textNumber, the first lowest.
-fn word_number(s: &[u8], a: usize, e: usize) -> u64
-    requires { ⌜ (a ≤ e) × (e ≤ a + 8) × (e ≤ length (now s)) ⌝ }
-    ensures { λ r. ⌜ r ≡ textNumber (take (e - a) (drop a (now (s .entry)))) ⌝ }
-{
-    let mut n = 0;
-    let mut i = e;
-    while a < i {
-        i -= 1;
-        n = n * 256 + s[i] as u64;
-    }
-    n
+// The place after a run of label bytes, and the number of the word that they write.
+pub struct Run {
+    pub end: usize,
+    pub number: u64,
 }
 
-// The label bytes at `at` as a textNumber; 0, which no word has, if they are too many for a word.
-pub fn number_at(s: &[u8], at: usize) -> u64
+// The number of a word of number n, once a letter of that weight is added.
+fn lettered(n: u64, b: u8, weight: u64) -> u64
+    requires { ⌜ (n < weight) × (weight ≤ 256 ^ 7) ⌝ }
+    ensures { λ r. ⌜ r ≡ n + b * weight ⌝ }
+{
+    n + b as u64 * weight
+}
+
+// The weight of the letter after one of that weight: 256 times as much, and 0 after the eighth letter, the last that a word has.
+fn next_weight(weight: u64) -> u64
+    ensures { λ r. ⌜ r ≡ nextWeight weight ⌝ }
+{
+    if weight < LAST_WEIGHT {
+        weight * 256
+    } else {
+        0
+    }
+}
+
+// The run of label bytes at `at`, each of them passed once. Its number is 0, which no word has, if it is too long for a word.
+pub fn pass_run(s: &[u8], at: usize) -> Run
     requires { ⌜ at ≤ length (now s) ⌝ }
-    ensures { λ r. ⌜ r ≡ textNumberAt (now (s .entry)) at ⌝ }
+    ensures { λ r. ⌜ Ends labelByte (now (s .entry)) at (r .end) × (r .number ≡ textNumberAt (now (s .entry)) at) ⌝ }
 {
-    let e = label_end(s, at);
-    if WORD_MAX < e - at {
-        return 0;
+    let mut number = 0;
+    let mut weight = 1;
+    let mut i = at;
+    while i < s.len() {
+        let b = s[i];
+        if !label_byte(b) {
+            return Run { end: i, number };
+        }
+        if weight == 0 {
+            return Run {
+                end: label_end(s, i),
+                number: 0,
+            };
+        }
+        number = lettered(number, b, weight);
+        weight = next_weight(weight);
+        i += 1;
     }
-    word_number(s, at, e)
+    Run { end: i, number }
 }
 
-fn numbered_sign(n: u64) -> u8
+// 1 for `accept` and 2 for `deny`, by its number; 0 for another word.
+pub fn numbered_sign(n: u64) -> u8
     ensures { λ r. ⌜ r ≡ byNumber 0 signs n ⌝ }
 {
     match n {
@@ -43,7 +73,8 @@ fn numbered_sign(n: u64) -> u8
     }
 }
 
-fn numbered_right(n: u64) -> u8
+// The bit of a right by the number of its name; 0 for another word.
+pub fn numbered_right(n: u64) -> u8
     ensures { λ r. ⌜ r ≡ byNumber 0 rights n ⌝ }
 {
     match n {
@@ -54,20 +85,4 @@ fn numbered_right(n: u64) -> u8
         111550592214372 => 16,
         _ => 0,
     }
-}
-
-// 1 for `accept` and 2 for `deny` at `at`; 0 if neither stands there.
-pub fn sign_at(s: &[u8], at: usize) -> u8
-    requires { ⌜ at ≤ length (now s) ⌝ }
-    ensures { λ r. ⌜ r ≡ signAt (now (s .entry)) at ⌝ }
-{
-    numbered_sign(number_at(s, at))
-}
-
-// The bit of the right whose name stands at `at`; 0 if none does.
-pub fn right_at(s: &[u8], at: usize) -> u8
-    requires { ⌜ at ≤ length (now s) ⌝ }
-    ensures { λ r. ⌜ r ≡ rightAt (now (s .entry)) at ⌝ }
-{
-    numbered_right(number_at(s, at))
 }

@@ -21,6 +21,8 @@ use Rattle.rights.specs.Tree as text
 use Rattle.rights.specs.Tree.{nodesOf, nodesIn}
 use Rattle.forms.specs.TreeText.{GoodTree, GoodTrees, GoodLabel}
 use Rattle.forms.specs.Form.{readForm, treeIn}
+use Rattle.forms.specs.How.Reader.{areaIn}
+use Rattle.forms.proofs.PlaceLaws.{area-form}
 use Rattle.answers.specs.AnswerChoice.{Choice}
 use Rattle.lines.specs.State.{stage, storeOk}
 use Rattle.lines.specs.Outcome.{refusal, Made}
@@ -160,6 +162,13 @@ pub run-asks : (s t line : List ℕ) {d g : ℕ} {f : Form} → d ≡ firstRefus
 run-asks s t line {d} {g} {f} e z q k w =
     let p = text-passed s t line e z in
     (p .0, p .1, q, not-false (inStage (stageOf f) (stage s)) (passed (formChecks f (stage s)) g refl k w .1 .0))
+
+-- the area of a line that is a form has the records of its tree
+pub tree-area : (s line a : List ℕ) {g : ℕ} {f : Form} {b : List ℕ} → f ≡ readForm line → g ≡ firstRefusal (formChecks f (stage s)) → g ≡ 0 → b ≡ areaIn line a
+    → b ≡ pasted a 0 (recordsOf (treeIn line))
+tree-area s line a {g} {f} q k w e =
+    let some = passed (formChecks f (stage s)) g refl k w .0 in
+    e ∙ area-form line a (λ z. let y : isNoForm f ≡ true = ap isNoForm (q ∙ z) in absurd (let x : true ≡ false = sym y ∙ some in let v : _≡_ {A = ℕ} 0 1 = cc in omega arith))
 
 -- a refusal leaves all as it was
 pub refused : {n : ℕ} {s t area : List ℕ} → Made (refusal n s t) area (Refused n) s t area

@@ -1,16 +1,16 @@
 -- How the code names words and kinds by numbers.
-use Prim.Native.Nat.{ℕ, _+_, _*_, _-_}
+use Prim.Native.Nat.{ℕ, _+_, _*_, _-_, _^_}
 use mathlib.Core.Bool.{cond}
 use mathlib.Core.List.{List, [], _∷_, _++_, map}
-use lib.Dec.{eqb, leb}
+use lib.Dec.{eqb, leb, ltb}
 use Rattle.rights.specs.Labels.{labelByte}
 use Rattle.rights.specs.PathReader.{runAt}
-use Rattle.forms.specs.Word.{labelBytesAt}
+use Rattle.forms.specs.Word.{labelBytesAt, signAt, rightAt}
 use Rattle.rights.specs.declared.path.Read.{Read}
 use Rattle.rights.specs.declared.path.Read.the-variants.{Bad}
-use Rattle.forms.specs.Part.{runEnd}
 use Rattle.forms.specs.Kind.{partEnd, Label, Path, Tree, Sign, Right, Kind, codeOf}
-use Rattle.rights.specs.Bytes.{byteAt}
+use Rattle.rights.specs.Record.{pasted}
+use Rattle.forms.specs.Tree.{treeNodes, recordsOf}
 use mathlib.Core.Path.{_≡_}
 use lib.ListN.{length, replicate}
 use Rattle.forms.specs.declared.layout.Word.{Word}
@@ -29,7 +29,11 @@ unfoldable pub byNumber : {A : Type 0} → A → List (List ℕ × A) → ℕ �
 byNumber other [] n = other
 byNumber other ((w, x) ∷ rest) n = cond (eqb n (textNumber w)) x (byNumber other rest n)
 
--- the place after a part of the kind with a textNumber, or of the form's word; after a space
+-- the weight of the letter after one of that weight, for words of up to 8 letters
+abbrev pub nextWeight : ℕ → ℕ
+nextWeight w = cond (ltb w (256 ^ 7)) (w * 256) 0
+
+-- the place after a part of the kind with a number
 unfoldable pub endBy : ℕ → List ℕ → ℕ → Read
 endBy n s at =
     cond (eqb n 1) (partEnd Label s at)
@@ -37,11 +41,15 @@ endBy n s at =
     (cond (eqb n 3) (partEnd Tree s at)
     (cond (eqb n 4) (partEnd Sign s at)
     (cond (eqb n 5) (partEnd Right s at)
-    (cond (eqb n 6) (runEnd labelByte s at)
-    Bad)))))
+    Bad))))
 
-abbrev pub oneBy : ℕ → List ℕ → ℕ → Read
-oneBy n s at = cond (eqb (byteAt s at) 32) (endBy n s (at + 1)) Bad
+-- what such a part says besides its place: a sign's number, a right's bit, how many nodes a tree has
+unfoldable pub saysBy : ℕ → List ℕ → ℕ → ℕ
+saysBy n s at = cond (eqb n 3) (length (treeNodes s at)) (cond (eqb n 4) (signAt s at) (cond (eqb n 5) (rightAt s at) 0))
+
+-- the area once such a part was passed: a tree's records are put
+unfoldable pub areaBy : ℕ → List ℕ → ℕ → List ℕ → List ℕ
+areaBy n s at a = cond (eqb n 3) (pasted a 0 (recordsOf (treeNodes s at))) a
 
 -- a form's kinds by their numbers, as the code has them: at most four, and 0 after the last
 abbrev pub codesOf : List Kind → List ℕ

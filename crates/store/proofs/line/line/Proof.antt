@@ -1,7 +1,8 @@
 -- The two groups of refusals stand in front of the form's own; where neither refuses, the form's work is the line's.
 use native.Mathlib.Omega.{arith}
+use lib.ListN.{replicate}
 use Rattle.lines.proofs.StateLaws.{store-held}
-use Rattle.store.proofs.LineLaws.{form-room, text-passed, text-refused, form-refused, run-asks, line-run}
+use Rattle.store.proofs.LineLaws.{form-room, text-passed, text-refused, form-refused, run-asks, tree-area, line-run}
 use borrow.Author.Needs.{needs}
 use Rattle.store.proofs.line.line.Statement.{statement}
 use Rattle.store.proofs.line.line.Tie as tie
@@ -29,8 +30,13 @@ run-requires c κs =
     let at-if2 = c .before .before .before .before in let at-form-refusal = at-if2 .before in
     let at-read-form = at-form-refusal .before .before .before in let at-if1 = at-read-form .before .before in let at-text-refusal = at-if1 .before in
     let p = run-asks _ _ _ (at-text-refusal .text-refusal .ensures) (at-if1 .if1 .left)
-    (at-read-form .read-form .ensures .0) (at-form-refusal .form-refusal .ensures) (at-if2 .if2 .left) in
-    (p .0, p .1, p .2, p .3, at-read-form .read-form .ensures .1)
+    (at-read-form .read-form .ensures .0) (at-form-refusal .form-refusal .ensures) (at-if2 .if2 .left) in (
+      p .0,
+      p .1,
+      p .2,
+      p .3,
+      tree-area _ _ (replicate 16384 0) (at-read-form .read-form .ensures .0) (at-form-refusal .form-refusal .ensures) (at-if2 .if2 .left) (at-read-form .read-form .ensures .1),
+    )
 
 returns-3 : tie.Need-returns-3
 returns-3 c =
