@@ -47,7 +47,7 @@ fn pass_right(s: &[u8], at: usize) -> PartRead
 }
 
 // The part of kind k at `at`. What it says is found while it is passed, and so are a tree's records, which are put into the lent area.
-pub fn pass_part(s: &[u8], at: usize, k: u8, tree: &mut [u8]) -> PartRead
+pub(crate) fn pass_part(s: &[u8], at: usize, k: u8, tree: &mut [u8]) -> PartRead
     requires { ⌜ (at ≤ length (now s)) × (16 * length (now s) ≤ length (now tree)) ⌝ }
     ensures { λ r. ⌜ PartPassed k (now (s .entry)) at r × (now (tree .exit) ≡ areaBy k (now (s .entry)) at (now (tree .entry))) ⌝ }
 {

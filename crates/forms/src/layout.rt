@@ -34,7 +34,7 @@ pub struct Layout {
 }
 
 // The layout of a word by its number.
-pub fn numbered_layout(n: u64) -> Layout
+pub(crate) fn numbered_layout(n: u64) -> Layout
     ensures { λ r. ⌜ LaidOut (byNumber Word.Other words n) r ⌝ }
 {
     match n {

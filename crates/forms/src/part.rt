@@ -41,7 +41,7 @@ fn path_run_end(s: &[u8], at: usize) -> usize
 }
 
 // A label of 1 to 24 bytes.
-pub fn label_part_end(s: &[u8], at: usize) -> Read
+pub(crate) fn label_part_end(s: &[u8], at: usize) -> Read
     requires { ⌜ at ≤ length (now s) ⌝ }
     ensures { λ r. ⌜ Onward (labelEnd (now (s .entry)) at) r (at + 1) (length (now (s .entry))) ⌝ }
 {
@@ -57,14 +57,14 @@ pub fn label_part_end(s: &[u8], at: usize) -> Read
 }
 
 // The place that reading came to from `from`, if it moved on.
-pub fn moved(from: usize, to: usize) -> Read
+pub(crate) fn moved(from: usize, to: usize) -> Read
     ensures { λ r. ⌜ r ≡ movedTo from to ⌝ }
 {
     if to <= from { Read::Bad } else { Read::At(to) }
 }
 
 // A run of one or more bytes that passes as a path.
-pub fn path_part_end(s: &[u8], at: usize) -> Read
+pub(crate) fn path_part_end(s: &[u8], at: usize) -> Read
     requires { ⌜ at ≤ length (now s) ⌝ }
     ensures { λ r. ⌜ Onward (runEnd pathByte (now (s .entry)) at) r (at + 1) (length (now (s .entry))) ⌝ }
 {
@@ -72,14 +72,14 @@ pub fn path_part_end(s: &[u8], at: usize) -> Read
 }
 
 // A part of which the form holds nothing but its place.
-pub fn silent(end: Read) -> PartRead
+pub(crate) fn silent(end: Read) -> PartRead
     ensures { λ r. ⌜ (r .end ≡ end) × (r .says ≡ 0) ⌝ }
 {
     PartRead { end, says: 0 }
 }
 
 // A word from `at` up to `end` that a table has as n; 0 says that it has none.
-pub fn known(at: usize, end: usize, n: u8) -> PartRead
+pub(crate) fn known(at: usize, end: usize, n: u8) -> PartRead
     ensures { λ r. ⌜ (r .end ≡ knownTo n at end) × (r .says ≡ n) ⌝ }
 {
     if n == 0 {

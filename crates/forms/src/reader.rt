@@ -31,7 +31,7 @@ pub struct LineReader<'a> {
 }
 
 // Before a line's first byte.
-pub fn beginning() -> Progress
+pub(crate) fn beginning() -> Progress
     ensures { λ r. ⌜ r .at ≡ 0 ⌝ }
 {
     Progress {
@@ -194,7 +194,7 @@ fn take<'a>(r: LineReader<'a>, t: usize, tree: &mut [u8]) -> LineReader<'a>
 }
 
 // Takes the parts of a line's form in order: how far the reader came.
-pub fn walk(line: &[u8], from: Progress, tree: &mut [u8]) -> Progress
+pub(crate) fn walk(line: &[u8], from: Progress, tree: &mut [u8]) -> Progress
     requires { ⌜ (from .at ≡ 0) × (16 * length (now line) ≤ length (now tree)) ⌝ }
     ensures { λ r. ⌜ Going (now (line .entry)) 6 r × (areaIn (now (line .entry)) (now (tree .entry)) ≡ now (tree .exit)) ⌝ }
 {

@@ -68,7 +68,7 @@ fn read_tail(s: &[u8], at: usize, depth: usize, tree: &mut [u8], n: usize) -> Pa
 }
 
 // The tree at `at`, its records put, levels from 0: the place after it, and how many records were put.
-pub fn read_tree(s: &[u8], at: usize, tree: &mut [u8]) -> PartRead
+pub(crate) fn read_tree(s: &[u8], at: usize, tree: &mut [u8]) -> PartRead
     requires { ⌜ 16 * length (now s) ≤ length (now tree) ⌝ }
     ensures { λ r. ⌜ TreeRead (now (s .entry)) at (now (tree .entry)) (now (tree .exit)) r ⌝ }
 {

@@ -37,7 +37,7 @@ fn next_weight(weight: u64) -> u64
 }
 
 // The run of label bytes at `at`, each of them passed once. Its number is 0, which no word has, if it is too long for a word.
-pub fn pass_run(s: &[u8], at: usize) -> Run
+pub(crate) fn pass_run(s: &[u8], at: usize) -> Run
     requires { ⌜ at ≤ length (now s) ⌝ }
     ensures { λ r. ⌜ Ends labelByte (now (s .entry)) at (r .end) × (r .number ≡ textNumberAt (now (s .entry)) at) ⌝ }
 {
@@ -63,7 +63,7 @@ pub fn pass_run(s: &[u8], at: usize) -> Run
 }
 
 // 1 for `accept` and 2 for `deny`, by its number; 0 for another word.
-pub fn numbered_sign(n: u64) -> u8
+pub(crate) fn numbered_sign(n: u64) -> u8
     ensures { λ r. ⌜ r ≡ byNumber 0 signs n ⌝ }
 {
     match n {
@@ -74,7 +74,7 @@ pub fn numbered_sign(n: u64) -> u8
 }
 
 // The bit of a right by the number of its name; 0 for another word.
-pub fn numbered_right(n: u64) -> u8
+pub(crate) fn numbered_right(n: u64) -> u8
     ensures { λ r. ⌜ r ≡ byNumber 0 rights n ⌝ }
 {
     match n {
