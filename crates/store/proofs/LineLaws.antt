@@ -158,16 +158,15 @@ module _ (f : Form) (g : ℕ) where
 -- what both let pass
 pub run-asks : (s t line : List ℕ) {d g : ℕ} {f : Form} → d ≡ firstRefusal (textChecks s t line) → d ≡ 0 → f ≡ readForm line
     → g ≡ firstRefusal (formChecks f (stage s)) → g ≡ 0
-    → (storeOk s t ≡ true) × (lineOk line ≡ true) × (f ≡ readForm line) × (inStage (stageOf f) (stage s) ≡ true)
+    → (storeOk s t ≡ true) × (lineOk line ≡ true) × (f ≡ readForm line) × (inStage (stageOf f) (stage s) ≡ true) × (isNoForm f ≡ false)
 run-asks s t line {d} {g} {f} e z q k w =
     let p = text-passed s t line e z in
-    (p .0, p .1, q, not-false (inStage (stageOf f) (stage s)) (passed (formChecks f (stage s)) g refl k w .1 .0))
+    let h = passed (formChecks f (stage s)) g refl k w in
+    (p .0, p .1, q, not-false (inStage (stageOf f) (stage s)) (h .1 .0), h .0)
 
 -- the area of a line that is a form has the records of its tree
-pub tree-area : (s line a : List ℕ) {g : ℕ} {f : Form} {b : List ℕ} → f ≡ readForm line → g ≡ firstRefusal (formChecks f (stage s)) → g ≡ 0 → b ≡ areaIn line a
-    → b ≡ pasted a 0 (recordsOf (treeIn line))
-tree-area s line a {g} {f} q k w e =
-    let some = passed (formChecks f (stage s)) g refl k w .0 in
+pub tree-area : (line a : List ℕ) {f : Form} {b : List ℕ} → f ≡ readForm line → isNoForm f ≡ false → b ≡ areaIn line a → b ≡ pasted a 0 (recordsOf (treeIn line))
+tree-area line a {f} q some e =
     e ∙ area-form line a (λ z. let y : isNoForm f ≡ true = ap isNoForm (q ∙ z) in absurd (let x : true ≡ false = sym y ∙ some in let v : _≡_ {A = ℕ} 0 1 = cc in omega arith))
 
 -- a refusal leaves all as it was

@@ -35,7 +35,7 @@ run-requires c κs =
       p .1,
       p .2,
       p .3,
-      tree-area _ _ (replicate 16384 0) (at-read-form .read-form .ensures .0) (at-form-refusal .form-refusal .ensures) (at-if2 .if2 .left) (at-read-form .read-form .ensures .1),
+      tree-area _ (replicate 16384 0) (p .2) (p .4) (at-read-form .read-form .ensures .1),
     )
 
 returns-3 : tie.Need-returns-3
