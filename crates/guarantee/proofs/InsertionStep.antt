@@ -48,7 +48,7 @@ use Rattle.guarantee.proofs.Accepted.{Accepted, lineWork, accepted, ans
 use Rattle.guarantee.proofs.FormLaws.{workIn}
 use Rattle.guarantee.proofs.Sound.{EffectSound, RootSound, InsertSound}
 use Rattle.guarantee.proofs.StoreKept.{root-held}
-use Rattle.guarantee.proofs.TableAfter.{table-after, recordsAfter}
+use Rattle.guarantee.proofs.TableAfter.{table-after}
 use Rattle.guarantee.proofs.TreeRecords.{tree-records}
 
 -- A table that passes and has a root holds a tree.
