@@ -8,7 +8,7 @@ use mathlib.Core.Logic.{_⊎_, inl, inr, ⊎-elim, _↔_}
 use native.Mathlib.Omega.{arith}
 use borrow.Author.Tests.{leb-true, leb-false, le-leb, lt-leb, ltb-true, ltb-false, lt-ltb, not-true, not-false}
 use lib.Dec.{leb, ltb}
-use lib.ListN.{length}
+use lib.ListN.{length, getD}
 use Rattle.rights.specs.Bytes.{all}
 use Rattle.rights.specs.Table.{count}
 use Rattle.rights.proofs.ListLaws.{byCase}
@@ -20,16 +20,19 @@ use Rattle.answers.specs.AnswerChoice.{Choice}
 use Rattle.lines.specs.Effect.{guarded, checksIn, performed}
 use Rattle.lines.specs.Outcome.{says, refuses, Outcome}
 use Rattle.lines.specs.Refusal.{Check, check, areaCheck, badStore, badLine, noForm, checked, indexIn, rising, Ordered}
+use Rattle.rights.specs.Held.{storedNodes}
 use Rattle.lines.specs.State.{stage, storeOk}
+use Rattle.lines.specs.Allowed.{sessionIn}
 use Rattle.lines.specs.Clause.{stageFor, clause}
 use Rattle.lines.specs.Conditions.{Some, Holds, First}
 use Rattle.lines.proofs.StateLaws.{store-held}
 use Rattle.lines.proofs.OwnRows.{own-tells}
 use Rattle.lines.proofs.ConditionLaws.{numbered, Tells, clash, first-exactly, none-exactly}
-use Rattle.lines.proofs.NameRows.{not-told, less-told}
+use Rattle.lines.proofs.AllowedStoreLaws.{store-allowed, allowed-store}
+use Rattle.lines.proofs.NameRows.{less-told}
 use Rattle.store.specs.Line.{inStage, step}
 use Rattle.store.specs.Refusals as table
-use Rattle.store.specs.Refusals.{frontChecks, BadLine, Says, nothing, refusals}
+use Rattle.store.specs.Refusals.{frontChecks, NoStore, BadLine, Says, nothing, refusals}
 use Rattle.store.proofs.ClauseLaws.{step-written, step-unwritten}
 
 -- 1
@@ -94,7 +97,14 @@ root-there s t k ok l h =
     yes true e = refl
     yes false e = e
 
-module _ (choice : Choice) (s t : List ℕ) (room : ℕ) where
+-- 13, of a table of bytes
+store-told : (s t : List ℕ) → ((i : ℕ) → getD t i 0 < 256) → NoStore s t ↔ (not (storeOk s t) ≡ true)
+store-told s t lent = (
+  λ h. byCase (storeOk s t) (λ e. absurd (h (sessionIn s) (storedNodes t) (store-allowed s t lent e))) (λ e. rw e),
+  λ e session nodes k. clash (allowed-store s t session nodes k .0) (not-true (storeOk s t) e),
+)
+
+module _ (choice : Choice) (s t : List ℕ) (lent : (i : ℕ) → getD t i 0 < 256) (room : ℕ) where
   abbrev pub checksFor : Command → List Check
   checksFor c = checksIn room (guarded (frontChecks c s t) (clause choice c s t))
 
@@ -146,7 +156,7 @@ module _ (choice : Choice) (s t : List ℕ) (room : ℕ) where
         numbers = checks-ordered c .numbers line g e;
         ordered = checks-ordered c .ordered;
         tells = (
-          not-told (storeOk s t),
+          store-told s t lent,
           λ a. (
             x,
             λ _. (
@@ -167,7 +177,7 @@ module _ (choice : Choice) (s t : List ℕ) (room : ℕ) where
         is = step-unwritten choice s t room line h ∙ byCase (storeOk s t) (λ a. byCase (lineOk line) (λ b. rw (a, b)) (λ b. rw (a, b))) (λ a. rw a);
         numbers = refl;
         ordered = refl;
-        tells = (not-told (storeOk s t), λ _. (line-told line, λ _. ((λ _. refl, λ _. tt), λ e. clash {b = true} refl e)));
+        tells = (store-told s t lent, λ _. (line-told line, λ _. ((λ _. refl, λ _. tt), λ e. clash {b = true} refl e)));
       }
 
   -- Refused with n exactly if n's condition holds and that of no number before it does

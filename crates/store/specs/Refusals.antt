@@ -3,14 +3,16 @@
 -- none holds (law accepted-exactly).
 use Prim.Native.Nat.{ℕ, _≤_, _<_}
 use mathlib.Core.Path.{_≡_}
-use mathlib.Core.Bool.{not, false}
+use mathlib.Core.Bool.{not}
 use mathlib.Core.List.{List, [], _∷_, _++_}
 use mathlib.Core.Logic.{_⊎_}
 use lib.ListN.{length}
 use Rattle.forms.specs.Text.{lineOk}
 use Rattle.forms.specs.Command.{Command, written, GoodCommand}
 use Rattle.answers.specs.AnswerChoice.{Choice}
+use Rattle.rights.specs.Nodes.{Nodes}
 use Rattle.lines.specs.State.{stageC, stage, storeOk}
+use Rattle.lines.specs.Allowed.{Session, HoldsStore}
 use Rattle.lines.specs.Refusal.{Check, check, badStore, badLine, wrongStage}
 use Rattle.lines.specs.Clause.{stageFor, clause}
 use Rattle.lines.specs.Conditions.{Some, Conditions, rows}
@@ -23,6 +25,11 @@ frontChecks c s t =
     ∷ check badLine (not (lineOk (written c)))
     ∷ check wrongStage (not (inStage (stageFor c) (stage s)))
     ∷ []
+
+-- "13 a table .. against "Tree and table"; a state against the limits, names, paths or stages above; a root in the table without the root line taken, or the reverse":
+-- state and table hold nothing that is allowed
+abbrev pub NoStore : List ℕ → List ℕ → Type 0
+NoStore s t = (session : Session) (nodes : Nodes) → HoldsStore s t session nodes → ⊥
 
 -- "1 too long or a byte outside 32 to 126"
 abbrev pub BadLine : List ℕ → Type 0
@@ -40,8 +47,8 @@ pub data Says (line : List ℕ) : Type 0 where
 -- the rows of a line: 13, 1 and 2 or 3 in front of its form's own, behind them "12 answer area shorter than the answer"
 abbrev pub refusals : Choice → List ℕ → List ℕ → ℕ → {line : List ℕ} → Says line → Conditions
 refusals choice s t room {line} (says c g e) =
-    (13, storeOk s t ≡ false)
+    (13, NoStore s t)
     ∷ (1, BadLine line)
     ∷ (3, WrongStage s c)
     ∷ (rows s t c ++ ((12, room < length (clause choice c s t .text)) ∷ []))
-refusals choice s t room {line} (nothing h) = (13, storeOk s t ≡ false) ∷ (1, BadLine line) ∷ (2, Unit {0}) ∷ []
+refusals choice s t room {line} (nothing h) = (13, NoStore s t) ∷ (1, BadLine line) ∷ (2, Unit {0}) ∷ []
