@@ -28,7 +28,7 @@ for path in glob.glob("crates/*/src/*.rt"):
         functions.update((name, module + "::" + name))
     types.update(re.findall(r"(?m)^\s*(?:pub(?:\(crate\))? )?(?:enum|struct|const) (\w+)", text))
     types.update(re.findall(r"(?m)^    ([A-Z]\w*)\b", text))
-edits = {path.split("/")[1] + "/" + os.path.basename(path)[:-5] for path in glob.glob("crates/*/edits/*.edit") + glob.glob("crates/*/must-fail/*.edit")}
+edits = {path.split("/")[1] + "/" + os.path.basename(path)[:-5] for path in glob.glob("crates/*/edits/*.edit")}
 crates = {os.path.basename(path) for path in glob.glob("crates/*")}
 
 # words of the language, no names of ours
