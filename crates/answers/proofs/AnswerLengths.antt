@@ -13,8 +13,7 @@ use Rattle.rights.specs.PathText.{decimal}
 use Rattle.rights.specs.Nodes.{Node, levelOf, labelOf, levelAt, TreeShaped}
 use Rattle.rights.specs.Marks.{keep}
 use Rattle.rights.proofs.ListLaws.{byCase}
-use Rattle.answers.specs.Answer.{number, doneText, endLine, hitLine, hitLines, queryText, opening, closing, childLines, viewText}
-use Rattle.answers.specs.AnswerChoice.{Found, nothing, hit, findText}
+use Rattle.answers.specs.Answer.{number, doneText, endLine, hitLine, hitLines, queryText, findText, opening, closing, childLines, viewText}
 
 -- Numbers
 
@@ -64,16 +63,9 @@ hits-most (n ∷ ns) a = rw (length-append (hitLine n) (hitLines ns)) (omega (ar
 pub query-most : (ns : List Node) → AllSmall ns → length (queryText ns) ≤ 12 + 35 * length ns
 query-most ns a = simp length-append (omega (arith, hits-most ns a, digits-few 20 (length ns)))
 
-listed-most : (n : Node) (ns : List Node) → List·Memᴰ n ns → length (hitLine n) ≤ length (hitLines ns)
-unfolding hitLines
-listed-most n [] m = absurd (List·Memᴰ·not-nil m)
-listed-most n (k ∷ ns) m =
-    rw (length-append (hitLine k) (hitLines ns))
-    (⊎-elim (λ e. omega (arith, ap (λ (x : Node). length (hitLine x)) e)) (λ l. omega (arith, listed-most n ns l)) (List·Memᴰ·cases-cons m))
-
-pub find-most : (f : Found) (ns : List Node) → AllSmall ns → ((n : Node) → f ≡ hit n → List·Memᴰ n ns) → length (findText f) ≤ 12 + 35 * length ns
-find-most nothing ns a h = omega arith
-find-most (hit n) ns a h = omega (arith, listed-most n ns (h n refl), hits-most ns a)
+pub find-most : (ns : List Node) → AllSmall ns → length (findText ns) ≤ 12 + 35 * length ns
+find-most [] a = omega arith
+find-most (n ∷ ns) a = omega (arith, hit-most n (a .0))
 
 -- `(done S D)`, of nodes that are no more than k
 pub done-most : (s d k : ℕ) → s ≤ k → d ≤ k → length (doneText s d) ≤ 12 + 35 * k

@@ -11,9 +11,7 @@ use lib.ListN.{length, getD, take, drop, replicate, drop-of-length-le}
 use lib.Seq.{drop-cons}
 use borrow.Author.Tests.{eq-eqb, ne-eqb}
 use Rattle.rights.specs.Nodes.{Node, node, levelOf, labelOf, levelAt, labelAt}
-use Rattle.answers.specs.AnswerChoice.{chosen, chosen-lawful, findText}
-use Rattle.answers.specs.AnswerChoice.First.{chosen-first}
-use Rattle.answers.specs.Answer.{noneLine, hitLine, hitLines, childLines, viewText, nextLevel, opening, rootLine, endLine}
+use Rattle.answers.specs.Answer.{noneLine, hitLine, hitLines, findText, childLines, viewText, nextLevel, opening, rootLine, endLine}
 use Rattle.rights.specs.Marks.{marksOf, markCount, keep}
 use Rattle.rights.proofs.ListLaws.{byCase}
 use Rattle.answers.specs.How.AnswerParts.{nodeAt, hitLineAt, nodeText}
@@ -104,11 +102,11 @@ closed-more k = rw add-one (go k)
     go zero = refl
     go (suc k) = ap (41 ∷_) (go k)
 
--- The choice of `find`
+-- The first hit
 
 module _ (ms : List ℕ) (vs : List Node) (i : ℕ) (same : keep (marksOf (drop i ms)) (drop i vs) ≡ keep (marksOf ms) vs) where
-  pub found-hit : i < length ms → i < length vs → (getD ms i 0 ≡ 0 → ⊥) → findText (chosen (marksOf ms) vs) ≡ hitLine (nodeAt vs i)
-  found-hit h k e = rw (chosen-first (marksOf ms) vs (nodeAt vs i) _ (sym same ∙ hits-take ms vs i h k e))
+  pub found-hit : i < length ms → i < length vs → (getD ms i 0 ≡ 0 → ⊥) → findText (keep (marksOf ms) vs) ≡ hitLine (nodeAt vs i)
+  found-hit h k e = ap findText (sym same ∙ hits-take ms vs i h k e)
 
-  pub found-none : length vs ≤ i → findText (chosen (marksOf ms) vs) ≡ noneLine
-  found-none h = rw (chosen-lawful .none-if (marksOf ms) vs (sym same ∙ hits-end ms vs i h))
+  pub found-none : length vs ≤ i → findText (keep (marksOf ms) vs) ≡ noneLine
+  found-none h = ap findText (sym same ∙ hits-end ms vs i h)

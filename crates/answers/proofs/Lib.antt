@@ -4,3 +4,4 @@ pub mod NodeLaws
 pub mod AnswerTreeLaws
 pub mod AnswerNumbers
 pub mod AnswerLengths
+pub mod FindLaws

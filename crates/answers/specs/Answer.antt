@@ -48,6 +48,11 @@ hitLines (n ∷ ns) = hitLine n ++ hitLines ns
 abbrev pub queryText : List Node → List ℕ
 queryText hits = hitLines hits ++ endLine (length hits)
 
+-- "`find` now answers the first selected node in document order" (document 02, card 1), and "`(none)` if nothing is selected". The hits are as for `query`.
+abbrev pub findText : List Node → List ℕ
+findText [] = noneLine
+findText (n ∷ hits) = hitLine n
+
 -- `(root L)`
 abbrev pub rootLine : List ℕ → List ℕ
 rootLine l = bytes "(root " ++ (l ++ closed)

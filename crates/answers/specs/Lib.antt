@@ -1,4 +1,3 @@
 pub mod Answer
-pub mod AnswerChoice
 pub mod AnswerTree
 pub mod How

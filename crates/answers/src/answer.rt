@@ -20,9 +20,8 @@ ghost use Rattle.rights.specs.PathText.{decimal};
 ghost use Rattle.rights.specs.Nodes.{labelAt};
 ghost use Rattle.rights.specs.How.Numbers.{viewOf, Fits};
 ghost use Rattle.rights.specs.Marks.{marksOf, keep};
-ghost use Rattle.answers.specs.Answer.{okText, doneText, refusedText, endLine, hitLine, hitLines, queryText, viewText, childLines, opening, closing, nextLevel, rootLine};
+ghost use Rattle.answers.specs.Answer.{okText, doneText, refusedText, endLine, hitLine, hitLines, queryText, findText, viewText, childLines, opening, closing, nextLevel, rootLine};
 ghost use Rattle.answers.specs.How.AnswerParts.{nodeAt, hitLineAt, nodeText};
-ghost use Rattle.answers.specs.AnswerChoice.{chosen, findText};
 ghost use Rattle.answers.specs.How.AnswerArea.{Puts, Answered, textMost};
 
 // A number of 64 bits has at most 20 digits.
@@ -173,7 +172,7 @@ fn put_query(area: &mut [u8], table: &[u8], shown: &[u16], marks: &[u8]) -> usiz
 // Puts the answer to `find`: the first hit in document order.
 fn put_found(area: &mut [u8], table: &[u8], shown: &[u16], marks: &[u8]) -> usize
     requires { ⌜ (Fits (now table) (now shown)) × (length (now shown) ≤ length (now marks)) ⌝ }
-    ensures { λ r. ⌜ Puts (findText (chosen (marksOf (now (marks .entry))) (viewOf (now (table .entry)) (now (shown .entry))))) 0 (now (area .entry))
+    ensures { λ r. ⌜ Puts (findText (keep (marksOf (now (marks .entry))) (viewOf (now (table .entry)) (now (shown .entry))))) 0 (now (area .entry))
         (now (area .exit)) r ⌝ }
 {
     let mut i = 0;
@@ -379,7 +378,7 @@ pub fn answer_query(table: &[u8], shown: &[u16], marks: &[u8], area: &mut [u8]) 
 // Writes the answer to `find`, whose hits are marked.
 pub fn answer_find(table: &[u8], shown: &[u16], marks: &[u8], area: &mut [u8]) -> usize
     requires { ⌜ (Fits (now table) (now shown)) × (length (now shown) ≤ length (now marks)) ⌝ }
-    ensures { λ r. ⌜ Answered (findText (chosen (marksOf (now (marks .entry))) (viewOf (now (table .entry)) (now (shown .entry)))))
+    ensures { λ r. ⌜ Answered (findText (keep (marksOf (now (marks .entry))) (viewOf (now (table .entry)) (now (shown .entry)))))
         (now (area .entry)) (now (area .exit)) r ⌝ }
 {
     let mut scratch = [0u8; 1];

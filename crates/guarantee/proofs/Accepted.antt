@@ -7,7 +7,6 @@ use mathlib.Core.Logic.{_⊎_, inl, inr}
 use native.Mathlib.Omega.{arith}
 use borrow.Author.Tests.{ltb-false, not-false}
 use lib.ListN.{length}
-use Rattle.answers.specs.AnswerChoice.{Choice}
 use Rattle.forms.specs.Form.{readForm}
 use Rattle.forms.specs.Text.{lineOk}
 use Rattle.lines.specs.State.{stage, storeOk}
@@ -24,10 +23,10 @@ abbrev saidBy : Reply → List ℕ
 saidBy (says b) = b
 saidBy (refuses n) = []
 
-module _ (choice : Choice) (s t line : List ℕ) where
+module _ (s t line : List ℕ) where
   -- the work of the form that was read
   abbrev pub lineWork : Work
-  lineWork = workIn choice line (readForm line) s t
+  lineWork = workIn line (readForm line) s t
 
   -- with the checks that every line meets
   abbrev guardedWork : Work
@@ -42,15 +41,15 @@ module _ (choice : Choice) (s t line : List ℕ) where
     pub bytes : lineOk line ≡ true
     pub sound : EffectSound (readForm line) line s t (lineWork .effect)
     pub fits : length (lineWork .text) ≤ room
-    pub is : step choice s t line room ≡ done
+    pub is : step s t line room ≡ done
 
   module _ (room : ℕ) where
     -- Every line is refused, and leaves all as it was, or is accepted.
-    pub line-cases : Refused s t (step choice s t line room) ⊎ Accepted room
+    pub line-cases : Refused s t (step s t line room) ⊎ Accepted room
     unfolding step performed
     line-cases = go (checked-cases (checksIn room guardedWork) s t done)
       where
-        go : Refused s t (step choice s t line room) ⊎ Went (checksIn room guardedWork) s t done → Refused s t (step choice s t line room) ⊎ Accepted room
+        go : Refused s t (step s t line room) ⊎ Went (checksIn room guardedWork) s t done → Refused s t (step s t line room) ⊎ Accepted room
         go (inl x) = inl x
         go (inr x) =
             let p = passed-both (guardedWork .checks) (areaCheck room (length (lineWork .text)) ∷ []) (x .passed) in
@@ -58,45 +57,45 @@ module _ (choice : Choice) (s t line : List ℕ) where
             inr (record {
               passes = ok;
               bytes = not-false (lineOk line) (p .0 .1 .0);
-              sound = read-law choice line .sound s t ok (not-false (inStage (stageOf (readForm line)) (stage s)) (p .0 .1 .1 .1 .0)) (p .0 .1 .1 .1 .1);
+              sound = read-law line .sound s t ok (not-false (inStage (stageOf (readForm line)) (stage s)) (p .0 .1 .1 .1 .0)) (p .0 .1 .1 .1 .1);
               fits = omega (arith, ltb-false room (length (lineWork .text)) (p .1 .0));
               is = x .is;
             })
 
     -- "The number is returned; state, tables and answer area keep their bytes."
-    pub refused-same : (n : ℕ) → step choice s t line room .reply ≡ refuses n → (step choice s t line room .state ≡ s) × (step choice s t line room .table ≡ t)
+    pub refused-same : (n : ℕ) → step s t line room .reply ≡ refuses n → (step s t line room .state ≡ s) × (step s t line room .table ≡ t)
     refused-same n e = go line-cases
       where
-        go : Refused s t (step choice s t line room) ⊎ Accepted room → (step choice s t line room .state ≡ s) × (step choice s t line room .table ≡ t)
+        go : Refused s t (step s t line room) ⊎ Accepted room → (step s t line room .state ≡ s) × (step s t line room .table ≡ t)
         go (inl x) = (ap (λ (o : Outcome). o .state) (x .is), ap (λ (o : Outcome). o .table) (x .is))
         go (inr x) =
             absurd (let q : says (lineWork .text) ≡ refuses n = sym (ap (λ (o : Outcome). o .reply) (x .is)) ∙ e in let z : _≡_ {A = ℕ} 0 1 = cc in omega arith)
 
     -- a line that answers is accepted
-    pub accepted : (b : List ℕ) → step choice s t line room .reply ≡ says b → Accepted room
+    pub accepted : (b : List ℕ) → step s t line room .reply ≡ says b → Accepted room
     accepted b e = go line-cases
       where
-        go : Refused s t (step choice s t line room) ⊎ Accepted room → Accepted room
+        go : Refused s t (step s t line room) ⊎ Accepted room → Accepted room
         go (inl x) = absurd (let q : refuses (x .number) ≡ says b = sym (ap (λ (o : Outcome). o .reply) (x .is)) ∙ e in let z : _≡_ {A = ℕ} 0 1 = cc in omega arith)
         go (inr x) = x
 
     -- and says what the work of its form says
-    pub answer-is : (b : List ℕ) → step choice s t line room .reply ≡ says b → b ≡ lineWork .text
+    pub answer-is : (b : List ℕ) → step s t line room .reply ≡ says b → b ≡ lineWork .text
     answer-is b e = ap saidBy (sym e ∙ ap (λ (o : Outcome). o .reply) (accepted b e .is))
 
-    pub taken : (n : ℕ) → answerOf (step choice s t line room .reply) ≡ answer.Accepted n → Accepted room
-    taken n e = go (step choice s t line room .reply) refl
+    pub taken : (n : ℕ) → answerOf (step s t line room .reply) ≡ answer.Accepted n → Accepted room
+    taken n e = go (step s t line room .reply) refl
       where
-        go : (r : Reply) → step choice s t line room .reply ≡ r → Accepted room
+        go : (r : Reply) → step s t line room .reply ≡ r → Accepted room
         go (says b) q = accepted b q
         go (refuses k) q = absurd (let y : answer.Refused k ≡ answer.Accepted n = sym (ap answerOf q) ∙ e in let z : _≡_ {A = ℕ} 0 1 = cc in omega arith)
 
     -- What holds of the store before, and of the store after every effect that is sound, holds after every line.
     pub after-line : (Q : List ℕ → List ℕ → Type 0) → Q s t
         → (storeOk s t ≡ true → EffectSound (readForm line) line s t (lineWork .effect) → Q (stateAfter (lineWork .effect) s) (tableAfter (lineWork .effect) t))
-        → Q (step choice s t line room .state) (step choice s t line room .table)
+        → Q (step s t line room .state) (step s t line room .table)
     after-line Q q k = go line-cases
       where
-        go : Refused s t (step choice s t line room) ⊎ Accepted room → Q (step choice s t line room .state) (step choice s t line room .table)
+        go : Refused s t (step s t line room) ⊎ Accepted room → Q (step s t line room .state) (step s t line room .table)
         go (inl x) = rw (x .is) q
         go (inr x) = rw (x .is) (k (x .passes) (x .sound))

@@ -22,7 +22,6 @@ use Rattle.views.specs.declared.done.Change.{Change}
 use Rattle.views.specs.declared.done.Change.the-variants as change
 use Rattle.views.proofs.TableLaws.{facts}
 use Rattle.views.proofs.ViewLaws.{view-nested, keep-length, shown-few}
-use Rattle.answers.specs.AnswerChoice.{Choice, Lawful}
 use Rattle.answers.proofs.AnswerLengths.{AllSmall, small-kept, query-most, find-most, done-most, view-most}
 use Rattle.forms.specs.Form.{readForm, treeIn}
 use Rattle.forms.specs.Tree.{recordsOf}
@@ -89,34 +88,33 @@ module _ (s t : List ℕ) (ok : storeOk s t ≡ true) where
       (omega (arith, few-marks (doneIn c s t path), done-size c s t path))
 
   -- Every answer: 12 bytes, and 35 for each record in use.
-  module _ (choice : Choice) (lawful : Lawful choice) where
-    pub answer-most : (f : Form) (line tree : List ℕ) → length (workOf choice f s t line tree .text) ≤ 12 + 35 * count t
-    answer-most (form.Subject n) line tree = omega arith
-    answer-most (form.Isa n r) line tree = omega arith
-    answer-most (form.Rule a b p n) line tree = omega arith
-    answer-most (form.Root l) line tree = omega arith
-    answer-most (form.Child m) line tree = omega arith
-    answer-most (form.User n) line tree = omega arith
-    answer-most form.View line tree =
-        omega (arith, view-most (viewIn s t) (view-nested t (rightsIn s t) table-ok) view-small (omega (arith, facts t table-ok .few, view-few)), view-few)
-    answer-most (form.Query p) line tree =
-        let ms = marksIn s t (bytesOf line p) in
-        omega (arith, query-most (keep ms (viewIn s t)) (small-kept ms (viewIn s t) view-small), keep-length ms (viewIn s t), view-few)
-    answer-most (form.Find p) line tree =
-        let ms = marksIn s t (bytesOf line p) in
-        omega (
-          arith,
-          find-most (choice ms (viewIn s t)) (keep ms (viewIn s t)) (small-kept ms (viewIn s t) view-small) (λ n e. lawful .listed ms (viewIn s t) n e),
-          keep-length ms (viewIn s t),
-          view-few,
-        )
-    answer-most (form.Rename p l) line tree = count-most change.Rename (bytesOf line p)
-    answer-most (form.Update p l) line tree = count-most change.Update (bytesOf line p)
-    answer-most (form.Append p m) line tree = count-most change.Append (bytesOf line p)
-    answer-most (form.Before p m) line tree = count-most change.Before (bytesOf line p)
-    answer-most (form.After p m) line tree = count-most change.After (bytesOf line p)
-    answer-most (form.Remove p) line tree = count-most change.Remove (bytesOf line p)
-    answer-most form.NoForm line tree = omega arith
+  pub answer-most : (f : Form) (line tree : List ℕ) → length (workOf f s t line tree .text) ≤ 12 + 35 * count t
+  answer-most (form.Subject n) line tree = omega arith
+  answer-most (form.Isa n r) line tree = omega arith
+  answer-most (form.Rule a b p n) line tree = omega arith
+  answer-most (form.Root l) line tree = omega arith
+  answer-most (form.Child m) line tree = omega arith
+  answer-most (form.User n) line tree = omega arith
+  answer-most form.View line tree =
+      omega (arith, view-most (viewIn s t) (view-nested t (rightsIn s t) table-ok) view-small (omega (arith, facts t table-ok .few, view-few)), view-few)
+  answer-most (form.Query p) line tree =
+      let ms = marksIn s t (bytesOf line p) in
+      omega (arith, query-most (keep ms (viewIn s t)) (small-kept ms (viewIn s t) view-small), keep-length ms (viewIn s t), view-few)
+  answer-most (form.Find p) line tree =
+      let ms = marksIn s t (bytesOf line p) in
+      omega (
+        arith,
+        find-most (keep ms (viewIn s t)) (small-kept ms (viewIn s t) view-small),
+        keep-length ms (viewIn s t),
+        view-few,
+      )
+  answer-most (form.Rename p l) line tree = count-most change.Rename (bytesOf line p)
+  answer-most (form.Update p l) line tree = count-most change.Update (bytesOf line p)
+  answer-most (form.Append p m) line tree = count-most change.Append (bytesOf line p)
+  answer-most (form.Before p m) line tree = count-most change.Before (bytesOf line p)
+  answer-most (form.After p m) line tree = count-most change.After (bytesOf line p)
+  answer-most (form.Remove p) line tree = count-most change.Remove (bytesOf line p)
+  answer-most form.NoForm line tree = omega arith
 
 -- Checks: n is not what a list of them refuses with, if none with that number fails
 
@@ -151,38 +149,38 @@ own-spared n h (c ∷ cs) e =
     let f = both (within 2 11 (c .number)) (own cs) e in
     (λ i. absurd (omega (arith, leb-true (c .number) 11 (both (leb 2 (c .number)) _ (f .0) .1))), own-spared n h cs (f .1))
 
-own-checks : (choice : Choice) (f : Form) (s t line tree : List ℕ) → own (workOf choice f s t line tree .checks) ≡ true
-own-checks choice (form.Subject n) s t line tree = refl
-own-checks choice (form.Isa n r) s t line tree = refl
-own-checks choice (form.Rule a b p n) s t line tree = refl
-own-checks choice (form.Root l) s t line tree = refl
-own-checks choice (form.Child m) s t line tree = refl
-own-checks choice (form.User n) s t line tree = refl
-own-checks choice form.View s t line tree = refl
-own-checks choice (form.Query p) s t line tree = refl
-own-checks choice (form.Find p) s t line tree = refl
-own-checks choice (form.Rename p l) s t line tree = refl
-own-checks choice (form.Update p l) s t line tree = refl
-own-checks choice (form.Append p m) s t line tree = refl
-own-checks choice (form.Before p m) s t line tree = refl
-own-checks choice (form.After p m) s t line tree = refl
-own-checks choice (form.Remove p) s t line tree = refl
-own-checks choice form.NoForm s t line tree = refl
+own-checks : (f : Form) (s t line tree : List ℕ) → own (workOf f s t line tree .checks) ≡ true
+own-checks (form.Subject n) s t line tree = refl
+own-checks (form.Isa n r) s t line tree = refl
+own-checks (form.Rule a b p n) s t line tree = refl
+own-checks (form.Root l) s t line tree = refl
+own-checks (form.Child m) s t line tree = refl
+own-checks (form.User n) s t line tree = refl
+own-checks form.View s t line tree = refl
+own-checks (form.Query p) s t line tree = refl
+own-checks (form.Find p) s t line tree = refl
+own-checks (form.Rename p l) s t line tree = refl
+own-checks (form.Update p l) s t line tree = refl
+own-checks (form.Append p m) s t line tree = refl
+own-checks (form.Before p m) s t line tree = refl
+own-checks (form.After p m) s t line tree = refl
+own-checks (form.Remove p) s t line tree = refl
+own-checks form.NoForm s t line tree = refl
 
 -- a form's own checks, and the last one
 last-spared : (n room : ℕ) (w : Work) → 11 < n → own (w .checks) ≡ true → (areaShort ≡ n → ltb room (length (w .text)) ≡ false) → Spared n (checksIn room w)
 last-spared n room w h e f = spared-both n (w .checks) (areaCheck room (length (w .text)) ∷ []) (own-spared n h (w .checks) e) (f, tt)
 
-module _ (choice : Choice) (s t line : List ℕ) (room : ℕ) (ok : storeOk s t ≡ true) where
-  own-work : own (lineWork choice s t line .checks) ≡ true
-  own-work = own-checks choice (readForm line) s t line (recordsOf (treeIn line))
+module _ (s t line : List ℕ) (room : ℕ) (ok : storeOk s t ≡ true) where
+  own-work : own (lineWork s t line .checks) ≡ true
+  own-work = own-checks (readForm line) s t line (recordsOf (treeIn line))
 
-  spared-step : (n : ℕ) → Spared n (checksIn room (guarded (lineChecks s t line (readForm line)) (lineWork choice s t line))) → step choice s t line room .reply ≡ refuses n → ⊥
+  spared-step : (n : ℕ) → Spared n (checksIn room (guarded (lineChecks s t line (readForm line)) (lineWork s t line))) → step s t line room .reply ≡ refuses n → ⊥
   unfolding step performed
   spared-step n p e = spared-not n _ s t _ _ _ p e
 
   -- A store that passes: no line is refused with 13.
-  pub passing-not-13 : step choice s t line room .reply ≡ refuses badStore → ⊥
+  pub passing-not-13 : step s t line room .reply ≡ refuses badStore → ⊥
   passing-not-13 =
       spared-step badStore (
         λ e. ap not ok,
@@ -192,15 +190,15 @@ module _ (choice : Choice) (s t line : List ℕ) (room : ℕ) (ok : storeOk s t 
             λ e. absurd (omega arith),
             (
               λ e. absurd (omega arith),
-              last-spared badStore room (lineWork choice s t line) (omega arith) own-work (λ e. absurd (omega arith)),
+              last-spared badStore room (lineWork s t line) (omega arith) own-work (λ e. absurd (omega arith)),
             ),
           ),
         ),
       )
 
   -- An area of 12 bytes and 35 for each record that the table can hold: no line is refused with 12.
-  pub area-suffices : Lawful choice → 12 + 35 * capacity (length t) ≤ room → step choice s t line room .reply ≡ refuses areaShort → ⊥
-  area-suffices lawful h =
+  pub area-suffices : 12 + 35 * capacity (length t) ≤ room → step s t line room .reply ≡ refuses areaShort → ⊥
+  area-suffices h =
       spared-step areaShort (
         λ e. absurd (omega arith),
         (
@@ -209,19 +207,19 @@ module _ (choice : Choice) (s t line : List ℕ) (room : ℕ) (ok : storeOk s t 
             λ e. absurd (omega arith),
             (
               λ e. absurd (omega arith),
-              last-spared areaShort room (lineWork choice s t line) (omega arith) own-work (λ e. fits),
+              last-spared areaShort room (lineWork s t line) (omega arith) own-work (λ e. fits),
             ),
           ),
         ),
       )
     where
-      fits : ltb room (length (lineWork choice s t line .text)) ≡ false
+      fits : ltb room (length (lineWork s t line .text)) ≡ false
       fits =
-          le-ltb room (length (lineWork choice s t line .text))
-          (omega (arith, answer-most s t ok choice lawful (readForm line) line (recordsOf (treeIn line)), facts t (store-held s t ok .table) .held))
+          le-ltb room (length (lineWork s t line .text))
+          (omega (arith, answer-most s t ok (readForm line) line (recordsOf (treeIn line)), facts t (store-held s t ok .table) .held))
 
 -- Whatever a line does, the table keeps its length.
-pub table-length-kept : (choice : Choice) (s t line : List ℕ) (room : ℕ) → length (step choice s t line room .table) ≡ length t
-table-length-kept choice s t line room =
-    after-line choice s t line room (λ s' t'. length t' ≡ length t) refl
-    λ p x. table-after (readForm line) line s t (store-held s t p .table) (lineWork choice s t line .effect) x .same-length
+pub table-length-kept : (s t line : List ℕ) (room : ℕ) → length (step s t line room .table) ≡ length t
+table-length-kept s t line room =
+    after-line s t line room (λ s' t'. length t' ≡ length t) refl
+    λ p x. table-after (readForm line) line s t (store-held s t p .table) (lineWork s t line .effect) x .same-length

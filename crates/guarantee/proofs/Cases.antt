@@ -26,7 +26,6 @@ use Rattle.rights.specs.Marks.{eachFrom, keep}
 use Rattle.views.specs.Change.{dropBelow, putBehind, remove, insertBehind, rename, chunks, raise, join, changed, deepest, tooDeep}
 use Rattle.views.specs.Done.{inTable}
 use Rattle.answers.specs.Answer.{hitLines, childLines, viewText}
-use Rattle.answers.specs.AnswerChoice.{Choice}
 use Rattle.forms.specs.Word.{sameText, among, signAt, rightAt}
 use Rattle.forms.specs.Layout.{wordAt}
 use Rattle.forms.specs.Part.{pathByte, labelEnd, runEnd, knownEnd}
@@ -43,25 +42,25 @@ use Rattle.store.specs.Line.{workOf, lineChecks, step}
 use Rattle.guarantee.proofs.SessionKept.{store-kept}
 
 -- A line from a store that passes: `step` without 13.
-unfoldable pub passed : Choice → List ℕ → List ℕ → Input → Outcome
-passed choice s t i =
-    performed (guarded (drop 1 (lineChecks s t (i .line) (readForm (i .line)))) (workOf choice (readForm (i .line)) s t (i .line) (recordsOf (treeIn (i .line))))) (i .room) s t
+unfoldable pub passed : List ℕ → List ℕ → Input → Outcome
+passed s t i =
+    performed (guarded (drop 1 (lineChecks s t (i .line) (readForm (i .line)))) (workOf (readForm (i .line)) s t (i .line) (recordsOf (treeIn (i .line))))) (i .room) s t
 
-pub step-passed : (choice : Choice) (s t : List ℕ) (i : Input) → storeOk s t ≡ true → outcome choice s t i ≡ passed choice s t i
+pub step-passed : (s t : List ℕ) (i : Input) → storeOk s t ≡ true → outcome s t i ≡ passed s t i
 unfolding step performed checked passed
-step-passed choice s t i ok = rw ok
+step-passed s t i ok = rw ok
 
-unfoldable passedReplies : Choice → List ℕ → List ℕ → List Input → List Reply
-passedReplies choice s t [] = []
-passedReplies choice s t (i ∷ is) = passed choice s t i .reply ∷ passedReplies choice (passed choice s t i .state) (passed choice s t i .table) is
+unfoldable passedReplies : List ℕ → List ℕ → List Input → List Reply
+passedReplies s t [] = []
+passedReplies s t (i ∷ is) = passed s t i .reply ∷ passedReplies (passed s t i .state) (passed s t i .table) is
 
 -- Every line leaves a store that passes, so in a run from one that passes 13 need not be computed again. This carries the table to `step`.
-carried : (choice : Choice) (s t : List ℕ) (is : List Input) → storeOk s t ≡ true → replies choice s t is ≡ passedReplies choice s t is
+carried : (s t : List ℕ) (is : List Input) → storeOk s t ≡ true → replies s t is ≡ passedReplies s t is
 unfolding replies passedReplies passed
-carried choice s t [] p = refl
-carried choice s t (i ∷ is) p =
-    let e : outcome choice s t i ≡ passed choice s t i = step-passed choice s t i p in
-    rw (carried choice (outcome choice s t i .state) (outcome choice s t i .table) is (store-kept choice s t (i .line) (i .room) p), e)
+carried s t [] p = refl
+carried s t (i ∷ is) p =
+    let e : outcome s t i ≡ passed s t i = step-passed s t i p in
+    rw (carried (outcome s t i .state) (outcome s t i .table) is (store-kept s t (i .line) (i .room) p), e)
 
 -- a new store passes
 pub new-passes : storeOk newState (newTable 1024) ≡ true
@@ -73,52 +72,52 @@ unfolding all recordsFrom recordsOk tableOk every subjectsOk isasOk rulesOk poli
 small-passes = refl
 
 -- what the lines of a row give from a new store, where 13 is not computed
-unfoldable pub given : Choice → Case → List Reply
+unfoldable pub given : Case → List Reply
 unfolding passedReplies passed digitByte run all labelByte sameLabel passes readTest readStep numberOf isPosition readPosition closes readBrackets readSteps unslashed brackets steps pathOf decimal writeTest some passesOwn policyWord testOf namesFrom isaFrom stepsFrom rulesFrom policyOf recordOf isBy reaches decide rightsBy chains levelAt labelAt filter withNumber each stretch nodeSet filtered xpathSelected recordsFrom storedFrom atParent nearestFirst shownAfter keep eachFrom dropBelow putBehind remove insertBehind rename chunks raise join changed deepest tooDeep inTable hitLines childLines viewText sameText among wordAt signAt rightAt pathByte labelEnd openEnd tailEnd treeEnd tailNodes treeNodes recordsOf partsOf endsIn readForm treeIn subjectFrom subjectNamed isaHeld bracketed hasBracket stepList stepsIn pathRestricted stepRecords withLine lineByte lineOk checked performed treeRestricted folded padded standsFor subjectsWhere runEnd knownEnd treePlace
-given choice c = passedReplies choice newState (newTable (c .capacity)) (map input (c .turns))
+given c = passedReplies newState (newTable (c .capacity)) (map input (c .turns))
 
-abbrev Gives : Choice → Case → Type 0
-Gives choice c = given choice c ≡ map (λ x. x .reply) (c .turns)
+abbrev Gives : Case → Type 0
+Gives c = given c ≡ map (λ x. x .reply) (c .turns)
 
-example-answered : (choice : Choice) → Gives choice exampleAnswered
+example-answered : Gives exampleAnswered
 unfolding given
-example-answered choice = refl
+example-answered = refl
 
-example-renamed : (choice : Choice) → Gives choice exampleRenamed
+example-renamed : Gives exampleRenamed
 unfolding given
-example-renamed choice = refl
+example-renamed = refl
 
-bracket-holds : (choice : Choice) → Gives choice bracketHolds
+bracket-holds : Gives bracketHolds
 unfolding given
-bracket-holds choice = refl
+bracket-holds = refl
 
-bracket-counts : (choice : Choice) → Gives choice bracketCounts
+bracket-counts : Gives bracketCounts
 unfolding given
-bracket-counts choice = refl
+bracket-counts = refl
 
-no-rules : (choice : Choice) → Gives choice noRules
+no-rules : Gives noRules
 unfolding given
-no-rules choice = refl
+no-rules = refl
 
-root-removed : (choice : Choice) → Gives choice rootRemoved
+root-removed : Gives rootRemoved
 unfolding given
-root-removed choice = refl
+root-removed = refl
 
-lesson-removed : (choice : Choice) → Gives choice lessonRemoved
+lesson-removed : Gives lessonRemoved
 unfolding given
-lesson-removed choice = refl
+lesson-removed = refl
 
-levels-given : (choice : Choice) → Gives choice levels
+levels-given : Gives levels
 unfolding given
-levels-given choice = refl
+levels-given = refl
 
-few-records : (choice : Choice) → Gives choice fewRecords
+few-records : Gives fewRecords
 unfolding given
-few-records choice = refl
+few-records = refl
 
-answered : (choice : Choice) (c : Case) → storeOk newState (newTable (c .capacity)) ≡ true → Gives choice c → CaseAnswered choice c
+answered : (c : Case) → storeOk newState (newTable (c .capacity)) ≡ true → Gives c → CaseAnswered c
 unfolding given
-answered choice c p e = carried choice newState (newTable (c .capacity)) (map input (c .turns)) p ∙ e
+answered c p e = carried newState (newTable (c .capacity)) (map input (c .turns)) p ∙ e
 
 abbrev _and_ : {A B : Type 0} → A → B → A × B
 _and_ a b = (a, b)
@@ -126,30 +125,30 @@ _and_ a b = (a, b)
 infixr 3 _and_
 -- ★ Every row of the table.
 pub starred : Starred
-starred choice =
-    answered choice exampleAnswered new-passes (example-answered choice)
-    and answered choice exampleRenamed new-passes (example-renamed choice)
-    and answered choice bracketHolds new-passes (bracket-holds choice)
-    and answered choice bracketCounts new-passes (bracket-counts choice)
-    and answered choice noRules new-passes (no-rules choice)
-    and answered choice rootRemoved new-passes (root-removed choice)
-    and answered choice lessonRemoved new-passes (lesson-removed choice)
-    and answered choice levels new-passes (levels-given choice)
-    and answered choice fewRecords small-passes (few-records choice)
+starred =
+    answered exampleAnswered new-passes (example-answered)
+    and answered exampleRenamed new-passes (example-renamed)
+    and answered bracketHolds new-passes (bracket-holds)
+    and answered bracketCounts new-passes (bracket-counts)
+    and answered noRules new-passes (no-rules)
+    and answered rootRemoved new-passes (root-removed)
+    and answered lessonRemoved new-passes (lesson-removed)
+    and answered levels new-passes (levels-given)
+    and answered fewRecords small-passes (few-records)
     and tt
 
 -- No reading that makes demand 3 false is the store's.
-hidden-child : (choice : Choice) → Gives choice hiddenChild
+hidden-child : Gives hiddenChild
 unfolding given
-hidden-child choice = refl
+hidden-child = refl
 
-words-of-others : (choice : Choice) → Gives choice wordsOfOthers
+words-of-others : Gives wordsOfOthers
 unfolding given
-words-of-others choice = refl
+words-of-others = refl
 
 pub read-right : ReadRight
-read-right choice =
-    answered choice hiddenChild small-passes (hidden-child choice)
-    and answered choice wordsOfOthers small-passes (words-of-others choice)
-    and answered choice fewRecords small-passes (few-records choice)
+read-right =
+    answered hiddenChild small-passes (hidden-child)
+    and answered wordsOfOthers small-passes (words-of-others)
+    and answered fewRecords small-passes (few-records)
     and tt

@@ -16,7 +16,6 @@ use Rattle.rights.specs.Table.{records, level, label}
 use Rattle.views.specs.Nodes.{Nested}
 use Rattle.views.specs.Shown.{Stored, stored, shown, view}
 use Rattle.answers.specs.Answer.{okText}
-use Rattle.answers.specs.AnswerChoice.{Choice}
 use Rattle.lines.specs.PolicyEdit.{subjectNamed}
 use Rattle.lines.specs.State.{stageC, stageE, stage, policyIn, storeOk}
 use Rattle.lines.specs.Effect.{performed}
@@ -76,28 +75,28 @@ alike-self u s t ok g = record {
 }
 
 -- what holds after a line
-module _ (choice : Choice) (u : ℕ) (s t s' t' : List ℕ) (a : Alike u s t s' t') (i : Input) where
+module _ (u : ℕ) (s t s' t' : List ℕ) (a : Alike u s t s' t') (i : Input) where
   abbrev Next : Type 0
-  Next = Alike u (outcome choice s t i .state) (outcome choice s t i .table) (outcome choice s' t' i .state) (outcome choice s' t' i .table)
+  Next = Alike u (outcome s t i .state) (outcome s t i .table) (outcome s' t' i .state) (outcome s' t' i .table)
 
   -- a line that leaves the low projections equal leaves the stores alike
   next-alike : u < length (policyIn s .names)
-      → lowOf (policyIn s) u (records (outcome choice s t i .table)) ≡ lowOf (policyIn s) u (records (outcome choice s' t' i .table)) → Next
+      → lowOf (policyIn s) u (records (outcome s t i .table)) ≡ lowOf (policyIn s) u (records (outcome s' t' i .table)) → Next
   next-alike d e =
-      let k : policyIn (outcome choice s t i .state) ≡ policyIn s = ap policyOf (policy-kept choice s t (i .line) (i .room) (a .start .rooted)) in
-      let k' : policyIn (outcome choice s' t' i .state) ≡ policyIn s' = ap policyOf (policy-kept choice s' t' (i .line) (i .room) (a .start .rooted')) in
-      low-alike u (outcome choice s t i .state) (outcome choice s t i .table) (outcome choice s' t' i .state) (outcome choice s' t' i .table)
+      let k : policyIn (outcome s t i .state) ≡ policyIn s = ap policyOf (policy-kept s t (i .line) (i .room) (a .start .rooted)) in
+      let k' : policyIn (outcome s' t' i .state) ≡ policyIn s' = ap policyOf (policy-kept s' t' (i .line) (i .room) (a .start .rooted')) in
+      low-alike u (outcome s t i .state) (outcome s t i .table) (outcome s' t' i .state) (outcome s' t' i .table)
       (subst (λ (P : Policy). u < length (P .names)) (sym k) d)
-      (store-kept choice s t (i .line) (i .room) (a .start .passes))
-      (store-kept choice s' t' (i .line) (i .room) (a .start .passes'))
-      (rooted-kept choice s t (i .line) (i .room) (a .start .rooted))
-      (rooted-kept choice s' t' (i .line) (i .room) (a .start .rooted'))
-      (subst (λ (P : Policy). SamePolicy P (policyIn (outcome choice s' t' i .state))) (sym k) (subst (λ (Q : Policy). SamePolicy (policyIn s) Q) (sym k') (a .start .policy)))
-      (subst (λ (P : Policy). lowOf P u (records (outcome choice s t i .table)) ≡ lowOf P u (records (outcome choice s' t' i .table))) (sym k) e)
+      (store-kept s t (i .line) (i .room) (a .start .passes))
+      (store-kept s' t' (i .line) (i .room) (a .start .passes'))
+      (rooted-kept s t (i .line) (i .room) (a .start .rooted))
+      (rooted-kept s' t' (i .line) (i .room) (a .start .rooted'))
+      (subst (λ (P : Policy). SamePolicy P (policyIn (outcome s' t' i .state))) (sym k) (subst (λ (Q : Policy). SamePolicy (policyIn s) Q) (sym k') (a .start .policy)))
+      (subst (λ (P : Policy). lowOf P u (records (outcome s t i .table)) ≡ lowOf P u (records (outcome s' t' i .table))) (sym k) e)
 
   -- the other run logs in the subject that this one does
-  logs-too : outcome choice s t i .reply ≡ outcome choice s' t' i .reply → (v : ℕ)
-      → LogsIn v s' (i .line) (answerOf (outcome choice s' t' i .reply)) → LogsIn v s (i .line) (answerOf (outcome choice s t i .reply))
+  logs-too : outcome s t i .reply ≡ outcome s' t' i .reply → (v : ℕ)
+      → LogsIn v s' (i .line) (answerOf (outcome s' t' i .reply)) → LogsIn v s (i .line) (answerOf (outcome s t i .reply))
   logs-too e v l = record {
     name = l .name;
     form = l .form;
@@ -108,68 +107,68 @@ module _ (choice : Choice) (u : ℕ) (s t s' t' : List ℕ) (a : Alike u s t s' 
 
   -- A line of the user u
   pub record Goes : Type 0 where
-    pub reply : outcome choice s t i .reply ≡ outcome choice s' t' i .reply
+    pub reply : outcome s t i .reply ≡ outcome s' t' i .reply
     pub alike : Next
-    pub user : UserIs u (outcome choice s t i .state)
-    pub user' : UserIs u (outcome choice s' t' i .state)
+    pub user : UserIs u (outcome s t i .state)
+    pub user' : UserIs u (outcome s' t' i .state)
 
-  user-line : UserIs u s → UserIs u s' → ((v : ℕ) → LogsIn v s (i .line) (answerOf (outcome choice s t i .reply)) → v ≡ u)
-      → (outcome choice s t i .reply ≡ refuses tableFull → ⊥) → (outcome choice s' t' i .reply ≡ refuses tableFull → ⊥) → Goes
+  user-line : UserIs u s → UserIs u s' → ((v : ℕ) → LogsIn v s (i .line) (answerOf (outcome s t i .reply)) → v ≡ u)
+      → (outcome s t i .reply ≡ refuses tableFull → ⊥) → (outcome s' t' i .reply ≡ refuses tableFull → ⊥) → Goes
   user-line w w' other full full' =
       let d = user-declared u s t (a .start .passes) w in
       let tied : Tied u s t s' t' = record { passes = a .start .passes; passes' = a .start .passes'; user = w; user' = w'; policy = a .start .policy; low = alike-low u s t s' t' d a } in
-      let m = match-step choice u s t s' t' tied (i .room) (i .line) full full' in
+      let m = match-step u s t s' t' tied (i .room) (i .line) full full' in
       record {
         reply = m .reply;
         alike = next-alike d (m .low);
-        user = user-is-kept choice s t (i .line) (i .room) u w other;
-        user' = user-is-kept choice s' t' (i .line) (i .room) u w' (λ v l. other v (logs-too (m .reply) v l));
+        user = user-is-kept s t (i .line) (i .room) u w other;
+        user' = user-is-kept s' t' (i .line) (i .room) u w' (λ v l. other v (logs-too (m .reply) v l));
       }
 
   -- The line that logs u in: the other run takes it too.
   login-stage : (g : ℕ) → stageC ≤ g → g ≤ 4 → inStage stageE g ≡ true
   login-stage g h k = rw (le-leb g 4 k, le-leb 2 g h)
 
-  login-answer : (l : LogsIn u s (i .line) (answerOf (outcome choice s t i .reply))) → outcome choice s' t' i .reply ≡ says okText
+  login-answer : (l : LogsIn u s (i .line) (answerOf (outcome s t i .reply))) → outcome s' t' i .reply ≡ says okText
   unfolding step performed checked
   login-answer l =
-      let x = taken choice s t (i .line) (i .room) (l .said) (l .accepted) in
+      let x = taken s t (i .line) (i .room) (l .said) (l .accepted) in
       let g = login-stage (stage s') (a .start .rooted') (store-held s' t' (a .start .passes') .stages) in
       let q : subjectNamed (policyIn s') (bytesOf (i .line) (l .name)) ≡ found.Subject u =
       sym (same-named (policyIn s) (policyIn s') (a .start .policy) (bytesOf (i .line) (l .name))) ∙ l .subject in
       let fits : length okText ≤ i .room = rw (l .form) at (x .fits) in
       rw (a .start .passes', x .bytes, l .form, g, q, le-ltb (i .room) (length okText) fits)
 
-  login-line : LogsIn u s (i .line) (answerOf (outcome choice s t i .reply)) → Goes
+  login-line : LogsIn u s (i .line) (answerOf (outcome s t i .reply)) → Goes
   login-line l =
-      let e : outcome choice s' t' i .reply ≡ says okText = login-answer l in
-      let l' : LogsIn u s' (i .line) (answerOf (outcome choice s' t' i .reply)) = record {
+      let e : outcome s' t' i .reply ≡ says okText = login-answer l in
+      let l' : LogsIn u s' (i .line) (answerOf (outcome s' t' i .reply)) = record {
         name = l .name;
         form = l .form;
         subject = sym (same-named (policyIn s) (policyIn s') (a .start .policy) (bytesOf (i .line) (l .name))) ∙ l .subject;
         said = length okText;
         accepted = ap answerOf e;
       } in
-      let said : outcome choice s t i .reply ≡ says okText =
-      ap (λ (o : Outcome). o .reply) (taken choice s t (i .line) (i .room) (l .said) (l .accepted) .is)
-      ∙ ap (λ (f : Form). says (workOf choice f s t (i .line) (recordsOf (treeIn (i .line))) .text)) (l .form) in
-      let w = user-is-logged choice s t (i .line) (i .room) u l in
-      let k : policyIn (outcome choice s t i .state) ≡ policyIn s = ap policyOf (policy-kept choice s t (i .line) (i .room) (a .start .rooted)) in
-      let n = user-declared u (outcome choice s t i .state) (outcome choice s t i .table) (store-kept choice s t (i .line) (i .room) (a .start .passes)) w in
+      let said : outcome s t i .reply ≡ says okText =
+      ap (λ (o : Outcome). o .reply) (taken s t (i .line) (i .room) (l .said) (l .accepted) .is)
+      ∙ ap (λ (f : Form). says (workOf f s t (i .line) (recordsOf (treeIn (i .line))) .text)) (l .form) in
+      let w = user-is-logged s t (i .line) (i .room) u l in
+      let k : policyIn (outcome s t i .state) ≡ policyIn s = ap policyOf (policy-kept s t (i .line) (i .room) (a .start .rooted)) in
+      let n = user-declared u (outcome s t i .state) (outcome s t i .table) (store-kept s t (i .line) (i .room) (a .start .passes)) w in
       let d : u < length (policyIn s .names) = subst (λ (P : Policy). u < length (P .names)) k n in
-      let z = logged-in choice s t (i .line) (i .room) u l .1 in
-      let z' = logged-in choice s' t' (i .line) (i .room) u l' .1 in
+      let z = logged-in s t (i .line) (i .room) u l .1 in
+      let z' = logged-in s' t' (i .line) (i .room) u l' .1 in
       record {
         reply = said ∙ sym e;
         alike = next-alike d (ap (λ x. lowOf (policyIn s) u (records x)) z ∙ alike-low u s t s' t' d a ∙ sym (ap (λ x. lowOf (policyIn s) u (records x)) z'));
         user = w;
-        user' = user-is-logged choice s' t' (i .line) (i .room) u l';
+        user' = user-is-logged s' t' (i .line) (i .room) u l';
       }
 
   -- The next line: of the user u, or the one that logs u in
-  next-line : (UserIs u s × UserIs u s') ⊎ LogsIn u s (i .line) (answerOf (outcome choice s t i .reply))
-      → ((v : ℕ) → LogsIn v s (i .line) (answerOf (outcome choice s t i .reply)) → v ≡ u)
-      → (outcome choice s t i .reply ≡ refuses tableFull → ⊥) → (outcome choice s' t' i .reply ≡ refuses tableFull → ⊥) → Goes
+  next-line : (UserIs u s × UserIs u s') ⊎ LogsIn u s (i .line) (answerOf (outcome s t i .reply))
+      → ((v : ℕ) → LogsIn v s (i .line) (answerOf (outcome s t i .reply)) → v ≡ u)
+      → (outcome s t i .reply ≡ refuses tableFull → ⊥) → (outcome s' t' i .reply ≡ refuses tableFull → ⊥) → Goes
   next-line (inl w) other full full' = user-line (w .0) (w .1) other full full'
   next-line (inr l) other full full' = login-line l
 
@@ -181,13 +180,13 @@ answer-bytes (says b) x y n e =
 answer-bytes (refuses k) x y n e = absurd (let z : _≡_ {A = ℕ} 0 1 = cc in omega arith)
 
 -- One call on each of two stores that are alike
-module _ (choice : Choice) (u : ℕ) (s t s' t' : List ℕ) (a : Alike u s t s' t') (c d : Call) (p : Promised choice s t c) (q : Promised choice s' t' d)
+module _ (u : ℕ) (s t s' t' : List ℕ) (a : Alike u s t s' t') (c d : Call) (p : Promised s t c) (q : Promised s' t' d)
     (same : c .line ≡ d .line) (long : length (c .lent) ≡ length (d .lent)) where
   abbrev i : Input
   i = record { line = c .line; room = length (c .lent) }
 
   -- the promise of the second call, on the line and the room of the first
-  q' : Made (outcome choice s' t' i) (d .lent) (d .answer) (d .state) (d .table) (d .area)
+  q' : Made (outcome s' t' i) (d .lent) (d .answer) (d .state) (d .table) (d .area)
   q' = rw (same, long) q
 
   pub record CallsAlike : Type 0 where
@@ -199,7 +198,7 @@ module _ (choice : Choice) (u : ℕ) (s t s' t' : List ℕ) (a : Alike u s t s' 
   pub calls-alike : (UserIs u s × UserIs u s') ⊎ LogsIn u s (c .line) (c .answer) → ((v : ℕ) → LogsIn v s (c .line) (c .answer) → v ≡ u)
       → (c .answer ≡ answer.Refused tableFull → ⊥) → (d .answer ≡ answer.Refused tableFull → ⊥) → CallsAlike
   calls-alike b other full full' =
-      let g = next-line choice u s t s' t' a i
+      let g = next-line u s t s' t' a i
       (subst (λ r. (UserIs u s × UserIs u s') ⊎ LogsIn u s (c .line) r) (p .answer) b)
       (subst (λ r. (v : ℕ) → LogsIn v s (c .line) r → v ≡ u) (p .answer) other)
       (λ e. full (p .answer ∙ ap answerOf e)) (λ e. full' (q' .answer ∙ ap answerOf e)) in
@@ -208,7 +207,7 @@ module _ (choice : Choice) (u : ℕ) (s t s' t' : List ℕ) (a : Alike u s t s' 
           returned = p .answer ∙ ap answerOf (g .reply) ∙ sym (q' .answer);
           bytes = λ n e.
               ap (take n) (p .area)
-              ∙ answer-bytes (outcome choice s t i .reply) (c .lent) (d .lent) n (sym (p .answer) ∙ e)
+              ∙ answer-bytes (outcome s t i .reply) (c .lent) (d .lent) n (sym (p .answer) ∙ e)
               ∙ ap (λ r. take n (areaAfter r (d .lent))) (g .reply)
               ∙ sym (ap (take n) (q' .area));
         };
@@ -219,8 +218,8 @@ module _ (choice : Choice) (u : ℕ) (s t s' t' : List ℕ) (a : Alike u s t s' 
 
 -- Demand 3, its first sentence.
 pub answers-alike : AnswersAlike
-answers-alike choice u s t s' t' a [] ds r r' e b = tt
-answers-alike choice u s t s' t' a (c ∷ cs) [] r r' e b = tt
-answers-alike choice u s t s' t' a (c ∷ cs) (d ∷ ds) r r' e b = λ other full full'.
-    let g = calls-alike choice u s t s' t' a c d (r .0) (r' .0) (e .0) (e .1) b other full full' in
-    (g .answer, g .alike, (g .user, g .user'), answers-alike choice u (c .state) (c .table) (d .state) (d .table) (g .alike) cs ds (r .1) (r' .1) (e .2) (inl (g .user, g .user')))
+answers-alike u s t s' t' a [] ds r r' e b = tt
+answers-alike u s t s' t' a (c ∷ cs) [] r r' e b = tt
+answers-alike u s t s' t' a (c ∷ cs) (d ∷ ds) r r' e b = λ other full full'.
+    let g = calls-alike u s t s' t' a c d (r .0) (r' .0) (e .0) (e .1) b other full full' in
+    (g .answer, g .alike, (g .user, g .user'), answers-alike u (c .state) (c .table) (d .state) (d .table) (g .alike) cs ds (r .1) (r' .1) (e .2) (inl (g .user, g .user')))

@@ -5,6 +5,7 @@ use mathlib.Core.Path.{_≡_, refl, ap, ap₂, subst}
 use mathlib.Core.Bool.{Bool, true, false, _||_, false≢true}
 use mathlib.Core.List.{List, []}
 use mathlib.Core.Logic.{inl, inr}
+use Rattle.rights.specs.Marks.{keep}
 use Rattle.rights.specs.Labels.{sameLabel, restricted}
 use Rattle.rights.specs.Policy.{Policy}
 use Rattle.views.specs.Change.{chunks, lower, deepest}
@@ -13,7 +14,6 @@ use Rattle.views.specs.declared.done.Change.the-variants as change
 use Rattle.views.specs.declared.insert.Place.{Place}
 use Rattle.views.specs.declared.insert.Place.the-variants as place
 use Rattle.answers.specs.Answer.{viewText}
-use Rattle.answers.specs.AnswerChoice.{Choice}
 use Rattle.forms.specs.Form.{readForm, treeIn}
 use Rattle.forms.specs.Tree.{recordsOf}
 use Rattle.forms.specs.declared.form.Form.{Form}
@@ -65,10 +65,10 @@ module _ (u : ℕ) (s t s' t' : List ℕ) (h : Tied u s t s' t') where
   unfolding ChecksAlike
   on-view path = (same _ _, (has-user _, tt))
 
-  ask-alike : (choice : Choice) (what : Ask) (path : List ℕ) → Alike (workAsk choice what s t path) (workAsk choice what s' t' path)
-  ask-alike choice what path = record {
+  ask-alike : (what : Ask) (path : List ℕ) → Alike (workAsk what s t path) (workAsk what s' t' path)
+  ask-alike what path = record {
     checks = on-view path;
-    text = ap₂ (answerTo choice what) (marks-both u s t s' t' h path) (view-both u s t s' t' h);
+    text = ap₂ (λ ms ns. answerTo what (keep ms ns)) (marks-both u s t s' t' h path) (view-both u s t s' t' h);
     effect = readings;
   }
 
@@ -97,27 +97,27 @@ module _ (u : ℕ) (s t s' t' : List ℕ) (h : Tied u s t s' t') where
     effect = removals (doneIn change.Remove s t path) (doneIn change.Remove s' t' path) (done-both u s t s' t' h change.Remove path);
   }
 
-  none-alike : (choice : Choice) (line : List ℕ) → Alike (workOf choice form.NoForm s t line []) (workOf choice form.NoForm s' t' line [])
+  none-alike : (line : List ℕ) → Alike (workOf form.NoForm s t line []) (workOf form.NoForm s' t' line [])
   unfolding ChecksAlike
-  none-alike choice line = record { checks = (same _ _, tt); text = refl; effect = readings }
+  none-alike line = record { checks = (same _ _, tt); text = refl; effect = readings }
 
 -- The law of a form
 
-abbrev pub workIn : Choice → List ℕ → Form → List ℕ → List ℕ → Work
-workIn choice line f s t = workOf choice f s t line (recordsOf (treeIn line))
+abbrev pub workIn : List ℕ → Form → List ℕ → List ℕ → Work
+workIn line f s t = workOf f s t line (recordsOf (treeIn line))
 
-pub record FormLaw (choice : Choice) (line : List ℕ) (f : Form) : Type 0 where
-  pub sound : (s t : List ℕ) → storeOk s t ≡ true → inStage (stageOf f) (stage s) ≡ true → Passed (workIn choice line f s t .checks)
-      → EffectSound f line s t (workIn choice line f s t .effect)
+pub record FormLaw (line : List ℕ) (f : Form) : Type 0 where
+  pub sound : (s t : List ℕ) → storeOk s t ≡ true → inStage (stageOf f) (stage s) ≡ true → Passed (workIn line f s t .checks)
+      → EffectSound f line s t (workIn line f s t .effect)
   pub alike : (u : ℕ) (s t s' t' : List ℕ) → Tied u s t s' t' → inStage (stageOf f) stageE ≡ true
-      → WorkAlike (policyIn s) u t t' (workIn choice line f s t) (workIn choice line f s' t')
+      → WorkAlike (policyIn s) u t t' (workIn line f s t) (workIn line f s' t')
 
-module _ (choice : Choice) (line : List ℕ) where
+module _ (line : List ℕ) where
   -- the lines before stage E are out of a user's reach
   early : {P : Policy} {u : ℕ} {t t' : List ℕ} {w w' : Work} → false ≡ true → WorkAlike P u t t' w w'
   early i = absurd (false≢true i)
 
-  form-law : (f : Form) → Fits line f → FormLaw choice line f
+  form-law : (f : Form) → Fits line f → FormLaw line f
   form-law (form.Subject n) w = record { sound = λ s t ok i p. subject-sound s t ok (bytesOf line n) i w p; alike = λ u s t s' t' h i. early i }
   form-law (form.Isa n r) w = record { sound = λ s t ok i p. isa-sound s t ok (bytesOf line n) (bytesOf line r) i p; alike = λ u s t s' t' h i. early i }
   form-law (form.Rule a b p n) w = record {
@@ -128,8 +128,8 @@ module _ (choice : Choice) (line : List ℕ) where
   form-law (form.Child m) w = record { sound = λ s t ok i p. child-sound s t ok line m i w p; alike = λ u s t s' t' h i. early i }
   form-law (form.User n) w = record { sound = λ s t ok i p. user-sound s t ok line n i p; alike = λ u s t s' t' h i. user-alike u s t s' t' h (bytesOf line n) }
   form-law form.View w = record { sound = λ s t ok i p. tt; alike = λ u s t s' t' h i. view-alike u s t s' t' h }
-  form-law (form.Query p) w = record { sound = λ s t ok i q. tt; alike = λ u s t s' t' h i. ask-alike u s t s' t' h choice ask.Query (bytesOf line p) }
-  form-law (form.Find p) w = record { sound = λ s t ok i q. tt; alike = λ u s t s' t' h i. ask-alike u s t s' t' h choice ask.Find (bytesOf line p) }
+  form-law (form.Query p) w = record { sound = λ s t ok i q. tt; alike = λ u s t s' t' h i. ask-alike u s t s' t' h ask.Query (bytesOf line p) }
+  form-law (form.Find p) w = record { sound = λ s t ok i q. tt; alike = λ u s t s' t' h i. ask-alike u s t s' t' h ask.Find (bytesOf line p) }
   form-law (form.Rename p l) w = record {
     sound = λ s t ok i q. rename-sound s t ok change.Rename (bytesOf line p) (bytesOf line l) i rename-frees w q;
     alike = λ u s t s' t' h i. rename-alike u s t s' t' h change.Rename (bytesOf line p) (bytesOf line l);
@@ -154,8 +154,8 @@ module _ (choice : Choice) (line : List ℕ) where
     sound = λ s t ok i q. remove-sound s t ok p line i;
     alike = λ u s t s' t' h i. remove-alike u s t s' t' h (bytesOf line p);
   }
-  form-law form.NoForm w = record { sound = λ s t ok i p. tt; alike = λ u s t s' t' h i. none-alike u s t s' t' h choice line }
+  form-law form.NoForm w = record { sound = λ s t ok i p. tt; alike = λ u s t s' t' h i. none-alike u s t s' t' h line }
 
   -- the law of the form that was read
-  pub read-law : FormLaw choice line (readForm line)
+  pub read-law : FormLaw line (readForm line)
   read-law = form-law (readForm line) (form-fits line)

@@ -16,7 +16,6 @@ use Rattle.views.specs.declared.insert.Place.the-variants as place
 use Rattle.views.proofs.KeptLaws.{tags-remove, tags-insertBehind, tags-insertInFront, tags-rename}
 use Rattle.views.proofs.MapLaws.{map-remove, map-insertBehind, map-insertInFront, map-rename}
 use Rattle.views.proofs.NodeLaws.{remove-only}
-use Rattle.answers.specs.AnswerChoice.{Choice}
 use Rattle.forms.specs.Form.{readForm, treeIn}
 use Rattle.forms.specs.Tree.{recordsOf}
 use Rattle.lines.specs.Effect.{Effect, policy, root, insertion, renaming, removal, login, reading, nodesAfter, recordsAfter}
@@ -73,25 +72,25 @@ records-after : (e : Effect) (ns : List Tagged) → map (λ n. n .0) (afterEffec
 records-after e ns = map-after taggedLevel level (λ n. n .0) (λ n. refl) new (λ rs. rs) records-new recorded (λ g. g) (λ g n. refl) e ns
 
 -- one line
-module _ (choice : Choice) (s t : List ℕ) (i : Input) (ns : List Tagged) (e : map (λ n. n .0) ns ≡ records t) where
-  pub follows-line : map (λ n. n .0) (follow choice s t i ns) ≡ records (outcome choice s t i .table)
+module _ (s t : List ℕ) (i : Input) (ns : List Tagged) (e : map (λ n. n .0) ns ≡ records t) where
+  pub follows-line : map (λ n. n .0) (follow s t i ns) ≡ records (outcome s t i .table)
   unfolding follow
-  follows-line = go (line-cases choice s t (i .line) (i .room))
+  follows-line = go (line-cases s t (i .line) (i .room))
     where
-      go : Refused s t (outcome choice s t i) ⊎ Accepted choice s t (i .line) (i .room)
-          → map (λ n. n .0) (afterReply (outcome choice s t i .reply) (effectOf choice s t (i .line)) ns) ≡ records (outcome choice s t i .table)
+      go : Refused s t (outcome s t i) ⊎ Accepted s t (i .line) (i .room)
+          → map (λ n. n .0) (afterReply (outcome s t i .reply) (effectOf s t (i .line)) ns) ≡ records (outcome s t i .table)
       go (inl x) = rw (x .is) e
       go (inr x) =
           rw (x .is)
-          (records-after (effectOf choice s t (i .line)) ns ∙ ap (recordsAfter (effectOf choice s t (i .line))) e
-          ∙ sym (table-after (readForm (i .line)) (i .line) s t (store-held s t (x .passes) .table) (effectOf choice s t (i .line)) (x .sound) .held))
+          (records-after (effectOf s t (i .line)) ns ∙ ap (recordsAfter (effectOf s t (i .line))) e
+          ∙ sym (table-after (readForm (i .line)) (i .line) s t (store-held s t (x .passes) .table) (effectOf s t (i .line)) (x .sound) .held))
 
 -- any lines
 pub follows : Follows
 unfolding followAll tableAfterAll
-follows choice s t [] ns e = e
-follows choice s t (i ∷ is) ns e =
-    follows choice (outcome choice s t i .state) (outcome choice s t i .table) is (follow choice s t i ns) (follows-line choice s t i ns e)
+follows s t [] ns e = e
+follows s t (i ∷ is) ns e =
+    follows (outcome s t i .state) (outcome s t i .table) is (follow s t i ns) (follows-line s t i ns e)
 
 -- The tags
 
@@ -132,16 +131,16 @@ tags-reply : (r : Reply) (e : Effect) (ns : List Tagged) → Sublistᴰ (tags ta
 tags-reply (says b) e ns = tags-effect e ns
 tags-reply (refuses n) e ns = Sublistᴰ·refl _
 
-tags-follow : (choice : Choice) (s t : List ℕ) (i : Input) (ns : List Tagged) → Sublistᴰ (tags tagOf (follow choice s t i ns)) (tags tagOf ns)
+tags-follow : (s t : List ℕ) (i : Input) (ns : List Tagged) → Sublistᴰ (tags tagOf (follow s t i ns)) (tags tagOf ns)
 unfolding follow
-tags-follow choice s t i ns = tags-reply (outcome choice s t i .reply) (effectOf choice s t (i .line)) ns
+tags-follow s t i ns = tags-reply (outcome s t i .reply) (effectOf s t (i .line)) ns
 
 -- after any lines, whatever the store: the kept nodes are some of those at first, in order
-tags-kept : (choice : Choice) (s t : List ℕ) (is : List Input) (ns : List Tagged) → Sublistᴰ (tags tagOf (followAll choice s t is ns)) (tags tagOf ns)
+tags-kept : (s t : List ℕ) (is : List Input) (ns : List Tagged) → Sublistᴰ (tags tagOf (followAll s t is ns)) (tags tagOf ns)
 unfolding followAll
-tags-kept choice s t [] ns = Sublistᴰ·refl _
-tags-kept choice s t (i ∷ is) ns =
-    Sublistᴰ·trans (tags-kept choice (outcome choice s t i .state) (outcome choice s t i .table) is (follow choice s t i ns)) (tags-follow choice s t i ns)
+tags-kept s t [] ns = Sublistᴰ·refl _
+tags-kept s t (i ∷ is) ns =
+    Sublistᴰ·trans (tags-kept (outcome s t i .state) (outcome s t i .table) is (follow s t i ns)) (tags-follow s t i ns)
 
 -- "A change keeps every node that it does not remove"
 tags-same : (f : Form) (line s t : List ℕ) → stageC ≤ stage s → ((p : Part) → f ≡ Remove p → ⊥) → (e : Effect) → EffectSound f line s t e → (ns : List Tagged)
@@ -156,18 +155,18 @@ tags-same f line s t h k reading x ns = refl
 
 pub nodes-kept : NodesKept
 unfolding follow
-nodes-kept choice s t h i ns k = go (line-cases choice s t (i .line) (i .room))
+nodes-kept s t h i ns k = go (line-cases s t (i .line) (i .room))
   where
-    go : Refused s t (outcome choice s t i) ⊎ Accepted choice s t (i .line) (i .room)
-        → tags tagOf (afterReply (outcome choice s t i .reply) (effectOf choice s t (i .line)) ns) ≡ tags tagOf ns
+    go : Refused s t (outcome s t i) ⊎ Accepted s t (i .line) (i .room)
+        → tags tagOf (afterReply (outcome s t i .reply) (effectOf s t (i .line)) ns) ≡ tags tagOf ns
     go (inl x) = rw (x .is)
-    go (inr x) = rw (x .is) (tags-same (readForm (i .line)) (i .line) s t h k (effectOf choice s t (i .line)) (x .sound) ns)
+    go (inr x) = rw (x .is) (tags-same (readForm (i .line)) (i .line) s t h k (effectOf s t (i .line)) (x .sound) ns)
 
 pub nodes-removed : NodesRemoved
 unfolding follow
-nodes-removed choice s t i ns p text e q =
+nodes-removed s t i ns p text e q =
     rw q
-    (ap (λ (f : Form). afterEffect (workOf choice f s t (i .line) (recordsOf (treeIn (i .line))) .effect) ns) e
+    (ap (λ (f : Form). afterEffect (workOf f s t (i .line) (recordsOf (treeIn (i .line))) .effect) ns) e
     ∙ remove-only taggedLevel (doneIn change.Remove s t (bytesOf (i .line) p)) ns)
 
 -- "Inserted nodes are new"
@@ -179,9 +178,9 @@ known-all i (r ∷ rs) = ap (λ ns. (r, some i) ∷ ns) (known-all (suc i) rs)
 
 pub inserted-new : InsertedNew
 unfolding follow
-inserted-new choice s t i at ms m tree g e = go (outcome choice s t i .reply) ∙ known-all 0 (records t)
+inserted-new s t i at ms m tree g e = go (outcome s t i .reply) ∙ known-all 0 (records t)
   where
-    go : (r : Reply) → knownOf (afterReply r (effectOf choice s t (i .line)) (tagAll 0 (records t))) ≡ knownOf (tagAll 0 (records t))
+    go : (r : Reply) → knownOf (afterReply r (effectOf s t (i .line)) (tagAll 0 (records t))) ≡ knownOf (tagAll 0 (records t))
     go (says b) =
         ap (λ (x : Effect). knownOf (afterEffect x (tagAll 0 (records t)))) e ∙ tags-insert known (λ r. refl) at m tree ms g (tagAll 0 (records t))
     go (refuses n) = refl
@@ -200,22 +199,22 @@ module _ (f : ℕ → Option ℕ) where
   retag-new [] = refl
   retag-new (r ∷ rs) = ap (λ ns. (r, none) ∷ ns) (retag-new rs)
 
-  retag-follow : (choice : Choice) (s t : List ℕ) (i : Input) (ns : List Tagged) → map (retag f) (follow choice s t i ns) ≡ follow choice s t i (map (retag f) ns)
+  retag-follow : (s t : List ℕ) (i : Input) (ns : List Tagged) → map (retag f) (follow s t i ns) ≡ follow s t i (map (retag f) ns)
   unfolding follow
-  retag-follow choice s t i ns = go (outcome choice s t i .reply)
+  retag-follow s t i ns = go (outcome s t i .reply)
     where
-      go : (r : Reply) → map (retag f) (afterReply r (effectOf choice s t (i .line)) ns) ≡ afterReply r (effectOf choice s t (i .line)) (map (retag f) ns)
+      go : (r : Reply) → map (retag f) (afterReply r (effectOf s t (i .line)) ns) ≡ afterReply r (effectOf s t (i .line)) (map (retag f) ns)
       go (says b) =
-          map-after taggedLevel taggedLevel (retag f) (λ n. refl) new new retag-new recorded recorded (λ g n. refl) (effectOf choice s t (i .line)) ns
+          map-after taggedLevel taggedLevel (retag f) (λ n. refl) new new retag-new recorded recorded (λ g n. refl) (effectOf s t (i .line)) ns
       go (refuses n) = refl
 
-  retag-all : (choice : Choice) (s t : List ℕ) (is : List Input) (ns : List Tagged)
-      → map (retag f) (followAll choice s t is ns) ≡ followAll choice s t is (map (retag f) ns)
+  retag-all : (s t : List ℕ) (is : List Input) (ns : List Tagged)
+      → map (retag f) (followAll s t is ns) ≡ followAll s t is (map (retag f) ns)
   unfolding followAll
-  retag-all choice s t [] ns = refl
-  retag-all choice s t (i ∷ is) ns =
-      retag-all choice (outcome choice s t i .state) (outcome choice s t i .table) is (follow choice s t i ns)
-      ∙ ap (followAll choice (outcome choice s t i .state) (outcome choice s t i .table) is) (retag-follow choice s t i ns)
+  retag-all s t [] ns = refl
+  retag-all s t (i ∷ is) ns =
+      retag-all (outcome s t i .state) (outcome s t i .table) is (follow s t i ns)
+      ∙ ap (followAll (outcome s t i .state) (outcome s t i .table) is) (retag-follow s t i ns)
 
   -- nodes are their records with other tags
   retagged : (j : ℕ) (ns : List Tagged) → ((k : ℕ) → f (j + k) ≡ tagAt ns k) → map (retag f) (tagAll j (map (λ n. n .0) ns)) ≡ ns
@@ -231,11 +230,11 @@ module _ (f : ℕ → Option ℕ) where
   tag-through ((r, some j) ∷ ns) zero i e = (j, e, refl)
   tag-through (n ∷ ns) (suc k) i e = tag-through ns k i e
 
-follow-append : (choice : Choice) (s t : List ℕ) (is js : List Input) (ns : List Tagged)
-    → followAll choice s t (is ++ js) ns ≡ followAll choice (stateAfterAll choice s t is) (tableAfterAll choice s t is) js (followAll choice s t is ns)
+follow-append : (s t : List ℕ) (is js : List Input) (ns : List Tagged)
+    → followAll s t (is ++ js) ns ≡ followAll (stateAfterAll s t is) (tableAfterAll s t is) js (followAll s t is ns)
 unfolding followAll stateAfterAll tableAfterAll
-follow-append choice s t [] js ns = refl
-follow-append choice s t (i ∷ is) js ns = follow-append choice (outcome choice s t i .state) (outcome choice s t i .table) is js (follow choice s t i ns)
+follow-append s t [] js ns = refl
+follow-append s t (i ∷ is) js ns = follow-append (outcome s t i .state) (outcome s t i .table) is js (follow s t i ns)
 
 pub records-numbered : (i : ℕ) (rs : List (List ℕ)) → map (λ n. n .0) (tagAll i rs) ≡ rs
 records-numbered i [] = refl
@@ -243,17 +242,17 @@ records-numbered i (r ∷ rs) = ap (λ l. r ∷ l) (records-numbered (suc i) rs)
 
 -- "A removed node never comes back"
 pub none-back : NoneBack
-none-back choice s t before between k i w =
-    let s1 : List ℕ = stateAfterAll choice s t before in
-    let t1 : List ℕ = tableAfterAll choice s t before in
-    let mid : List Tagged = followAll choice s t before (tagAll 0 (records t)) in
-    let h : map (λ n. n .0) mid ≡ records t1 = follows choice s t before (tagAll 0 (records t)) (records-numbered 0 (records t)) in
+none-back s t before between k i w =
+    let s1 : List ℕ = stateAfterAll s t before in
+    let t1 : List ℕ = tableAfterAll s t before in
+    let mid : List Tagged = followAll s t before (tagAll 0 (records t)) in
+    let h : map (λ n. n .0) mid ≡ records t1 = follows s t before (tagAll 0 (records t)) (records-numbered 0 (records t)) in
     let z : (j : ℕ) → tagAt mid (0 + j) ≡ tagAt mid j = λ j. let y : 0 + j ≡ j = omega arith in rw y in
     let e : map (retag (tagAt mid)) (tagAll 0 (records t1)) ≡ mid = ap (λ rs. map (retag (tagAt mid)) (tagAll 0 rs)) (sym h) ∙ retagged (tagAt mid) 0 mid z in
-    let q : map (retag (tagAt mid)) (followAll choice s1 t1 between (tagAll 0 (records t1))) ≡ followAll choice s t (before ++ between) (tagAll 0 (records t)) =
-    retag-all (tagAt mid) choice s1 t1 between (tagAll 0 (records t1)) ∙ ap (followAll choice s1 t1 between) e
-    ∙ sym (follow-append choice s t before between (tagAll 0 (records t))) in
-    tag-through (tagAt mid) (followAll choice s1 t1 between (tagAll 0 (records t1))) k i (ap (λ ns. tagAt ns k) q ∙ w)
+    let q : map (retag (tagAt mid)) (followAll s1 t1 between (tagAll 0 (records t1))) ≡ followAll s t (before ++ between) (tagAll 0 (records t)) =
+    retag-all (tagAt mid) s1 t1 between (tagAll 0 (records t1)) ∙ ap (followAll s1 t1 between) e
+    ∙ sym (follow-append s t before between (tagAll 0 (records t))) in
+    tag-through (tagAt mid) (followAll s1 t1 between (tagAll 0 (records t1))) k i (ap (λ ns. tagAt ns k) q ∙ w)
 
 -- Numbers as tags
 
@@ -301,6 +300,6 @@ tags-rise ((r, none) ∷ ns) (suc k) (suc k') i i' a e f h = tags-rise ns k k' i
 tags-rise ((r, some j) ∷ ns) (suc k) (suc k') i i' a e f h = tags-rise ns k k' i i' (a .1) e f (omega arith)
 
 pub order-kept : OrderKept
-order-kept choice s t is k k' i i' e f h =
-    tags-rise (followAll choice s t is (tagAll 0 (records t))) k k' i i'
-    (rises-part (tags-kept choice s t is (tagAll 0 (records t))) (numbers-rise 0 (records t))) e f h
+order-kept s t is k k' i i' e f h =
+    tags-rise (followAll s t is (tagAll 0 (records t))) k k' i i'
+    (rises-part (tags-kept s t is (tagAll 0 (records t))) (numbers-rise 0 (records t))) e f h

@@ -25,7 +25,6 @@ use Rattle.views.proofs.StoredTreeLaws.{placed-in-tree}
 use Rattle.views.proofs.TableKept.{length-records, length-placed}
 use Rattle.views.proofs.ViewLaws.{stored-nested}
 use Rattle.answers.specs.Answer.{okText, doneText}
-use Rattle.answers.specs.AnswerChoice.{Choice}
 use Rattle.answers.proofs.AnswerTreeLaws.{tree-of-view}
 use Rattle.forms.specs.Form.{readForm, treeIn}
 use Rattle.forms.specs.Text.{lineOk}
@@ -80,32 +79,32 @@ root-marked zero h = absurd (omega arith)
 root-marked (suc zero) h = refl
 root-marked (suc (suc n)) h = refl
 
-module _ (choice : Choice) (s t line : List ℕ) (room : ℕ) (text : List ℕ) (answered : step choice s t line room .reply ≡ says text) where
-  taken : Accepted choice s t line room
-  taken = accepted choice s t line room text answered
+module _ (s t line : List ℕ) (room : ℕ) (text : List ℕ) (answered : step s t line room .reply ≡ says text) where
+  taken : Accepted s t line room
+  taken = accepted s t line room text answered
 
   -- An accepted `(root L)` leaves a tree of the root alone.
-  pub root-lands : (l : Part) → readForm line ≡ form.Root l → HoldsTree (step choice s t line room .table) (tree (bytesOf line l) none) × (text ≡ okText)
+  pub root-lands : (l : Part) → readForm line ≡ form.Root l → HoldsTree (step s t line room .table) (tree (bytesOf line l) none) × (text ≡ okText)
   unfolding nodesOf
   root-lands l q =
       let b : List ℕ = bytesOf line l in
-      let e : lineWork choice s t line .effect ≡ root b = ap (λ (f : Form). workIn choice line f s t .effect) q in
+      let e : lineWork s t line .effect ≡ root b = ap (λ (f : Form). workIn line f s t .effect) q in
       let sound : RootSound s t b = subst (λ (f : Effect). EffectSound (readForm line) line s t f) e (taken .sound) in
       let a = table-after (readForm line) line s t (store-held s t (taken .passes) .table) (root b) sound in
-      let t' : step choice s t line room .table ≡ tableAfter (root b) t = ap (λ (o : Outcome). o .table) (taken .is) ∙ ap (λ (f : Effect). tableAfter f t) e in (
+      let t' : step s t line room .table ≡ tableAfter (root b) t = ap (λ (o : Outcome). o .table) (taken .is) ∙ ap (λ (f : Effect). tableAfter f t) e in (
         rw t' (ap (map nodeIn) (a .held) ∙ ap₂ (λ (k : ℕ) (x : List ℕ). node k x ∷ []) (level-made 0 b noSpare) (label-made 0 b noSpare)),
-        answer-is choice s t line room text answered ∙ ap (λ (f : Form). workIn choice line f s t .text) q,
+        answer-is s t line room text answered ∙ ap (λ (f : Form). workIn line f s t .text) q,
       )
 
   module _ (new : Tree) (said : treeIn line ≡ nodesOf 0 new) where
-    lands-by : (at : Place) (ms : List Bool) (m g : ℕ) → lineWork choice s t line .effect ≡ insertion at ms m (recordsOf (treeIn line)) g → TreePart line m
-        → (1 ≤ count t → markCount (take (count t) ms) ≡ markCount ms) → Lands at ms new t (step choice s t line room .table)
+    lands-by : (at : Place) (ms : List Bool) (m g : ℕ) → lineWork s t line .effect ≡ insertion at ms m (recordsOf (treeIn line)) g → TreePart line m
+        → (1 ≤ count t → markCount (take (count t) ms) ≡ markCount ms) → Lands at ms new t (step s t line room .table)
     lands-by at ms m g e x c =
         let h = store-held s t (taken .passes) in
         let tree : List ℕ = recordsOf (treeIn line) in
         let sound : InsertSound s t at ms m tree g = subst (λ (f : Effect). EffectSound (readForm line) line s t f) e (taken .sound) in
         let a = table-after (readForm line) line s t (h .table) (insertion at ms m tree g) sound in
-        let t' : step choice s t line room .table ≡ tableAfter (insertion at ms m tree g) t = ap (λ (o : Outcome). o .table) (taken .is) ∙ ap (λ (f : Effect). tableAfter f t) e in
+        let t' : step s t line room .table ≡ tableAfter (insertion at ms m tree g) t = ap (λ (o : Outcome). o .table) (taken .is) ∙ ap (λ (f : Effect). tableAfter f t) e in
         let y = line-tree line m new (taken .bytes) x said in
         let r : 1 ≤ count t = root-held s t h (sound .rooted) in
         record {
@@ -119,37 +118,37 @@ module _ (choice : Choice) (s t line : List ℕ) (room : ℕ) (text : List ℕ) 
     all-marks c path = ap markCount (take-all (count t) (doneIn c s t path) (omega (arith, done-size c s t path)))
 
     marked-by : (c : Change) (at : Place) (p : Part) (m : ℕ) (f : Form) → readForm line ≡ f
-        → workIn choice line f s t .effect ≡ insertion at (doneIn c s t (bytesOf line p)) m (recordsOf (treeIn line)) (stage s)
-        → workIn choice line f s t .text ≡ doneText (markCount (marksIn s t (bytesOf line p))) (markCount (doneIn c s t (bytesOf line p)))
+        → workIn line f s t .effect ≡ insertion at (doneIn c s t (bytesOf line p)) m (recordsOf (treeIn line)) (stage s)
+        → workIn line f s t .text ≡ doneText (markCount (marksIn s t (bytesOf line p))) (markCount (doneIn c s t (bytesOf line p)))
         → TreePart line m
-        → Lands at (doneIn c s t (bytesOf line p)) new t (step choice s t line room .table)
+        → Lands at (doneIn c s t (bytesOf line p)) new t (step s t line room .table)
         × (text ≡ doneText (markCount (marksIn s t (bytesOf line p))) (markCount (doneIn c s t (bytesOf line p))))
     marked-by c at p m f q e d x = (
-      lands-by at (doneIn c s t (bytesOf line p)) m (stage s) (ap (λ (f : Form). workIn choice line f s t .effect) q ∙ e) x (λ r. all-marks c (bytesOf line p)),
-      answer-is choice s t line room text answered ∙ ap (λ (f : Form). workIn choice line f s t .text) q ∙ d,
+      lands-by at (doneIn c s t (bytesOf line p)) m (stage s) (ap (λ (f : Form). workIn line f s t .effect) q ∙ e) x (λ r. all-marks c (bytesOf line p)),
+      answer-is s t line room text answered ∙ ap (λ (f : Form). workIn line f s t .text) q ∙ d,
     )
 
     -- An accepted `(append P TREE)` leaves the stored tree with TREE as the last child of every node that is done, and of no other, and says how many these are.
     pub append-lands : (p : Part) (m : ℕ) → readForm line ≡ form.Append p m
-        → Lands place.Append (doneIn change.Append s t (bytesOf line p)) new t (step choice s t line room .table)
+        → Lands place.Append (doneIn change.Append s t (bytesOf line p)) new t (step s t line room .table)
         × (text ≡ doneText (markCount (marksIn s t (bytesOf line p))) (markCount (doneIn change.Append s t (bytesOf line p))))
     append-lands p m q = marked-by change.Append place.Append p m (form.Append p m) q refl refl (subst (Fits line) q (form-fits line))
 
     -- An accepted `(before P TREE)`: directly before every node that is done.
     pub before-lands : (p : Part) (m : ℕ) → readForm line ≡ form.Before p m
-        → Lands place.Before (doneIn change.Before s t (bytesOf line p)) new t (step choice s t line room .table)
+        → Lands place.Before (doneIn change.Before s t (bytesOf line p)) new t (step s t line room .table)
         × (text ≡ doneText (markCount (marksIn s t (bytesOf line p))) (markCount (doneIn change.Before s t (bytesOf line p))))
     before-lands p m q = marked-by change.Before place.Before p m (form.Before p m) q refl refl (subst (Fits line) q (form-fits line))
 
     -- An accepted `(after P TREE)`: directly after every node that is done.
     pub after-lands : (p : Part) (m : ℕ) → readForm line ≡ form.After p m
-        → Lands place.After (doneIn change.After s t (bytesOf line p)) new t (step choice s t line room .table)
+        → Lands place.After (doneIn change.After s t (bytesOf line p)) new t (step s t line room .table)
         × (text ≡ doneText (markCount (marksIn s t (bytesOf line p))) (markCount (doneIn change.After s t (bytesOf line p))))
     after-lands p m q = marked-by change.After place.After p m (form.After p m) q refl refl (subst (Fits line) q (form-fits line))
 
     -- An accepted `(child TREE)`: "last child of the root".
-    pub child-lands : (m : ℕ) → readForm line ≡ form.Child m → Lands place.Append rootAlone new t (step choice s t line room .table) × (text ≡ okText)
+    pub child-lands : (m : ℕ) → readForm line ≡ form.Child m → Lands place.Append rootAlone new t (step s t line room .table) × (text ≡ okText)
     child-lands m q = (
-      lands-by place.Append rootAlone m stageD (ap (λ (f : Form). workIn choice line f s t .effect) q) (subst (Fits line) q (form-fits line)) (root-marked (count t)),
-      answer-is choice s t line room text answered ∙ ap (λ (f : Form). workIn choice line f s t .text) q,
+      lands-by place.Append rootAlone m stageD (ap (λ (f : Form). workIn line f s t .effect) q) (subst (Fits line) q (form-fits line)) (root-marked (count t)),
+      answer-is s t line room text answered ∙ ap (λ (f : Form). workIn line f s t .text) q,
     )

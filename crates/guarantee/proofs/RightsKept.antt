@@ -13,7 +13,6 @@ use Rattle.rights.specs.Rights.{rightsBy, chains, rightsOn}
 use Rattle.rights.specs.Table.{records, tableOk}
 use Rattle.rights.proofs.ChainLaws.{chains-length}
 use Rattle.views.specs.Nodes.{tags, All}
-use Rattle.answers.specs.AnswerChoice.{Choice}
 use Rattle.forms.specs.Form.{readForm}
 use Rattle.lines.specs.State.{stageC, stage, policyIn}
 use Rattle.forms.specs.declared.form.Form.{Form}
@@ -71,55 +70,55 @@ sets-length : (P : Policy) (u : ℕ) (ns : List Tagged) → length (rightsOn P u
 sets-length P u ns = length-map (chains [] (map (λ n. n .0) ns)) (rightsBy P u) ∙ chains-length [] (map (λ n. n .0) ns) ∙ length-map ns (λ n. n .0)
 
 -- One line
-module _ (choice : Choice) (s t : List ℕ) (i : Input) (ns : List Tagged) (e : map (λ n. n .0) ns ≡ records t) where
+module _ (s t : List ℕ) (i : Input) (ns : List Tagged) (e : map (λ n. n .0) ns ≡ records t) where
   pub rights-line : stageC ≤ stage s → (u : ℕ) → u < length (policyIn s .names)
-      → Sublistᴰ (keptRights (policyIn s) u (follow choice s t i ns)) (keptRights (policyIn s) u ns)
+      → Sublistᴰ (keptRights (policyIn s) u (follow s t i ns)) (keptRights (policyIn s) u ns)
   unfolding follow
-  rights-line rooted u d = go (line-cases choice s t (i .line) (i .room))
+  rights-line rooted u d = go (line-cases s t (i .line) (i .room))
     where
-      go : Refused s t (outcome choice s t i) ⊎ Accepted choice s t (i .line) (i .room)
-          → Sublistᴰ (keptRights (policyIn s) u (afterReply (outcome choice s t i .reply) (effectOf choice s t (i .line)) ns)) (keptRights (policyIn s) u ns)
+      go : Refused s t (outcome s t i) ⊎ Accepted s t (i .line) (i .room)
+          → Sublistᴰ (keptRights (policyIn s) u (afterReply (outcome s t i .reply) (effectOf s t (i .line)) ns)) (keptRights (policyIn s) u ns)
       go (inl x) = rw (x .is) (Sublistᴰ·refl _)
       go (inr x) =
           rw (x .is)
-          (rights-effect (readForm (i .line)) (i .line) s t (store-held s t (x .passes) .table) rooted ns e u d (effectOf choice s t (i .line)) (x .sound))
+          (rights-effect (readForm (i .line)) (i .line) s t (store-held s t (x .passes) .table) rooted ns e u d (effectOf s t (i .line)) (x .sound))
 
 -- Any lines: what every declared subject may do on the kept nodes afterwards is a part, in order, of what it could do on them before
 
-rights-kept : (choice : Choice) (s t : List ℕ) → stageC ≤ stage s → (is : List Input) (ns : List Tagged)
+rights-kept : (s t : List ℕ) → stageC ≤ stage s → (is : List Input) (ns : List Tagged)
     → map (λ n. n .0) ns ≡ records t → (u : ℕ) → u < length (policyIn s .names)
-    → Sublistᴰ (keptRights (policyIn (stateAfterAll choice s t is)) u (followAll choice s t is ns)) (keptRights (policyIn s) u ns)
+    → Sublistᴰ (keptRights (policyIn (stateAfterAll s t is)) u (followAll s t is ns)) (keptRights (policyIn s) u ns)
 unfolding followAll stateAfterAll
-rights-kept choice s t rooted [] ns e u d = Sublistᴰ·refl _
-rights-kept choice s t rooted (i ∷ is) ns e u d =
-    let s' : List ℕ = outcome choice s t i .state in
-    let t' : List ℕ = outcome choice s t i .table in
-    let p : policyIn s ≡ policyIn s' = ap policyOf (sym (policy-kept choice s t (i .line) (i .room) rooted)) in
+rights-kept s t rooted [] ns e u d = Sublistᴰ·refl _
+rights-kept s t rooted (i ∷ is) ns e u d =
+    let s' : List ℕ = outcome s t i .state in
+    let t' : List ℕ = outcome s t i .table in
+    let p : policyIn s ≡ policyIn s' = ap policyOf (sym (policy-kept s t (i .line) (i .room) rooted)) in
     Sublistᴰ·trans
-    (rights-kept choice s' t' (rooted-kept choice s t (i .line) (i .room) rooted) is
-    (follow choice s t i ns) (follows-line choice s t i ns e) u (rw (← p) d))
-    (rw (← p) (rights-line choice s t i ns e rooted u d))
+    (rights-kept s' t' (rooted-kept s t (i .line) (i .room) rooted) is
+    (follow s t i ns) (follows-line s t i ns e) u (rw (← p) d))
+    (rw (← p) (rights-line s t i ns e rooted u d))
 
 -- from the start on
-rights-from : (choice : Choice) (s t : List ℕ) → stageC ≤ stage s → (is : List Input) (u : ℕ) → u < length (policyIn s .names) → (k i : ℕ)
-    → Was choice s t is k i → rightsAt (stateAfterAll choice s t is) (tableAfterAll choice s t is) u k ≡ rightsAt s t u i
-rights-from choice s t rooted is u d k i w =
+rights-from : (s t : List ℕ) → stageC ≤ stage s → (is : List Input) (u : ℕ) → u < length (policyIn s .names) → (k i : ℕ)
+    → Was s t is k i → rightsAt (stateAfterAll s t is) (tableAfterAll s t is) u k ≡ rightsAt s t u i
+rights-from s t rooted is u d k i w =
     let ns : List Tagged = tagAll 0 (records t) in
-    let ns' : List Tagged = followAll choice s t is ns in
-    let P' : Policy = policyIn (stateAfterAll choice s t is) in
+    let ns' : List Tagged = followAll s t is ns in
+    let P' : Policy = policyIn (stateAfterAll s t is) in
     let sets : List ℕ = rightsOn (policyIn s) u (records t) in
     let n : map (λ x. x .0) ns ≡ records t = records-numbered 0 (records t) in
     let z : (j : ℕ) → getD sets j 0 ≡ getD sets (0 + j) 0 = λ j. let y : 0 + j ≡ j = omega arith in rw y in
     let a : All (λ p. p .1 ≡ getD sets (p .0) 0) (keptRights (policyIn s) u ns) = rw n (numbered-sets sets 0 (records t) sets z) in
-    let b : All (λ p. p .1 ≡ getD sets (p .0) 0) (keptRights P' u ns') = all-part (λ p. p .1 ≡ getD sets (p .0) 0) (rights-kept choice s t rooted is ns n u d) a in
-    ap (λ rs. getD (rightsOn P' u rs) k 0) (sym (follows choice s t is ns n))
+    let b : All (λ p. p .1 ≡ getD sets (p .0) 0) (keptRights P' u ns') = all-part (λ p. p .1 ≡ getD sets (p .0) 0) (rights-kept s t rooted is ns n u d) a in
+    ap (λ rs. getD (rightsOn P' u rs) k 0) (sym (follows s t is ns n))
     ∙ tagged-set (λ p. p .1 ≡ getD sets (p .0) 0) ns' (rightsOn P' u (map (λ x. x .0) ns')) k i (omega (arith, sets-length P' u ns')) b w
 
 -- between any two points
 pub same-rights : SameRights
-same-rights choice s t rooted before between u d k i w =
-    let s1 : List ℕ = stateAfterAll choice s t before in
-    let t1 : List ℕ = tableAfterAll choice s t before in
-    let p : policyIn s1 ≡ policyIn s = ap policyOf (run-policy choice s t before rooted) in
-    ap₂ (λ x y. rightsAt x y u k) (run-state choice s t before between) (run-table choice s t before between)
-    ∙ rights-from choice s1 t1 (run-rooted choice s t before rooted) between u (subst (λ (P : Policy). u < length (P .names)) (sym p) d) k i w
+same-rights s t rooted before between u d k i w =
+    let s1 : List ℕ = stateAfterAll s t before in
+    let t1 : List ℕ = tableAfterAll s t before in
+    let p : policyIn s1 ≡ policyIn s = ap policyOf (run-policy s t before rooted) in
+    ap₂ (λ x y. rightsAt x y u k) (run-state s t before between) (run-table s t before between)
+    ∙ rights-from s1 t1 (run-rooted s t before rooted) between u (subst (λ (P : Policy). u < length (P .names)) (sym p) d) k i w

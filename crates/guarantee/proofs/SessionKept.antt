@@ -8,7 +8,6 @@ use mathlib.Core.Logic.{_⊎_, inl, inr}
 use native.Mathlib.Omega.{arith}
 use native.Mathlib.Numerals.{add-one}
 use lib.ListN.{length}
-use Rattle.answers.specs.AnswerChoice.{Choice}
 use Rattle.forms.specs.Form.{readForm, treeIn}
 use Rattle.forms.specs.Tree.{recordsOf}
 use Rattle.forms.specs.declared.form.Form.{Form}
@@ -46,52 +45,52 @@ user-after f line s t size (removal ms) x = inl refl
 user-after f line s t size (login v) x = inr (v, refl, x)
 user-after f line s t size reading x = inl refl
 
-module _ (choice : Choice) (s t line : List ℕ) (room : ℕ) where
+module _ (s t line : List ℕ) (room : ℕ) where
   -- A store that passes 13 passes it again after any line, accepted or refused.
-  pub store-kept : storeOk s t ≡ true → storeOk (step choice s t line room .state) (step choice s t line room .table) ≡ true
+  pub store-kept : storeOk s t ≡ true → storeOk (step s t line room .state) (step s t line room .table) ≡ true
   store-kept ok =
-      let e = lineWork choice s t line .effect in
-      after-line choice s t line room (λ s' t'. storeOk s' t' ≡ true) ok
+      let e = lineWork s t line .effect in
+      after-line s t line room (λ s' t'. storeOk s' t' ≡ true) ok
       λ p x. held-passes (stateAfter e s) (tableAfter e t) (held-after (readForm line) line s t p e x)
 
   -- From the root line on, no line changes the policy,
-  pub policy-kept : stageC ≤ stage s → policyBytes (step choice s t line room .state) ≡ policyBytes s
+  pub policy-kept : stageC ≤ stage s → policyBytes (step s t line room .state) ≡ policyBytes s
   policy-kept rooted =
-      after-line choice s t line room (λ s' t'. policyBytes s' ≡ policyBytes s) refl
-      λ p x. policy-after (readForm line) line s t rooted (lineWork choice s t line .effect) x .0
+      after-line s t line room (λ s' t'. policyBytes s' ≡ policyBytes s) refl
+      λ p x. policy-after (readForm line) line s t rooted (lineWork s t line .effect) x .0
 
   -- and no line goes back to a stage before it.
-  pub rooted-kept : stageC ≤ stage s → stageC ≤ stage (step choice s t line room .state)
+  pub rooted-kept : stageC ≤ stage s → stageC ≤ stage (step s t line room .state)
   rooted-kept rooted =
-      after-line choice s t line room (λ s' t'. stageC ≤ stage s') rooted
-      λ p x. policy-after (readForm line) line s t rooted (lineWork choice s t line .effect) x .1
+      after-line s t line room (λ s' t'. stageC ≤ stage s') rooted
+      λ p x. policy-after (readForm line) line s t rooted (lineWork s t line .effect) x .1
 
   -- The user stays, or the line is an accepted `(user N)`: then N is the user, the stage is E, and nothing else changes.
   pub record LoggedIn : Type 0 where
     pub subject : ℕ
-    pub logs : LogsIn subject s line (answerOf (step choice s t line room .reply))
-    pub state : step choice s t line room .state ≡ withSession stageE (suc subject) s
-    pub table : step choice s t line room .table ≡ t
+    pub logs : LogsIn subject s line (answerOf (step s t line room .reply))
+    pub state : step s t line room .state ≡ withSession stageE (suc subject) s
+    pub table : step s t line room .table ≡ t
 
   -- what a line leaves that has the effect of logging v in
-  login-left : Accepted choice s t line room → (v : ℕ) → lineWork choice s t line .effect ≡ login v
-      → (step choice s t line room .state ≡ withSession stageE (suc v) s) × (step choice s t line room .table ≡ t)
+  login-left : Accepted s t line room → (v : ℕ) → lineWork s t line .effect ≡ login v
+      → (step s t line room .state ≡ withSession stageE (suc v) s) × (step s t line room .table ≡ t)
   login-left x v e = (
     ap (λ (o : Outcome). o .state) (x .is) ∙ ap (λ (e : Effect). stateAfter e s) e ∙ ap (λ (u : ℕ). withSession stageE u s) (add-one v),
     ap (λ (o : Outcome). o .table) (x .is) ∙ ap (λ (e : Effect). tableAfter e t) e,
   )
 
-  user-cases : (userByte (step choice s t line room .state) ≡ userByte s) ⊎ LoggedIn
-  user-cases = go (line-cases choice s t line room)
+  user-cases : (userByte (step s t line room .state) ≡ userByte s) ⊎ LoggedIn
+  user-cases = go (line-cases s t line room)
     where
-      go : Refused s t (step choice s t line room) ⊎ Accepted choice s t line room → (userByte (step choice s t line room .state) ≡ userByte s) ⊎ LoggedIn
+      go : Refused s t (step s t line room) ⊎ Accepted s t line room → (userByte (step s t line room .state) ≡ userByte s) ⊎ LoggedIn
       go (inl x) = inl (ap (λ (o : Outcome). userByte (o .state)) (x .is))
       go (inr x) =
-          by (user-after (readForm line) line s t (omega (arith, store-held s t (x .passes) .size)) (lineWork choice s t line .effect) (x .sound))
+          by (user-after (readForm line) line s t (omega (arith, store-held s t (x .passes) .size)) (lineWork s t line .effect) (x .sound))
         where
-          by : (userByte (stateAfter (lineWork choice s t line .effect) s) ≡ userByte s)
-              ⊎ ((v : ℕ) × (lineWork choice s t line .effect ≡ login v) × LoginSound (readForm line) line s v)
-              → (userByte (step choice s t line room .state) ≡ userByte s) ⊎ LoggedIn
+          by : (userByte (stateAfter (lineWork s t line .effect) s) ≡ userByte s)
+              ⊎ ((v : ℕ) × (lineWork s t line .effect ≡ login v) × LoginSound (readForm line) line s v)
+              → (userByte (step s t line room .state) ≡ userByte s) ⊎ LoggedIn
           by (inl e) = inl (ap (λ (o : Outcome). userByte (o .state)) (x .is) ∙ e)
           by (inr (v, e, y)) =
               let left = login-left x v e in
@@ -101,7 +100,7 @@ module _ (choice : Choice) (s t line : List ℕ) (room : ℕ) where
                   name = y .name;
                   form = y .form;
                   subject = y .named;
-                  said = length (lineWork choice s t line .text);
+                  said = length (lineWork s t line .text);
                   accepted = ap (λ (o : Outcome). answerOf (o .reply)) (x .is);
                 };
                 state = left .0;
@@ -109,19 +108,19 @@ module _ (choice : Choice) (s t line : List ℕ) (room : ℕ) where
               })
 
   -- The line that logs v in leaves v as user, at stage E, and changes nothing else.
-  pub logged-in : (v : ℕ) → LogsIn v s line (answerOf (step choice s t line room .reply))
-      → (step choice s t line room .state ≡ withSession stageE (suc v) s) × (step choice s t line room .table ≡ t)
+  pub logged-in : (v : ℕ) → LogsIn v s line (answerOf (step s t line room .reply))
+      → (step s t line room .state ≡ withSession stageE (suc v) s) × (step s t line room .table ≡ t)
   logged-in v l =
-      login-left (taken choice s t line room (l .said) (l .accepted)) v
-      (ap (λ (f : Form). workOf choice f s t line (recordsOf (treeIn line)) .effect) (l .form) ∙ ap (λ n. login (numberIn n)) (l .subject))
+      login-left (taken s t line room (l .said) (l .accepted)) v
+      (ap (λ (f : Form). workOf f s t line (recordsOf (treeIn line)) .effect) (l .form) ∙ ap (λ n. login (numberIn n)) (l .subject))
 
   -- So u stays the user where no other subject is logged in, and is the user where it logs in.
-  pub user-is-kept : (u : ℕ) → UserIs u s → ((v : ℕ) → LogsIn v s line (answerOf (step choice s t line room .reply)) → v ≡ u) → UserIs u (step choice s t line room .state)
+  pub user-is-kept : (u : ℕ) → UserIs u s → ((v : ℕ) → LogsIn v s line (answerOf (step s t line room .reply)) → v ≡ u) → UserIs u (step s t line room .state)
   user-is-kept u e h = go user-cases
     where
-      go : (userByte (step choice s t line room .state) ≡ userByte s) ⊎ LoggedIn → UserIs u (step choice s t line room .state)
+      go : (userByte (step s t line room .state) ≡ userByte s) ⊎ LoggedIn → UserIs u (step s t line room .state)
       go (inl q) = q ∙ e
       go (inr l) = ap userByte (l .state) ∙ ap suc (h (l .subject) (l .logs))
 
-  pub user-is-logged : (v : ℕ) → LogsIn v s line (answerOf (step choice s t line room .reply)) → UserIs v (step choice s t line room .state)
+  pub user-is-logged : (v : ℕ) → LogsIn v s line (answerOf (step s t line room .reply)) → UserIs v (step s t line room .state)
   user-is-logged v l = ap userByte (logged-in v l .0)

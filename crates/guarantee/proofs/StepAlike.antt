@@ -8,7 +8,6 @@ use native.Mathlib.Omega.{arith}
 use borrow.Author.Tests.{eqb-true, le-leb, not-false}
 use lib.Dec.{leb, eqb, ltb}
 use lib.ListN.{length}
-use Rattle.answers.specs.AnswerChoice.{Choice}
 use Rattle.forms.specs.Form.{readForm}
 use Rattle.forms.specs.declared.form.Form.{Form}
 use Rattle.lines.specs.State.{stageE, stage, userByte, policyIn, storeOk}
@@ -30,19 +29,19 @@ user-stage s t ok u e =
     let y : leb 1 (userByte s) ≡ true = le-leb 1 (userByte s) (omega (arith, e)) in
     eqb-true (stage s) 4 (sym (agree (eqb (stage s) 4) (leb 1 (userByte s)) (store-held s t ok .logged)) ∙ y)
 
-module _ (choice : Choice) (u : ℕ) (s t s' t' : List ℕ) (h : Tied u s t s' t') (room : ℕ) (line : List ℕ) where
+module _ (u : ℕ) (s t s' t' : List ℕ) (h : Tied u s t s' t') (room : ℕ) (line : List ℕ) where
   abbrev form : Form
   form = readForm line
 
   abbrev work : Work
-  work = lineWork choice s t line
+  work = lineWork s t line
 
   abbrev work' : Work
-  work' = lineWork choice s' t' line
+  work' = lineWork s' t' line
 
   -- what comes behind the checks that every line meets
   abbrev own : List ℕ → List ℕ → Outcome
-  own s t = checked (checksIn room (lineWork choice s t line)) s t (done choice s t line)
+  own s t = checked (checksIn room (lineWork s t line)) s t (done s t line)
 
   -- the checks before the form's own
   front-alike : ChecksAlike (lineChecks s t line form) (lineChecks s' t' line form)
@@ -62,16 +61,16 @@ module _ (choice : Choice) (u : ℕ) (s t s' t' : List ℕ) (h : Tied u s t s' t
       ((refl, inl (ap (λ x. ltb room (length x)) (a .text))), tt)
 
   -- Accepted in both with the same answer or refused in both with the same number, and the low projections stay equal, unless one is refused with 11.
-  pub match-step : Match (policyIn s) u (step choice s t line room) (step choice s' t' line room)
+  pub match-step : Match (policyIn s) u (step s t line room) (step s' t' line room)
   unfolding step performed checked
   match-step =
       match-checked (policyIn s) u s t s' t' (h .low) (lineChecks s t line form) (lineChecks s' t' line form) (own s t) (own s' t') front-alike
       λ p p'.
       let i = not-false (inStage (stageOf form) (stage s)) (p .1 .1 .1 .0) in
       let i' = not-false (inStage (stageOf form) (stage s')) (p' .1 .1 .1 .0) in
-      let law = read-law choice line in
+      let law = read-law line in
       let a = law .alike u s t s' t' h (sym (ap (λ k. inStage (stageOf form) k) (user-stage s t (h .passes) u (h .user))) ∙ i) in
-      match-checked (policyIn s) u s t s' t' (h .low) (checksIn room work) (checksIn room work') (done choice s t line) (done choice s' t' line) (own-alike a)
+      match-checked (policyIn s) u s t s' t' (h .low) (checksIn room work) (checksIn room work') (done s t line) (done s' t' line) (own-alike a)
       λ q q'.
       let x = law .sound s t (h .passes) i (passed-both (work .checks) _ q .0) in
       let x' = law .sound s' t' (h .passes') i' (passed-both (work' .checks) _ q' .0) in

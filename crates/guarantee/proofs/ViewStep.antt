@@ -10,7 +10,6 @@ use Rattle.views.specs.Shown.{grants}
 use Rattle.views.proofs.TableKept.{length-records}
 use Rattle.views.proofs.ViewLaws.{view-nested, view-hidden, view-rooted}
 use Rattle.answers.specs.Answer.{viewText}
-use Rattle.answers.specs.AnswerChoice.{Choice}
 use Rattle.answers.specs.AnswerTree.{Printed}
 use Rattle.answers.proofs.AnswerTreeLaws.{view-printed, view-empty}
 use Rattle.forms.specs.Form.{readForm}
@@ -28,12 +27,12 @@ some-right : (ss : List ℕ) → grants (getD ss 0 0) ≡ true → 0 < length ss
 some-right [] h = absurd (false≢true h)
 some-right (x ∷ ss) h = omega arith
 
-module _ (choice : Choice) (s t line : List ℕ) (room : ℕ) (text : List ℕ) (form : readForm line ≡ View) (answered : step choice s t line room .reply ≡ says text) where
-  taken : Accepted choice s t line room
-  taken = accepted choice s t line room text answered
+module _ (s t line : List ℕ) (room : ℕ) (text : List ℕ) (form : readForm line ≡ View) (answered : step s t line room .reply ≡ says text) where
+  taken : Accepted s t line room
+  taken = accepted s t line room text answered
 
   said : text ≡ viewText (viewIn s t)
-  said = answer-is choice s t line room text answered ∙ ap (λ (f : Form). workIn choice line f s t .text) form
+  said = answer-is s t line room text answered ∙ ap (λ (f : Form). workIn line f s t .text) form
 
   -- "nothing but `(end 0)` if the root is hidden": if the user has neither read nor position on it.
   pub view-of-hidden-root : grants (getD (rightsIn s t) 0 0) ≡ false → text ≡ bytes "(end 0)\n"

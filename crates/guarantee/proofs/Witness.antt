@@ -13,7 +13,6 @@ use Rattle.rights.specs.Rights.{rightsOn}
 use Rattle.rights.specs.Table.{records}
 use Rattle.rights.specs.Marks.{keep}
 use Rattle.views.specs.Shown.{stored, shown, view}
-use Rattle.answers.specs.AnswerChoice.{Choice}
 use Rattle.lines.specs.State.{stageC, stage, userByte, policyIn, storeOk}
 use Rattle.lines.specs.Outcome.{Reply, says, Outcome}
 use Rattle.lines.specs.Effect.{renaming, recordsAfter}
@@ -38,145 +37,144 @@ record Read : Type 0 where
   table : List ℕ
   reply : Reply
 
-module _ (choice : Choice) where
-  unfoldable readOff : List ℕ → List ℕ → Read
-  readOff s t = record { policy = policyIn s; stage = stage s; user = userByte s; table = t; reply = passed choice s t (typed told) .reply }
+unfoldable readOff : List ℕ → List ℕ → Read
+readOff s t = record { policy = policyIn s; stage = stage s; user = userByte s; table = t; reply = passed s t (typed told) .reply }
 
-  -- from a store that passes, after lines, where 13 is not computed
-  unfoldable readAfter : List ℕ → List ℕ → List Input → Read
-  readAfter s t [] = readOff s t
-  readAfter s t (i ∷ is) = readAfter (passed choice s t i .state) (passed choice s t i .table) is
+-- from a store that passes, after lines, where 13 is not computed
+unfoldable readAfter : List ℕ → List ℕ → List Input → Read
+readAfter s t [] = readOff s t
+readAfter s t (i ∷ is) = readAfter (passed s t i .state) (passed s t i .table) is
 
-  read-after : (s t : List ℕ) (is : List Input) → storeOk s t ≡ true → readOff (stateAfterAll choice s t is) (tableAfterAll choice s t is) ≡ readAfter s t is
-  unfolding readAfter stateAfterAll tableAfterAll
-  read-after s t [] p = refl
-  read-after s t (i ∷ is) p =
-      let e : outcome choice s t i ≡ passed choice s t i = step-passed choice s t i p in
-      read-after (outcome choice s t i .state) (outcome choice s t i .table) is (store-kept choice s t (i .line) (i .room) p)
-      ∙ ap (λ (o : Outcome). readAfter (o .state) (o .table) is) e
+read-after : (s t : List ℕ) (is : List Input) → storeOk s t ≡ true → readOff (stateAfterAll s t is) (tableAfterAll s t is) ≡ readAfter s t is
+unfolding readAfter stateAfterAll tableAfterAll
+read-after s t [] p = refl
+read-after s t (i ∷ is) p =
+    let e : outcome s t i ≡ passed s t i = step-passed s t i p in
+    read-after (outcome s t i .state) (outcome s t i .table) is (store-kept s t (i .line) (i .room) p)
+    ∙ ap (λ (o : Outcome). readAfter (o .state) (o .table) is) e
 
-  -- a school
-  abbrev Reads : String → String → Type 0
-  Reads one answer =
-      readAfter newState (newTable 10) (school one) ≡ record { policy = thePolicy; stage = 4; user = 1; table = theTable one; reply = says (bytes answer) }
+-- a school
+abbrev Reads : String → String → Type 0
+Reads one answer =
+    readAfter newState (newTable 10) (school one) ≡ record { policy = thePolicy; stage = 4; user = 1; table = theTable one; reply = says (bytes answer) }
 
-  ill : Reads "ill" "(done 1 0)\n"
-  unfolding given readAfter readOff
-  ill = refl
+ill : Reads "ill" "(done 1 0)\n"
+unfolding given readAfter readOff
+ill = refl
 
-  cold : Reads "cold" "(done 1 0)\n"
-  unfolding given readAfter readOff
-  cold = refl
+cold : Reads "cold" "(done 1 0)\n"
+unfolding given readAfter readOff
+cold = refl
 
-  flu : Reads "flu" "(done 1 1)\n"
-  unfolding given readAfter readOff
-  flu = refl
+flu : Reads "flu" "(done 1 1)\n"
+unfolding given readAfter readOff
+flu = refl
 
-  sha : Reads "SHA" "(done 1 1)\n"
-  unfolding given readAfter readOff
-  sha = refl
+sha : Reads "SHA" "(done 1 1)\n"
+unfolding given readAfter readOff
+sha = refl
 
-  module _ (one answer : String) (w : Reads one answer) where
-    read-off : readOff (stateWith choice one) (tableWith choice one)
-        ≡ record { policy = thePolicy; stage = 4; user = 1; table = theTable one; reply = says (bytes answer) }
-    read-off = read-after newState (newTable 10) (school one) small-passes ∙ w
+module _ (one answer : String) (w : Reads one answer) where
+  read-off : readOff (stateWith one) (tableWith one)
+      ≡ record { policy = thePolicy; stage = 4; user = 1; table = theTable one; reply = says (bytes answer) }
+  read-off = read-after newState (newTable 10) (school one) small-passes ∙ w
 
-    passes : storeOk (stateWith choice one) (tableWith choice one) ≡ true
-    passes = run-passes choice newState (newTable 10) (school one) small-passes
+  passes : storeOk (stateWith one) (tableWith one) ≡ true
+  passes = run-passes newState (newTable 10) (school one) small-passes
 
-    policy-is : policyIn (stateWith choice one) ≡ thePolicy
-    unfolding readOff
-    policy-is = ap (λ (r : Read). r .policy) read-off
+  policy-is : policyIn (stateWith one) ≡ thePolicy
+  unfolding readOff
+  policy-is = ap (λ (r : Read). r .policy) read-off
 
-    rooted : stageC ≤ stage (stateWith choice one)
-    unfolding readOff
-    rooted = let e : stage (stateWith choice one) ≡ 4 = ap (λ (r : Read). r .stage) read-off in omega (arith, e)
+  rooted : stageC ≤ stage (stateWith one)
+  unfolding readOff
+  rooted = let e : stage (stateWith one) ≡ 4 = ap (λ (r : Read). r .stage) read-off in omega (arith, e)
 
-    user-is : UserIs 0 (stateWith choice one)
-    unfolding readOff
-    user-is = ap (λ (r : Read). r .user) read-off
+  user-is : UserIs 0 (stateWith one)
+  unfolding readOff
+  user-is = ap (λ (r : Read). r .user) read-off
 
-    table-is : tableWith choice one ≡ theTable one
-    unfolding readOff
-    table-is = ap (λ (r : Read). r .table) read-off
+  table-is : tableWith one ≡ theTable one
+  unfolding readOff
+  table-is = ap (λ (r : Read). r .table) read-off
 
-    reply-is : outcome choice (stateWith choice one) (tableWith choice one) (typed told) .reply ≡ says (bytes answer)
-    unfolding readOff
-    reply-is =
-        ap (λ (o : Outcome). o .reply) (step-passed choice (stateWith choice one) (tableWith choice one) (typed told) passes)
-        ∙ ap (λ (r : Read). r .reply) read-off
+  reply-is : outcome (stateWith one) (tableWith one) (typed told) .reply ≡ says (bytes answer)
+  unfolding readOff
+  reply-is =
+      ap (λ (o : Outcome). o .reply) (step-passed (stateWith one) (tableWith one) (typed told) passes)
+      ∙ ap (λ (r : Read). r .reply) read-off
 
-    rights-is : rightsOn (policyIn (stateWith choice one)) 0 (records (tableWith choice one)) ≡ rightsOn thePolicy 0 (records (theTable one))
-    rights-is = ap₂ (λ P t. rightsOn P 0 (records t)) policy-is table-is
+  rights-is : rightsOn (policyIn (stateWith one)) 0 (records (tableWith one)) ≡ rightsOn thePolicy 0 (records (theTable one))
+  rights-is = ap₂ (λ P t. rightsOn P 0 (records t)) policy-is table-is
 
-  -- two such schools
-  module _ (one other answer answer' : String) (w : Reads one answer) (w' : Reads other answer') where
-    started : Start (stateWith choice one) (tableWith choice one) (stateWith choice other) (tableWith choice other)
-    started = record {
-      passes = passes one answer w;
-      passes' = passes other answer' w';
-      rooted = rooted one answer w;
-      rooted' = rooted other answer' w';
-      policy = rw (policy-is one answer w, policy-is other answer' w') (same-self thePolicy);
+-- two such schools
+module _ (one other answer answer' : String) (w : Reads one answer) (w' : Reads other answer') where
+  started : Start (stateWith one) (tableWith one) (stateWith other) (tableWith other)
+  started = record {
+    passes = passes one answer w;
+    passes' = passes other answer' w';
+    rooted = rooted one answer w;
+    rooted' = rooted other answer' w';
+    policy = rw (policy-is one answer w, policy-is other answer' w') (same-self thePolicy);
+  }
+
+  look-same : lookOf one ≡ lookOf other → look 0 (stateWith one) (tableWith one) ≡ look 0 (stateWith other) (tableWith other)
+  look-same e =
+      ap₂ (λ t rs. view (stored t rs)) (table-is one answer w) (rights-is one answer w) ∙ e
+      ∙ sym (ap₂ (λ t rs. view (stored t rs)) (table-is other answer' w') (rights-is other answer' w'))
+
+  shown-is : (one answer : String) → Reads one answer → shownTo 0 (stateWith one) (tableWith one) ≡ shownOf one
+  shown-is one answer w = ap₂ (λ t rs. keep (shown (stored t rs)) (stored t rs)) (table-is one answer w) (rights-is one answer w)
+
+  behind-is : Behind (policyIn (stateWith one)) (shownTo 0 (stateWith one) (tableWith one))
+      (shownTo 0 (stateWith other) (tableWith other)) ≡ BehindBoth one other
+  behind-is =
+      ap (λ (P : Policy). Behind P (shownTo 0 (stateWith one) (tableWith one)) (shownTo 0 (stateWith other) (tableWith other)))
+      (policy-is one answer w)
+      ∙ ap₂ (Behind thePolicy) (shown-is one answer w) (shown-is other answer' w')
+
+  alike : lookOf one ≡ lookOf other → BehindBoth one other
+      → Alike 0 (stateWith one) (tableWith one) (stateWith other) (tableWith other)
+  alike e b = record { start = started; looks = look-same e; behind = subst (λ B. B) (sym behind-is) b }
+
+  told-apart : lookOf one ≡ lookOf other → (BehindBoth one other → ⊥) → ToldApart one other "(remove /*/*)" answer answer'
+  told-apart e k = record {
+    start = started;
+    looks = look-same e;
+    unlike = λ a. k (subst (λ B. B) behind-is (a .behind));
+    user = user-is one answer w;
+    user' = user-is other answer' w';
+    says-one = reply-is one answer w;
+    says-other = reply-is other answer' w';
+  }
+
+ill-cold : Alike 0 (stateWith "ill") (tableWith "ill") (stateWith "cold") (tableWith "cold")
+ill-cold = alike "ill" "cold" "(done 1 0)\n" "(done 1 0)\n" ill cold look-ill-cold behind-ill-cold
+
+ill-flu : ToldApart "ill" "flu" "(remove /*/*)" "(done 1 0)\n" "(done 1 1)\n"
+ill-flu = told-apart "ill" "flu" "(done 1 0)\n" "(done 1 1)\n" ill flu look-ill-flu behind-ill-flu
+
+ill-sha : ToldApart "ill" "SHA" "(remove /*/*)" "(done 1 0)\n" "(done 1 1)\n"
+ill-sha = told-apart "ill" "SHA" "(done 1 0)\n" "(done 1 1)\n" ill sha look-ill-sha behind-ill-sha
+
+root-noted : Readable (renaming (bytes "note") (true ∷ []))
+unfolding given
+root-noted =
+    let e : tableWith "ill" ≡ theTable "ill" = table-is "ill" "(done 1 0)\n" ill in
+    record {
+      kept = ap (λ (t : List ℕ). tagAt (afterEffect (renaming (bytes "note") (true ∷ [])) (tagAll 0 (records t))) 1) e;
+      had = ap (λ (ss : List ℕ). getD ss 1 0) (rights-is "ill" "(done 1 0)\n" ill);
+      has = ap₂ (λ (P : Policy) (t : List ℕ). getD (rightsOn P 0 (recordsAfter (renaming (bytes "note") (true ∷ [])) (records t))) 1 0) (policy-is "ill" "(done 1 0)\n" ill) e;
     }
-
-    look-same : lookOf one ≡ lookOf other → look 0 (stateWith choice one) (tableWith choice one) ≡ look 0 (stateWith choice other) (tableWith choice other)
-    look-same e =
-        ap₂ (λ t rs. view (stored t rs)) (table-is one answer w) (rights-is one answer w) ∙ e
-        ∙ sym (ap₂ (λ t rs. view (stored t rs)) (table-is other answer' w') (rights-is other answer' w'))
-
-    shown-is : (one answer : String) → Reads one answer → shownTo 0 (stateWith choice one) (tableWith choice one) ≡ shownOf one
-    shown-is one answer w = ap₂ (λ t rs. keep (shown (stored t rs)) (stored t rs)) (table-is one answer w) (rights-is one answer w)
-
-    behind-is : Behind (policyIn (stateWith choice one)) (shownTo 0 (stateWith choice one) (tableWith choice one))
-        (shownTo 0 (stateWith choice other) (tableWith choice other)) ≡ BehindBoth one other
-    behind-is =
-        ap (λ (P : Policy). Behind P (shownTo 0 (stateWith choice one) (tableWith choice one)) (shownTo 0 (stateWith choice other) (tableWith choice other)))
-        (policy-is one answer w)
-        ∙ ap₂ (Behind thePolicy) (shown-is one answer w) (shown-is other answer' w')
-
-    alike : lookOf one ≡ lookOf other → BehindBoth one other
-        → Alike 0 (stateWith choice one) (tableWith choice one) (stateWith choice other) (tableWith choice other)
-    alike e b = record { start = started; looks = look-same e; behind = subst (λ B. B) (sym behind-is) b }
-
-    told-apart : lookOf one ≡ lookOf other → (BehindBoth one other → ⊥) → ToldApart choice one other "(remove /*/*)" answer answer'
-    told-apart e k = record {
-      start = started;
-      looks = look-same e;
-      unlike = λ a. k (subst (λ B. B) behind-is (a .behind));
-      user = user-is one answer w;
-      user' = user-is other answer' w';
-      says-one = reply-is one answer w;
-      says-other = reply-is other answer' w';
-    }
-
-  ill-cold : Alike 0 (stateWith choice "ill") (tableWith choice "ill") (stateWith choice "cold") (tableWith choice "cold")
-  ill-cold = alike "ill" "cold" "(done 1 0)\n" "(done 1 0)\n" ill cold look-ill-cold behind-ill-cold
-
-  ill-flu : ToldApart choice "ill" "flu" "(remove /*/*)" "(done 1 0)\n" "(done 1 1)\n"
-  ill-flu = told-apart "ill" "flu" "(done 1 0)\n" "(done 1 1)\n" ill flu look-ill-flu behind-ill-flu
-
-  ill-sha : ToldApart choice "ill" "SHA" "(remove /*/*)" "(done 1 0)\n" "(done 1 1)\n"
-  ill-sha = told-apart "ill" "SHA" "(done 1 0)\n" "(done 1 1)\n" ill sha look-ill-sha behind-ill-sha
-
-  root-noted : Readable choice (renaming (bytes "note") (true ∷ []))
-  unfolding given
-  root-noted =
-      let e : tableWith choice "ill" ≡ theTable "ill" = table-is "ill" "(done 1 0)\n" ill in
-      record {
-        kept = ap (λ (t : List ℕ). tagAt (afterEffect (renaming (bytes "note") (true ∷ [])) (tagAll 0 (records t))) 1) e;
-        had = ap (λ (ss : List ℕ). getD ss 1 0) (rights-is "ill" "(done 1 0)\n" ill);
-        has = ap₂ (λ (P : Policy) (t : List ℕ). getD (rightsOn P 0 (recordsAfter (renaming (bytes "note") (true ∷ [])) (records t))) 1 0) (policy-is "ill" "(done 1 0)\n" ill) e;
-      }
 
 pub hidden : Hidden
-hidden choice = (
-  ill-cold choice,
-  λ e. tables-differ (sym (table-is choice "ill" "(done 1 0)\n" (ill choice)) ∙ e ∙ table-is choice "cold" "(done 1 0)\n" (cold choice)),
+hidden = (
+  ill-cold,
+  λ e. tables-differ (sym (table-is "ill" "(done 1 0)\n" (ill)) ∙ e ∙ table-is "cold" "(done 1 0)\n" (cold)),
 )
 
 pub second-needed : SecondNeeded
-second-needed choice = (ill-flu choice, ill-sha choice)
+second-needed = (ill-flu, ill-sha)
 
 pub words-needed : WordsNeeded
 words-needed = root-noted

@@ -12,7 +12,6 @@ use Rattle.rights.specs.Policy.{Policy, policyWord}
 use Rattle.rights.specs.Rights.{rightsOn}
 use Rattle.rights.specs.Table.{records, label}
 use Rattle.views.specs.Shown.{Stored, stored, shown, carried, view}
-use Rattle.answers.specs.AnswerChoice.{Choice}
 use Rattle.lines.specs.PolicyEdit.{isaHeld, subjectNamed}
 use Rattle.forms.specs.Form.{readForm}
 use Rattle.lines.specs.State.{stageC, stage, userByte, policyIn, storeOk}
@@ -83,5 +82,5 @@ pub record Input : Type 0 where
   pub line : List ℕ
   pub room : ℕ
 
-abbrev pub outcome : Choice → List ℕ → List ℕ → Input → Outcome
-outcome choice s t i = step choice s t (i .line) (i .room)
+abbrev pub outcome : List ℕ → List ℕ → Input → Outcome
+outcome s t i = step s t (i .line) (i .room)

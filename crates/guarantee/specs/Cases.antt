@@ -8,14 +8,13 @@ use lib.ListN.{replicate}
 use Rattle.rights.specs.Bytes.{bytes}
 use Rattle.rights.specs.Limits.{stateSize}
 use Rattle.views.specs.Nodes.{All}
-use Rattle.answers.specs.AnswerChoice.{Choice}
 use Rattle.lines.specs.Outcome.{Reply, says, refuses}
 use Rattle.guarantee.specs.Alike.{Input, outcome}
 
 -- the replies to lines, each on the state and the table that the one before it left
-unfoldable pub replies : Choice → List ℕ → List ℕ → List Input → List Reply
-replies choice s t [] = []
-replies choice s t (i ∷ is) = outcome choice s t i .reply ∷ replies choice (outcome choice s t i .state) (outcome choice s t i .table) is
+unfoldable pub replies : List ℕ → List ℕ → List Input → List Reply
+replies s t [] = []
+replies s t (i ∷ is) = outcome s t i .reply ∷ replies (outcome s t i .state) (outcome s t i .table) is
 
 -- the state, and a table of n records, before the first line
 abbrev pub newState : List ℕ
@@ -50,8 +49,8 @@ pub record Case : Type 0 where
   pub turns : List Turn
 
 -- the lines of a row give exactly the replies that stand beside them
-abbrev pub CaseAnswered : Choice → Case → Type 0
-CaseAnswered choice c = replies choice newState (newTable (c .capacity)) (map input (c .turns)) ≡ map (λ x. x .reply) (c .turns)
+abbrev pub CaseAnswered : Case → Type 0
+CaseAnswered c = replies newState (newTable (c .capacity)) (map input (c .turns)) ≡ map (λ x. x .reply) (c .turns)
 
 -- the example's first ten lines
 abbrev pub example : List Turn
@@ -217,12 +216,12 @@ fewRecords =
           ∷ [];
     }
 
--- The table, and what is claimed of it: every row is answered so, at every choice of `find`.
+-- The table, and what is claimed of it: every row is answered so.
 abbrev pub cases : List Case
 cases = exampleAnswered ∷ exampleRenamed ∷ bracketHolds ∷ bracketCounts ∷ noRules ∷ rootRemoved ∷ lessonRemoved ∷ levels ∷ fewRecords ∷ []
 
 abbrev pub Starred : Type 0
-Starred = (choice : Choice) → All (CaseAnswered choice) cases
+Starred = All (CaseAnswered) cases
 
 -- Each reading that makes demand 3 false answers a line of these rows otherwise, or of `fewRecords`: 11 decided place by place.
 
@@ -274,4 +273,4 @@ wordsOfOthers =
     }
 
 abbrev pub ReadRight : Type 0
-ReadRight = (choice : Choice) → All (CaseAnswered choice) (hiddenChild ∷ wordsOfOthers ∷ fewRecords ∷ [])
+ReadRight = All (CaseAnswered) (hiddenChild ∷ wordsOfOthers ∷ fewRecords ∷ [])

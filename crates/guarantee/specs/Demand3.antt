@@ -5,7 +5,6 @@ use mathlib.Core.Path.{_≡_}
 use mathlib.Core.List.{List, [], _∷_}
 use mathlib.Core.Logic.{_⊎_}
 use lib.ListN.{length, take}
-use Rattle.answers.specs.AnswerChoice.{Choice}
 use Rattle.lines.specs.Outcome.{Made}
 use Rattle.lines.specs.Refusal.{tableFull}
 use Rattle.lines.specs.declared.line.Answer.{Answer}
@@ -23,14 +22,14 @@ pub record Call : Type 0 where
   pub table : List ℕ
   pub area : List ℕ
 
--- what `line` promises of a call on the state s and the table t, at its choice of `find`
-abbrev pub Promised : Choice → List ℕ → List ℕ → Call → Type 0
-Promised choice s t c = Made (step choice s t (c .line) (length (c .lent))) (c .lent) (c .answer) (c .state) (c .table) (c .area)
+-- what `line` promises of a call on the state s and the table t
+abbrev pub Promised : List ℕ → List ℕ → Call → Type 0
+Promised s t c = Made (step s t (c .line) (length (c .lent))) (c .lent) (c .answer) (c .state) (c .table) (c .area)
 
 -- "Each line gets the state and table that the one before it returned or left, and nobody else writes them meanwhile."
-abbrev pub Run : Choice → List ℕ → List ℕ → List Call → Type 0
-Run choice s t [] = Unit {0}
-Run choice s t (c ∷ cs) = Promised choice s t c × Run choice (c .state) (c .table) cs
+abbrev pub Run : List ℕ → List ℕ → List Call → Type 0
+Run s t [] = Unit {0}
+Run s t (c ∷ cs) = Promised s t c × Run (c .state) (c .table) cs
 
 -- "Both runs get the same lines." "Each has an answer area of its own, as long in one run as in the other; its earlier bytes may differ."
 abbrev pub SameLines : List Call → List Call → Type 0
@@ -66,10 +65,10 @@ SameAnswers u s (c ∷ cs) (d ∷ ds) =
     × (UserIs u (c .state) × UserIs u (d .state))
     × SameAnswers u (c .state) cs ds
 
--- Demand 3, its first sentence: for every choice of `find`, every reader, every such start and any two runs of the same lines.
+-- Demand 3, its first sentence: for every reader, every such start and any two runs of the same lines.
 abbrev pub AnswersAlike : Type 0
 AnswersAlike =
-    (choice : Choice) (u : ℕ) (s t s' t' : List ℕ) → Alike u s t s' t' → (cs ds : List Call) → Run choice s t cs → Run choice s' t' ds
+    (u : ℕ) (s t s' t' : List ℕ) → Alike u s t s' t' → (cs ds : List Call) → Run s t cs → Run s' t' ds
     → SameLines cs ds → Begins u s s' cs → SameAnswers u s cs ds
 
 pub record Demand3 : Type 0 where

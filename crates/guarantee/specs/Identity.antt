@@ -12,7 +12,6 @@ use Rattle.rights.specs.Table.{records, level}
 use Rattle.views.specs.Nodes.{goes, only, tags}
 use Rattle.views.specs.declared.done.Change.the-variants as change
 use Rattle.views.specs.declared.insert.Place.{Place}
-use Rattle.answers.specs.AnswerChoice.{Choice}
 use Rattle.forms.specs.Form.{readForm, treeIn}
 use Rattle.lines.specs.State.{stageC, stage, policyIn}
 use Rattle.lines.specs.Effect.{Effect, insertion, nodesAfter}
@@ -45,43 +44,43 @@ afterReply (says b) e ns = afterEffect e ns
 afterReply (refuses n) e ns = ns
 
 -- the effect of a line that is accepted, and the nodes after a line
-abbrev pub effectOf : Choice → List ℕ → List ℕ → List ℕ → Effect
-effectOf choice s t line = workOf choice (readForm line) s t line (recordsOf (treeIn line)) .effect
+abbrev pub effectOf : List ℕ → List ℕ → List ℕ → Effect
+effectOf s t line = workOf (readForm line) s t line (recordsOf (treeIn line)) .effect
 
-unfoldable pub follow : Choice → List ℕ → List ℕ → Input → List Tagged → List Tagged
-follow choice s t i ns = afterReply (outcome choice s t i .reply) (effectOf choice s t (i .line)) ns
+unfoldable pub follow : List ℕ → List ℕ → Input → List Tagged → List Tagged
+follow s t i ns = afterReply (outcome s t i .reply) (effectOf s t (i .line)) ns
 
 -- the nodes after a list of lines; and the state and the table then
-unfoldable pub followAll : Choice → List ℕ → List ℕ → List Input → List Tagged → List Tagged
-followAll choice s t [] ns = ns
-followAll choice s t (i ∷ is) ns = followAll choice (outcome choice s t i .state) (outcome choice s t i .table) is (follow choice s t i ns)
+unfoldable pub followAll : List ℕ → List ℕ → List Input → List Tagged → List Tagged
+followAll s t [] ns = ns
+followAll s t (i ∷ is) ns = followAll (outcome s t i .state) (outcome s t i .table) is (follow s t i ns)
 
-unfoldable pub stateAfterAll : Choice → List ℕ → List ℕ → List Input → List ℕ
-stateAfterAll choice s t [] = s
-stateAfterAll choice s t (i ∷ is) = stateAfterAll choice (outcome choice s t i .state) (outcome choice s t i .table) is
+unfoldable pub stateAfterAll : List ℕ → List ℕ → List Input → List ℕ
+stateAfterAll s t [] = s
+stateAfterAll s t (i ∷ is) = stateAfterAll (outcome s t i .state) (outcome s t i .table) is
 
-unfoldable pub tableAfterAll : Choice → List ℕ → List ℕ → List Input → List ℕ
-tableAfterAll choice s t [] = t
-tableAfterAll choice s t (i ∷ is) = tableAfterAll choice (outcome choice s t i .state) (outcome choice s t i .table) is
+unfoldable pub tableAfterAll : List ℕ → List ℕ → List Input → List ℕ
+tableAfterAll s t [] = t
+tableAfterAll s t (i ∷ is) = tableAfterAll (outcome s t i .state) (outcome s t i .table) is
 
 -- "A change keeps every node that it does not remove": from the root line on, only `(remove P)` takes nodes away;
 abbrev pub NodesKept : Type 0
 NodesKept =
-    (choice : Choice) (s t : List ℕ) → stageC ≤ stage s → (i : Input) (ns : List Tagged) → ((p : Part) → readForm (i .line) ≡ Remove p → ⊥)
-    → tags (λ n. n .1) (follow choice s t i ns) ≡ tags (λ n. n .1) ns
+    (s t : List ℕ) → stageC ≤ stage s → (i : Input) (ns : List Tagged) → ((p : Part) → readForm (i .line) ≡ Remove p → ⊥)
+    → tags (λ n. n .1) (follow s t i ns) ≡ tags (λ n. n .1) ns
 
 -- and it takes those that are done, and those below them (`goes`, views/specs/Nodes.antt), no others.
 abbrev pub NodesRemoved : Type 0
 NodesRemoved =
-    (choice : Choice) (s t : List ℕ) (i : Input) (ns : List Tagged) (p : Part) (text : List ℕ) → readForm (i .line) ≡ Remove p
-    → outcome choice s t i .reply ≡ says text
-    → follow choice s t i ns ≡ only (λ k. not (goes taggedLevel (doneIn change.Remove s t (bytesOf (i .line) p)) ns k)) ns
+    (s t : List ℕ) (i : Input) (ns : List Tagged) (p : Part) (text : List ℕ) → readForm (i .line) ≡ Remove p
+    → outcome s t i .reply ≡ says text
+    → follow s t i ns ≡ only (λ k. not (goes taggedLevel (doneIn change.Remove s t (bytesOf (i .line) p)) ns k)) ns
 
 -- The nodes that are followed are those of the table: nothing else decides which node is which.
 abbrev pub Follows : Type 0
 Follows =
-    (choice : Choice) (s t : List ℕ) (is : List Input) (ns : List Tagged)
-    → map (λ n. n .0) ns ≡ records t → map (λ n. n .0) (followAll choice s t is ns) ≡ records (tableAfterAll choice s t is)
+    (s t : List ℕ) (is : List Input) (ns : List Tagged)
+    → map (λ n. n .0) ns ≡ records t → map (λ n. n .0) (followAll s t is ns) ≡ records (tableAfterAll s t is)
 
 -- the nodes of a table with their numbers 0, 1, 2, .. as tags
 abbrev pub tagAll : ℕ → List (List ℕ) → List Tagged
@@ -105,26 +104,26 @@ knownOf ns = tags known ns
 -- all others came with the line.
 abbrev pub InsertedNew : Type 0
 InsertedNew =
-    (choice : Choice) (s t : List ℕ) (i : Input) (at : Place) (ms : List Bool) (m : ℕ) (tree : List ℕ) (g : ℕ)
-    → effectOf choice s t (i .line) ≡ insertion at ms m tree g
-    → knownOf (follow choice s t i (tagAll 0 (records t))) ≡ tagAll 0 (records t)
+    (s t : List ℕ) (i : Input) (at : Place) (ms : List Bool) (m : ℕ) (tree : List ℕ) (g : ℕ)
+    → effectOf s t (i .line) ≡ insertion at ms m tree g
+    → knownOf (follow s t i (tagAll 0 (records t))) ≡ tagAll 0 (records t)
 
 -- node k of the table after the lines was node i of the table before them
-abbrev pub Was : Choice → List ℕ → List ℕ → List Input → ℕ → ℕ → Type 0
-Was choice s t is k i = tagAt (followAll choice s t is (tagAll 0 (records t))) k ≡ some i
+abbrev pub Was : List ℕ → List ℕ → List Input → ℕ → ℕ → Type 0
+Was s t is k i = tagAt (followAll s t is (tagAll 0 (records t))) k ≡ some i
 
 -- A point of a list, and a later one: `before` leads to the first, `between` from there to the second.
 
 -- "A removed node never comes back, whatever uses its record": a node of the start that stands at the later point stands at the earlier one too.
 abbrev pub NoneBack : Type 0
 NoneBack =
-    (choice : Choice) (s t : List ℕ) (before between : List Input) (k i : ℕ) → Was choice s t (before ++ between) k i
-    → (j : ℕ) × Was choice s t before j i × Was choice (stateAfterAll choice s t before) (tableAfterAll choice s t before) between k j
+    (s t : List ℕ) (before between : List Input) (k i : ℕ) → Was s t (before ++ between) k i
+    → (j : ℕ) × Was s t before j i × Was (stateAfterAll s t before) (tableAfterAll s t before) between k j
 
 -- "kept nodes keep their order", and no two nodes of the last table were one node of the first. NodesKept and NodesRemoved say it of one line.
 abbrev pub OrderKept : Type 0
 OrderKept =
-    (choice : Choice) (s t : List ℕ) (is : List Input) (k k' i i' : ℕ) → Was choice s t is k i → Was choice s t is k' i' → k < k' → i < i'
+    (s t : List ℕ) (is : List Input) (k k' i i' : ℕ) → Was s t is k i → Was s t is k' i' → k < k' → i < i'
 
 -- the rights of subject u on node k
 abbrev pub rightsAt : List ℕ → List ℕ → ℕ → ℕ → ℕ
@@ -135,7 +134,7 @@ rightsAt s t u k = getD (rightsOn (policyIn s) u (records t)) k 0
 -- rights that it had on it then.
 abbrev pub SameRights : Type 0
 SameRights =
-    (choice : Choice) (s t : List ℕ) → stageC ≤ stage s → (before between : List Input) (u : ℕ) → u < length (policyIn s .names) → (k i : ℕ)
-    → Was choice (stateAfterAll choice s t before) (tableAfterAll choice s t before) between k i
-    → rightsAt (stateAfterAll choice s t (before ++ between)) (tableAfterAll choice s t (before ++ between)) u k
-    ≡ rightsAt (stateAfterAll choice s t before) (tableAfterAll choice s t before) u i
+    (s t : List ℕ) → stageC ≤ stage s → (before between : List Input) (u : ℕ) → u < length (policyIn s .names) → (k i : ℕ)
+    → Was (stateAfterAll s t before) (tableAfterAll s t before) between k i
+    → rightsAt (stateAfterAll s t (before ++ between)) (tableAfterAll s t (before ++ between)) u k
+    ≡ rightsAt (stateAfterAll s t before) (tableAfterAll s t before) u i

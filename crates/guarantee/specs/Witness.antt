@@ -11,7 +11,6 @@ use Rattle.rights.specs.Bytes.{bytes}
 use Rattle.rights.specs.Policy.{bitOf, position, read}
 use Rattle.rights.specs.Rights.{rightsOn}
 use Rattle.rights.specs.Table.{records}
-use Rattle.answers.specs.AnswerChoice.{Choice}
 use Rattle.lines.specs.State.{policyIn}
 use Rattle.lines.specs.Effect.{Effect, renaming, recordsAfter}
 use Rattle.lines.specs.Outcome.{says}
@@ -38,41 +37,39 @@ policyLines =
 abbrev pub school : String → List Input
 school inner = policyLines ++ (typed (bytes "(root school)") ∷ typed (bytes "(child (" ++ (bytes inner ++ bytes "))")) ∷ typed (bytes "(user SHA)") ∷ [])
 
-abbrev pub stateWith : Choice → String → List ℕ
-stateWith choice inner = stateAfterAll choice newState (newTable 10) (school inner)
+abbrev pub stateWith : String → List ℕ
+stateWith inner = stateAfterAll newState (newTable 10) (school inner)
 
-abbrev pub tableWith : Choice → String → List ℕ
-tableWith choice inner = tableAfterAll choice newState (newTable 10) (school inner)
+abbrev pub tableWith : String → List ℕ
+tableWith inner = tableAfterAll newState (newTable 10) (school inner)
 
 -- The suppositions are met by stores that differ: SHA is not told `ill` from `cold`.
 abbrev pub Hidden : Type 0
 Hidden =
-    (choice : Choice)
-    → Alike 0 (stateWith choice "ill") (tableWith choice "ill") (stateWith choice "cold") (tableWith choice "cold")
-    × (tableWith choice "ill" ≡ tableWith choice "cold" → ⊥)
+    Alike 0 (stateWith "ill") (tableWith "ill") (stateWith "cold") (tableWith "cold")
+    × (tableWith "ill" ≡ tableWith "cold" → ⊥)
 
 -- Two schools that look the same to SHA, under the same policy, and are not alike; and a line that tells them apart
-pub record ToldApart (choice : Choice) (one other line answer answer' : String) : Type 0 where
-  pub start : Start (stateWith choice one) (tableWith choice one) (stateWith choice other) (tableWith choice other)
-  pub looks : look 0 (stateWith choice one) (tableWith choice one) ≡ look 0 (stateWith choice other) (tableWith choice other)
-  pub unlike : Alike 0 (stateWith choice one) (tableWith choice one) (stateWith choice other) (tableWith choice other) → ⊥
-  pub user : UserIs 0 (stateWith choice one)
-  pub user' : UserIs 0 (stateWith choice other)
-  pub says-one : outcome choice (stateWith choice one) (tableWith choice one) (typed (bytes line)) .reply ≡ says (bytes answer)
-  pub says-other : outcome choice (stateWith choice other) (tableWith choice other) (typed (bytes line)) .reply ≡ says (bytes answer')
+pub record ToldApart (one other line answer answer' : String) : Type 0 where
+  pub start : Start (stateWith one) (tableWith one) (stateWith other) (tableWith other)
+  pub looks : look 0 (stateWith one) (tableWith one) ≡ look 0 (stateWith other) (tableWith other)
+  pub unlike : Alike 0 (stateWith one) (tableWith one) (stateWith other) (tableWith other) → ⊥
+  pub user : UserIs 0 (stateWith one)
+  pub user' : UserIs 0 (stateWith other)
+  pub says-one : outcome (stateWith one) (tableWith one) (typed (bytes line)) .reply ≡ says (bytes answer)
+  pub says-other : outcome (stateWith other) (tableWith other) (typed (bytes line)) .reply ≡ says (bytes answer')
 
 -- The second supposition is needed: of a word in a rule's path, and of a name where a rule uses `$`.
 abbrev pub SecondNeeded : Type 0
 SecondNeeded =
-    (choice : Choice)
-    → ToldApart choice "ill" "flu" "(remove /*/*)" "(done 1 0)\n" "(done 1 1)\n"
-    × ToldApart choice "ill" "SHA" "(remove /*/*)" "(done 1 0)\n" "(done 1 1)\n"
+    ToldApart "ill" "flu" "(remove /*/*)" "(done 1 0)\n" "(done 1 1)\n"
+    × ToldApart "ill" "SHA" "(remove /*/*)" "(done 1 0)\n" "(done 1 1)\n"
 
 -- "Allowing a rename into a policy word: hidden children may become readable": were the root renamed to `note`, node 1, which is kept, would become readable.
-pub record Readable (choice : Choice) (renamed : Effect) : Type 0 where
-  pub kept : tagAt (afterEffect renamed (tagAll 0 (records (tableWith choice "ill")))) 1 ≡ some 1
-  pub had : rightsAt (stateWith choice "ill") (tableWith choice "ill") 0 1 ≡ bitOf position
-  pub has : getD (rightsOn (policyIn (stateWith choice "ill")) 0 (recordsAfter renamed (records (tableWith choice "ill")))) 1 0 ≡ bitOf position + bitOf read
+pub record Readable (renamed : Effect) : Type 0 where
+  pub kept : tagAt (afterEffect renamed (tagAll 0 (records (tableWith "ill")))) 1 ≡ some 1
+  pub had : rightsAt (stateWith "ill") (tableWith "ill") 0 1 ≡ bitOf position
+  pub has : getD (rightsOn (policyIn (stateWith "ill")) 0 (recordsAfter renamed (records (tableWith "ill")))) 1 0 ≡ bitOf position + bitOf read
 
 abbrev pub WordsNeeded : Type 0
-WordsNeeded = (choice : Choice) → Readable choice (renaming (bytes "note") (true ∷ []))
+WordsNeeded = Readable (renaming (bytes "note") (true ∷ []))

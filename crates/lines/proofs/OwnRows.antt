@@ -16,7 +16,6 @@ use Rattle.views.specs.declared.insert.Place.the-variants as place
 use Rattle.forms.specs.TreeText.{GoodTree}
 use Rattle.forms.specs.Command.{Command, GoodCommand}
 use Rattle.forms.specs.Command as command
-use Rattle.answers.specs.AnswerChoice.{Choice}
 use Rattle.lines.specs.Refusal.{Check}
 use Rattle.lines.specs.State.{stageC, userByte, policyBytes, policyIn, storeOk}
 use Rattle.lines.specs.Work.{onView, workInsert}
@@ -33,7 +32,7 @@ same = (λ x. x, λ x. x)
 or-told : (a b : Bool) → ((a ≡ true) ⊎ (b ≡ true)) ↔ (a || b ≡ true)
 or-told a b = (⊎-elim (or-left a b) (or-right a b), λ e. or-split a b e inl inr)
 
-module _ (choice : Choice) (s t : List ℕ) (L : Conditions) (ls : List Check) where
+module _ (s t : List ℕ) (L : Conditions) (ls : List Check) where
   path-tells : (p : List ℕ) → Tells L ls → Tells (pathRows s t p ++ L) (onView p s ++ ls)
   path-tells p w = (path-told p, λ _. (equal-told (userByte s) 0, λ _. w))
 
@@ -42,7 +41,7 @@ module _ (choice : Choice) (s t : List ℕ) (L : Conditions) (ls : List Check) w
       (path-told p, λ _. (equal-told (userByte s) 0, λ _. (tree-told u g, λ _. (place-told s t u g at p, λ _. (places-room-told s t u g at p, λ _. w)))))
 
   -- the own checks of each form beside its own rows
-  pub own-tells : (c : Command) → GoodCommand c → storeOk s t ≡ true → (stageC < stageFor c → 1 ≤ count t) → Tells L ls → Tells (rows s t c ++ L) (clause choice c s t .checks ++ ls)
+  pub own-tells : (c : Command) → GoodCommand c → storeOk s t ≡ true → (stageC < stageFor c → 1 ≤ count t) → Tells L ls → Tells (rows s t c ++ L) (clause c s t .checks ++ ls)
   unfolding GoodCommand
   own-tells (command.subject n) g ok h w = (declared-told (policyIn s) n, λ _. (subjects-told (policyBytes s), λ _. (same, λ _. w)))
   own-tells (command.isa n r) g ok h w =

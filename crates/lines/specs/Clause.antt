@@ -11,7 +11,6 @@ use Rattle.views.specs.declared.insert.Place.the-variants as place
 use Rattle.forms.specs.Tree.{recordsOf}
 use Rattle.forms.specs.Command.{Command}
 use Rattle.forms.specs.Command as command
-use Rattle.answers.specs.AnswerChoice.{Choice}
 use Rattle.lines.specs.State.{stageA, stageB, stageC, stageD, stageE}
 use Rattle.lines.specs.Effect.{Work}
 use Rattle.lines.specs.Work.{workSubject, workIsa, workRule, workRoot, workChild, workUser, workView, workAsk, workRename, workInsert, workRemove}
@@ -39,20 +38,20 @@ stageFor (command.remove p) = stageE
 abbrev pub treeBytes : Tree → List ℕ
 treeBytes u = recordsOf (nodesOf 0 u)
 
--- the form's own checks, its answer and its effect on the state s and the table t, at a choice of `find`
-abbrev pub clause : Choice → Command → List ℕ → List ℕ → Work
-clause choice (command.subject n) s t = workSubject s n
-clause choice (command.isa n r) s t = workIsa s n r
-clause choice (command.rule a r p n) s t = workRule s (bit a) (bitOf r) p n
-clause choice (command.root l) s t = workRoot t l
-clause choice (command.child u) s t = workChild t (sizeOf u) (treeBytes u)
-clause choice (command.user n) s t = workUser s n
-clause choice command.view s t = workView s t
-clause choice (command.query p) s t = workAsk choice ask.Query s t p
-clause choice (command.find p) s t = workAsk choice ask.Find s t p
-clause choice (command.rename p l) s t = workRename change.Rename s t p l
-clause choice (command.update p l) s t = workRename change.Update s t p l
-clause choice (command.append p u) s t = workInsert place.Append s t p (sizeOf u) (treeBytes u)
-clause choice (command.before p u) s t = workInsert place.Before s t p (sizeOf u) (treeBytes u)
-clause choice (command.after p u) s t = workInsert place.After s t p (sizeOf u) (treeBytes u)
-clause choice (command.remove p) s t = workRemove s t p
+-- the form's own checks, its answer and its effect on the state s and the table t
+abbrev pub clause : Command → List ℕ → List ℕ → Work
+clause (command.subject n) s t = workSubject s n
+clause (command.isa n r) s t = workIsa s n r
+clause (command.rule a r p n) s t = workRule s (bit a) (bitOf r) p n
+clause (command.root l) s t = workRoot t l
+clause (command.child u) s t = workChild t (sizeOf u) (treeBytes u)
+clause (command.user n) s t = workUser s n
+clause command.view s t = workView s t
+clause (command.query p) s t = workAsk ask.Query s t p
+clause (command.find p) s t = workAsk ask.Find s t p
+clause (command.rename p l) s t = workRename change.Rename s t p l
+clause (command.update p l) s t = workRename change.Update s t p l
+clause (command.append p u) s t = workInsert place.Append s t p (sizeOf u) (treeBytes u)
+clause (command.before p u) s t = workInsert place.Before s t p (sizeOf u) (treeBytes u)
+clause (command.after p u) s t = workInsert place.After s t p (sizeOf u) (treeBytes u)
+clause (command.remove p) s t = workRemove s t p

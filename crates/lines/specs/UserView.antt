@@ -1,8 +1,10 @@
 -- What a session's user has and sees, and what a path selects there (document 01, "View", "Paths", "Changes").
-use Prim.Native.Nat.{ℕ}
+use Prim.Native.Nat.{ℕ, _<_}
+use mathlib.Core.Path.{_≡_}
 use mathlib.Core.Bool.{Bool, true, false}
 use mathlib.Core.List.{List}
 use lib.Dec.{eqb}
+use lib.ListN.{length, getD}
 use Rattle.rights.specs.Path.{Path}
 use Rattle.rights.specs.PathReader.{Got, got, bad}
 use Rattle.rights.specs.Nodes.{Nodes}
@@ -38,6 +40,16 @@ notPath bad = true
 -- "Paths of E run on the view": the marks of what a path selects there, `$` being the login name
 abbrev pub marksIn : List ℕ → List ℕ → List ℕ → List Bool
 marksIn s t path = xpathSelection path (passesOwn (policyIn s) (userOf s)) (viewIn s t)
+
+-- "the first selected node in document order" (document 02, card 1): the path selects node k of the view, and none before it
+pub record FirstSelected (s t path : List ℕ) (k : ℕ) : Type 0 where
+  pub shown : k < length (viewIn s t)
+  pub selected : getD (marksIn s t path) k false ≡ true
+  pub none-before : (j : ℕ) → j < k → getD (marksIn s t path) j false ≡ false
+
+-- "nothing is selected"
+abbrev pub NoneSelected : List ℕ → List ℕ → List ℕ → Type 0
+NoneSelected s t path = (j : ℕ) → getD (marksIn s t path) j false ≡ false
 
 -- The records that a path selects, a mark for each record, and those of them that a change does: "All selections and rights are taken before anything changes."
 abbrev pub selectedIn : List ℕ → List ℕ → List ℕ → List Bool

@@ -16,8 +16,7 @@ use Rattle.views.specs.declared.done.Change.{Change}
 use Rattle.views.specs.declared.done.Change.the-variants as change
 use Rattle.views.specs.declared.insert.Place.{Place}
 use Rattle.views.specs.declared.insert.Place.the-variants.{Append, After, Before}
-use Rattle.answers.specs.Answer.{okText, doneText, queryText, viewText}
-use Rattle.answers.specs.AnswerChoice.{Choice, findText}
+use Rattle.answers.specs.Answer.{okText, doneText, queryText, findText, viewText}
 use Rattle.lines.specs.Effect.{Work, guarded, policy, root, insertion, renaming, removal, login, reading}
 use Rattle.lines.specs.PolicyEdit.{isUnknown, numberIn, subjectNamed, isaHeld, hasBracket, pathRestricted, stepsIn, withSubject, withIsa, withRule}
 use Rattle.lines.specs.Refusal.{Check, check, badPath, badName, ruleBracket, policyFull, noUserYet, bannedLabel, levelTooDeep, tableFull}
@@ -143,14 +142,14 @@ workView s t = record { checks = viewChecks s; text = viewText (viewIn s t); eff
 abbrev pub onView : List ℕ → List ℕ → List Check
 onView path s = check badPath (notPath (pathOf path)) ∷ viewChecks s
 
--- `(query P)` and `(find P)`: the answers to what a path selects, from its marks and the view
-abbrev pub answerTo : Choice → Ask → List Bool → Nodes → List ℕ
-answerTo choice Query marks nodes = queryText (keep marks nodes)
-answerTo choice Find marks nodes = findText (choice marks nodes)
+-- `(query P)` and `(find P)`: the hits are the nodes of the view that the path selects, in document order
+abbrev pub answerTo : Ask → Nodes → List ℕ
+answerTo Query hits = queryText hits
+answerTo Find hits = findText hits
 
-abbrev pub workAsk : Choice → Ask → List ℕ → List ℕ → List ℕ → Work
-workAsk choice ask s t path =
-    record { checks = onView path s; text = answerTo choice ask (marksIn s t path) (viewIn s t); effect = reading }
+abbrev pub workAsk : Ask → List ℕ → List ℕ → List ℕ → Work
+workAsk ask s t path =
+    record { checks = onView path s; text = answerTo ask (keep (marksIn s t path) (viewIn s t)); effect = reading }
 
 -- "The answer is `(done S D)`: S nodes selected, each counted once, D done"
 abbrev pub countText : Change → List ℕ → List ℕ → List ℕ → List ℕ

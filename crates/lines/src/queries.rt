@@ -24,12 +24,11 @@ ghost use mathlib.Core.List.{_++_};
 ghost use Prim.Native.Nat.{_≤_};
 ghost use lib.ListN.{length, drop};
 ghost use Rattle.rights.specs.Limits.{recordsMax};
-ghost use Rattle.rights.specs.Marks.{marksOf};
+ghost use Rattle.rights.specs.Marks.{marksOf, keep};
 ghost use Rattle.rights.specs.How.Roles.{OwnFirst};
 ghost use Rattle.rights.specs.How.Numbers.{Fits, viewOf};
 ghost use Rattle.views.specs.How.Numbers.{shownNumbers};
 ghost use Rattle.answers.specs.How.AnswerArea.{Answered};
-ghost use Rattle.answers.specs.AnswerChoice.{chosen};
 ghost use Rattle.lines.specs.How.ChangeRoom.{AskedHeld, Chosen, ForView};
 ghost use Rattle.lines.specs.Effect.{Performs};
 ghost use Rattle.lines.specs.Refusal.{Passed, firstRefusal};
@@ -160,7 +159,7 @@ pub(crate) fn select_user(
 // Answers what is asked of the marked ones of the shown nodes.
 fn answer_ask(ask: Ask, table: &[u8], shown: &[u16], marks: &[u8], area: &mut [u8]) -> usize
     requires { ⌜ (Fits (now table) (now shown)) × (length (now shown) ≤ length (now marks)) ⌝ }
-    ensures { λ r. ⌜ Answered (answerTo chosen ask (marksOf (now (marks .entry))) (viewOf (now (table .entry)) (now (shown .entry))))
+    ensures { λ r. ⌜ Answered (answerTo ask (keep (marksOf (now (marks .entry))) (viewOf (now (table .entry)) (now (shown .entry)))))
         (now (area .entry)) (now (area .exit)) r ⌝ }
 {
     match ask {
@@ -172,7 +171,7 @@ fn answer_ask(ask: Ask, table: &[u8], shown: &[u16], marks: &[u8], area: &mut [u
 // `(query P)` and `(find P)`.
 pub fn ask_path(what: Ask, state: &[u8], table: &[u8], path: &[u8], area: &mut [u8]) -> Answer
     requires { ⌜ storeOk (now state) (now table) ≡ true ⌝ }
-    ensures { λ r. ⌜ Performs (workAsk chosen what (now (state .entry)) (now (table .entry)) (now (path .entry)))
+    ensures { λ r. ⌜ Performs (workAsk what (now (state .entry)) (now (table .entry)) (now (path .entry)))
         (now (state .entry)) (now (table .entry)) (now (area .entry)) r (now (state .entry)) (now (table .entry)) (now (area .exit)) ⌝ }
 {
     let down = path_refusal(state, path);

@@ -4,7 +4,6 @@ use lines::line::Answer;
 ghost use mathlib.Core.Path.{_≡_};
 ghost use lib.IntN.{pos, negℤ};
 ghost use lib.ListN.{length};
-ghost use Rattle.answers.specs.AnswerChoice.{chosen};
 ghost use Rattle.store.specs.Line.{step};
 ghost use Rattle.louvretansy.specs.Library.{stateBytes, Returned};
 
@@ -23,7 +22,7 @@ pub extern "C" fn timetable_line(
     line: &[u8],
     area: &mut [u8],
 ) -> i64
-    ensures { λ r. ⌜ Returned (step chosen (now (state .entry)) (now (table .entry)) (now (line .entry)) (length (now (area .entry))))
+    ensures { λ r. ⌜ Returned (step (now (state .entry)) (now (table .entry)) (now (line .entry)) (length (now (area .entry))))
         (now (area .entry)) r (now (state .exit)) (now (table .exit)) (now (area .exit)) ⌝ }
 {
     let answer = store::line::line(state, table, line, area);

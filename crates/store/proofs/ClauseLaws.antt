@@ -6,7 +6,7 @@ use mathlib.Core.List.{List, [], _∷_}
 use lib.ListN.{length}
 use Rattle.rights.specs.Isa.{passesOwn}
 use Rattle.rights.specs.Marks.{eachFrom}
-use Rattle.rights.specs.Nodes.{Nodes}
+use Rattle.rights.specs.Nodes.{Nodes, node, levelAt, labelAt}
 use Rattle.rights.specs.Path.{Path}
 use Rattle.rights.specs.PathText.{write, Within}
 use Rattle.rights.specs.XPath.{has, nodeSet, document, xpathSelected}
@@ -20,9 +20,10 @@ use Rattle.forms.specs.Form.{readForm, treeIn}
 use Rattle.forms.specs.Command.{Command, written, GoodCommand}
 use Rattle.forms.specs.Command as command
 use Rattle.forms.proofs.CommandLaws.{FormSays, written-read, none-written}
-use Rattle.answers.specs.AnswerChoice.{Choice}
+use Rattle.answers.specs.Answer.{noneLine, hitLine}
+use Rattle.answers.proofs.FindLaws.{first-found, none-found}
 use Rattle.lines.specs.State.{stage, storeOk, policyIn, userOf}
-use Rattle.lines.specs.UserView.{viewIn, marksIn}
+use Rattle.lines.specs.UserView.{viewIn, marksIn, FirstSelected, NoneSelected}
 use Rattle.lines.specs.Outcome.{Outcome, refusal}
 use Rattle.lines.specs.Refusal.{Check, check, badStore, badLine, noForm, wrongStage, checked}
 use Rattle.lines.specs.Effect.{guarded, performed}
@@ -31,7 +32,7 @@ use Rattle.store.specs.Line.{inStage, lineChecks, workOf, step}
 use Rattle.lines.specs.Clause.{stageFor, sizeOf, clause}
 use Rattle.store.specs.Refusals.{frontChecks}
 
-module _ (choice : Choice) (s t : List ℕ) (room : ℕ) where
+module _ (s t : List ℕ) (room : ℕ) where
   -- a form that says a command has the command's stage and the command's clause
   module _ (line : List ℕ) where
     abbrev front : Command → List Check
@@ -42,10 +43,10 @@ module _ (choice : Choice) (s t : List ℕ) (room : ℕ) where
         ∷ []
 
     abbrev byForm : Form → Outcome
-    byForm f = performed (guarded (lineChecks s t line f) (workOf choice f s t line (recordsOf (treeIn line)))) room s t
+    byForm f = performed (guarded (lineChecks s t line f) (workOf f s t line (recordsOf (treeIn line)))) room s t
 
     abbrev byClause : Command → Outcome
-    byClause c = performed (guarded (front c) (clause choice c s t)) room s t
+    byClause c = performed (guarded (front c) (clause c s t)) room s t
 
     clause-said : (c : Command) (f : Form) → FormSays line c f → byForm f ≡ byClause c
     unfolding performed checked
@@ -70,13 +71,13 @@ module _ (choice : Choice) (s t : List ℕ) (room : ℕ) where
     clause-said (command.remove p) f (x, e, q) = ap byForm e ∙ ap (λ p. byClause (command.remove p)) q
 
   -- A line that writes a command does what the command's clause says on its values.
-  pub step-written : (c : Command) → GoodCommand c → step choice s t (written c) room ≡ performed (guarded (frontChecks c s t) (clause choice c s t)) room s t
+  pub step-written : (c : Command) → GoodCommand c → step s t (written c) room ≡ performed (guarded (frontChecks c s t) (clause c s t)) room s t
   unfolding step
   step-written c g = clause-said (written c) c (readForm (written c)) (written-read c g)
 
   -- Every other line is refused: 13 first, 1 if it is too long or has a byte outside 32 to 126, else 2.
   pub step-unwritten : (line : List ℕ) → ((c : Command) → GoodCommand c → line ≡ written c → ⊥)
-      → step choice s t line room ≡ refusal (cond (storeOk s t) (cond (lineOk line) noForm badLine) badStore) s t
+      → step s t line room ≡ refusal (cond (storeOk s t) (cond (lineOk line) noForm badLine) badStore) s t
   unfolding step performed checked
   step-unwritten line h =
       ap (byForm line) (none-written line .1 h)
@@ -90,3 +91,10 @@ path-selected p mine ns i w = rw (complete p w)
 pub written-marks : (s t : List ℕ) (p : Path) → Within p
     → marksIn s t (write p) ≡ eachFrom (λ i. has i (nodeSet p (passesOwn (policyIn s) (userOf s)) (viewIn s t) document)) 0 (length (viewIn s t))
 written-marks s t p w = ap (λ f. eachFrom f 0 (length (viewIn s t))) (fun-ext (λ i. path-selected p (passesOwn (policyIn s) (userOf s)) (viewIn s t) i w))
+
+-- `(find P)`: the answer, and so what 12 measures, is the line of the first selected node alone; `(none)` if nothing is selected.
+pub find-clause : (s t path : List ℕ) (k : ℕ) → FirstSelected s t path k → clause (command.find path) s t .text ≡ hitLine (node (levelAt (viewIn s t) k) (labelAt (viewIn s t) k))
+find-clause s t path k f = first-found (marksIn s t path) (viewIn s t) k (f .shown) (f .selected) (f .none-before)
+
+pub find-clause-none : (s t path : List ℕ) → NoneSelected s t path → clause (command.find path) s t .text ≡ noneLine
+find-clause-none s t path none = none-found (marksIn s t path) (viewIn s t) none

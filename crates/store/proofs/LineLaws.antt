@@ -23,7 +23,6 @@ use Rattle.forms.specs.TreeText.{GoodTree, GoodTrees, GoodLabel}
 use Rattle.forms.specs.Form.{readForm, treeIn}
 use Rattle.forms.specs.How.Reader.{areaIn}
 use Rattle.forms.proofs.PlaceLaws.{area-form}
-use Rattle.answers.specs.AnswerChoice.{Choice}
 use Rattle.lines.specs.State.{stage, storeOk}
 use Rattle.lines.specs.Outcome.{refusal, Made}
 use Rattle.lines.specs.Refusal.{Passed, firstRefusal}
@@ -175,18 +174,18 @@ refused = record { answer = refl; state = refl; table = refl; area = refl }
 
 -- The whole line
 
-module _ (choice : Choice) (s t line : List ℕ) where
+module _ (s t line : List ℕ) where
   abbrev form : Form
   form = readForm line
 
   abbrev ownWork : Work
-  ownWork = workOf choice form s t line (recordsOf (treeIn line))
+  ownWork = workOf form s t line (recordsOf (treeIn line))
 
   abbrev whole : Work
   whole = guarded (lineChecks s t line form) ownWork
 
   -- refused before it is read
-  pub text-refused : {d : ℕ} {area : List ℕ} → d ≡ firstRefusal (textChecks s t line) → (d ≡ 0 → ⊥) → Made (step choice s t line (length area)) area (Refused d) s t area
+  pub text-refused : {d : ℕ} {area : List ℕ} → d ≡ firstRefusal (textChecks s t line) → (d ≡ 0 → ⊥) → Made (step s t line (length area)) area (Refused d) s t area
   unfolding step
   text-refused {d} e h = performs-refused whole s t (first-front (textChecks s t line) (formChecks form (stage s) ++ ownWork .checks) d e h) h
 
@@ -198,7 +197,7 @@ module _ (choice : Choice) (s t line : List ℕ) where
     read : g ≡ firstRefusal (formChecks form (stage s))
     read = k ∙ ap (λ f. firstRefusal (formChecks f (stage s))) q
 
-    pub form-refused : {area : List ℕ} → (g ≡ 0 → ⊥) → Made (step choice s t line (length area)) area (Refused g) s t area
+    pub form-refused : {area : List ℕ} → (g ≡ 0 → ⊥) → Made (step s t line (length area)) area (Refused g) s t area
     unfolding step
     form-refused h =
         performs-refused whole s t
@@ -207,11 +206,11 @@ module _ (choice : Choice) (s t line : List ℕ) where
         h
 
     -- taken to the form's own work
-    pub line-run : {area s' t' area' : List ℕ} {r : Answer} → g ≡ 0 → Performs (workOf choice f s t line (recordsOf (treeIn line))) s t area r s' t' area'
-        → Made (step choice s t line (length area)) area r s' t' area'
+    pub line-run : {area s' t' area' : List ℕ} {r : Answer} → g ≡ 0 → Performs (workOf f s t line (recordsOf (treeIn line))) s t area r s' t' area'
+        → Made (step s t line (length area)) area r s' t' area'
     unfolding step
     line-run {area} {s'} {t'} {area'} {r} w m =
         made-at
         (performed-guarded (lineChecks s t line form) ownWork (length area) s t
         (passed-append (textChecks s t line) (formChecks form (stage s)) passed-text (passed (formChecks form (stage s)) g refl read w)))
-        (subst (λ f. Performs (workOf choice f s t line (recordsOf (treeIn line))) s t area r s' t' area') q m)
+        (subst (λ f. Performs (workOf f s t line (recordsOf (treeIn line))) s t area r s' t' area') q m)

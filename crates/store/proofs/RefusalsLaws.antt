@@ -16,7 +16,6 @@ use Rattle.forms.specs.Text.{lineByte, lineOk}
 use Rattle.forms.specs.Command.{Command, written, GoodCommand}
 use Rattle.forms.specs.Command as command
 use Rattle.forms.proofs.CommandLaws.{command-or-none, none-written}
-use Rattle.answers.specs.AnswerChoice.{Choice}
 use Rattle.lines.specs.Effect.{guarded, checksIn, performed}
 use Rattle.lines.specs.Outcome.{says, refuses, Outcome}
 use Rattle.lines.specs.Refusal.{Check, check, areaCheck, badStore, badLine, noForm, checked, indexIn, rising, Ordered}
@@ -104,13 +103,13 @@ store-told s t lent = (
   λ e session nodes k. clash (allowed-store s t session nodes k .0) (not-true (storeOk s t) e),
 )
 
-module _ (choice : Choice) (s t : List ℕ) (lent : (i : ℕ) → getD t i 0 < 256) (room : ℕ) where
+module _ (s t : List ℕ) (lent : (i : ℕ) → getD t i 0 < 256) (room : ℕ) where
   abbrev pub checksFor : Command → List Check
-  checksFor c = checksIn room (guarded (frontChecks c s t) (clause choice c s t))
+  checksFor c = checksIn room (guarded (frontChecks c s t) (clause c s t))
 
   -- the checks of each form stand in the paper's order, each with the number of its row
   pub record InOrder (c : Command) : Type 0 where
-    pub numbers : (line : List ℕ) (g : GoodCommand c) (e : line ≡ written c) → numbered (refusals choice s t room (table.says c g e)) (checksFor c) ≡ true
+    pub numbers : (line : List ℕ) (g : GoodCommand c) (e : line ≡ written c) → numbered (refusals s t room (table.says c g e)) (checksFor c) ≡ true
     pub ordered : Ordered (checksFor c)
 
   pub checks-ordered : (c : Command) → InOrder c
@@ -137,20 +136,20 @@ module _ (choice : Choice) (s t : List ℕ) (lent : (i : ℕ) → getD t i 0 < 2
     answer : Outcome
     text : List ℕ
     said : answer .reply ≡ says text
-    is : step choice s t line room ≡ checked checks s t answer
-    numbers : numbered (refusals choice s t room w) checks ≡ true
+    is : step s t line room ≡ checked checks s t answer
+    numbers : numbered (refusals s t room w) checks ≡ true
     ordered : Ordered checks
-    tells : Tells (refusals choice s t room w) checks
+    tells : Tells (refusals s t room w) checks
 
   told : {line : List ℕ} (w : Says line) → Told w
   unfolding performed checked rising indexIn
   told {line} (table.says c g e) =
-      let z = ap (λ l. step choice s t l room) e ∙ step-written choice s t room c g in
+      let z = ap (λ l. step s t l room) e ∙ step-written s t room c g in
       let x : BadLine line ↔ (not (lineOk (written c)) ≡ true) = rw e (line-told (written c)) in
       record {
         checks = checksFor c;
         answer = _;
-        text = clause choice c s t .text;
+        text = clause c s t .text;
         said = refl;
         is = z;
         numbers = checks-ordered c .numbers line g e;
@@ -162,8 +161,8 @@ module _ (choice : Choice) (s t : List ℕ) (lent : (i : ℕ) → getD t i 0 < 2
             λ _. (
               stage-told (stageFor c) (stage s),
               λ b.
-                  let n = length (clause choice c s t .text) in
-                  own-tells choice s t ((12, room < n) ∷ []) (areaCheck room n ∷ []) c g (not-false (storeOk s t) a) (λ l. root-there s t (stageFor c) (not-false (storeOk s t) a) l (not-false (inStage (stageFor c) (stage s)) b)) (less-told room n, λ _. tt),
+                  let n = length (clause c s t .text) in
+                  own-tells s t ((12, room < n) ∷ []) (areaCheck room n ∷ []) c g (not-false (storeOk s t) a) (λ l. root-there s t (stageFor c) (not-false (storeOk s t) a) l (not-false (inStage (stageFor c) (stage s)) b)) (less-told room n, λ _. tt),
             ),
           ),
         );
@@ -174,21 +173,21 @@ module _ (choice : Choice) (s t : List ℕ) (lent : (i : ℕ) → getD t i 0 < 2
         answer = record { reply = says []; state = s; table = t };
         text = [];
         said = refl;
-        is = step-unwritten choice s t room line h ∙ byCase (storeOk s t) (λ a. byCase (lineOk line) (λ b. rw (a, b)) (λ b. rw (a, b))) (λ a. rw a);
+        is = step-unwritten s t room line h ∙ byCase (storeOk s t) (λ a. byCase (lineOk line) (λ b. rw (a, b)) (λ b. rw (a, b))) (λ a. rw a);
         numbers = refl;
         ordered = refl;
         tells = (store-told s t lent, λ _. (line-told line, λ _. ((λ _. refl, λ _. tt), λ e. clash {b = true} refl e)));
       }
 
   -- Refused with n exactly if n's condition holds and that of no number before it does
-  pub refused-exactly : {line : List ℕ} (w : Says line) (n : ℕ) → (step choice s t line room .reply ≡ refuses n) ↔ First n (refusals choice s t room w)
+  pub refused-exactly : {line : List ℕ} (w : Says line) (n : ℕ) → (step s t line room .reply ≡ refuses n) ↔ First n (refusals s t room w)
   refused-exactly w n =
       let x = told w in
-      rw (x .is) (first-exactly s t (x .answer) (x .said) (refusals choice s t room w) (x .checks) n (x .numbers) (x .tells) (x .ordered))
+      rw (x .is) (first-exactly s t (x .answer) (x .said) (refusals s t room w) (x .checks) n (x .numbers) (x .tells) (x .ordered))
 
   -- Accepted exactly if no condition holds
-  pub accepted-exactly : {line : List ℕ} (w : Says line) → ((text : List ℕ) × (step choice s t line room .reply ≡ says text)) ↔ ((n : ℕ) → Holds n (refusals choice s t room w) → ⊥)
-  accepted-exactly w = let x = told w in rw (x .is) (none-exactly s t (x .answer) (x .said) (refusals choice s t room w) (x .checks) (x .tells))
+  pub accepted-exactly : {line : List ℕ} (w : Says line) → ((text : List ℕ) × (step s t line room .reply ≡ says text)) ↔ ((n : ℕ) → Holds n (refusals s t room w) → ⊥)
+  accepted-exactly w = let x = told w in rw (x .is) (none-exactly s t (x .answer) (x .said) (refusals s t room w) (x .checks) (x .tells))
 
 -- Every line writes a command or says nothing.
 pub line-says : (line : List ℕ) → Says line

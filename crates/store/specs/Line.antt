@@ -11,7 +11,6 @@ use Rattle.forms.specs.Text.{lineOk}
 use Rattle.forms.specs.Tree.{recordsOf}
 use Rattle.forms.specs.Form.{readForm, treeIn}
 pub use Rattle.forms.specs.Form.{bytesOf}
-use Rattle.answers.specs.AnswerChoice.{Choice}
 use Rattle.lines.specs.State.{stageA, stageB, stageC, stageD, stageE, stage, storeOk}
 use Rattle.lines.specs.Outcome.{Outcome}
 use Rattle.lines.specs.Refusal.{Check, check, badStore, badLine, noForm, wrongStage}
@@ -56,23 +55,23 @@ abbrev pub acceptByte : Bool → ℕ
 acceptByte a = cond a 1 0
 
 -- The line's own work, one clause a form; `tree` holds the records of the line's tree.
-abbrev pub workOf : Choice → Form → List ℕ → List ℕ → List ℕ → List ℕ → Work
-workOf choice (form.Subject n) s t line tree = workSubject s (bytesOf line n)
-workOf choice (form.Isa n r) s t line tree = workIsa s (bytesOf line n) (bytesOf line r)
-workOf choice (form.Rule a b p n) s t line tree = workRule s (acceptByte a) b (bytesOf line p) (bytesOf line n)
-workOf choice (form.Root l) s t line tree = workRoot t (bytesOf line l)
-workOf choice (form.Child m) s t line tree = workChild t m tree
-workOf choice (form.User n) s t line tree = workUser s (bytesOf line n)
-workOf choice form.View s t line tree = workView s t
-workOf choice (form.Query p) s t line tree = workAsk choice ask.Query s t (bytesOf line p)
-workOf choice (form.Find p) s t line tree = workAsk choice ask.Find s t (bytesOf line p)
-workOf choice (form.Rename p l) s t line tree = workRename change.Rename s t (bytesOf line p) (bytesOf line l)
-workOf choice (form.Update p l) s t line tree = workRename change.Update s t (bytesOf line p) (bytesOf line l)
-workOf choice (form.Append p m) s t line tree = workInsert place.Append s t (bytesOf line p) m tree
-workOf choice (form.Before p m) s t line tree = workInsert place.Before s t (bytesOf line p) m tree
-workOf choice (form.After p m) s t line tree = workInsert place.After s t (bytesOf line p) m tree
-workOf choice (form.Remove p) s t line tree = workRemove s t (bytesOf line p)
-workOf choice form.NoForm s t line tree = record { checks = check noForm true ∷ []; text = []; effect = reading }
+abbrev pub workOf : Form → List ℕ → List ℕ → List ℕ → List ℕ → Work
+workOf (form.Subject n) s t line tree = workSubject s (bytesOf line n)
+workOf (form.Isa n r) s t line tree = workIsa s (bytesOf line n) (bytesOf line r)
+workOf (form.Rule a b p n) s t line tree = workRule s (acceptByte a) b (bytesOf line p) (bytesOf line n)
+workOf (form.Root l) s t line tree = workRoot t (bytesOf line l)
+workOf (form.Child m) s t line tree = workChild t m tree
+workOf (form.User n) s t line tree = workUser s (bytesOf line n)
+workOf form.View s t line tree = workView s t
+workOf (form.Query p) s t line tree = workAsk ask.Query s t (bytesOf line p)
+workOf (form.Find p) s t line tree = workAsk ask.Find s t (bytesOf line p)
+workOf (form.Rename p l) s t line tree = workRename change.Rename s t (bytesOf line p) (bytesOf line l)
+workOf (form.Update p l) s t line tree = workRename change.Update s t (bytesOf line p) (bytesOf line l)
+workOf (form.Append p m) s t line tree = workInsert place.Append s t (bytesOf line p) m tree
+workOf (form.Before p m) s t line tree = workInsert place.Before s t (bytesOf line p) m tree
+workOf (form.After p m) s t line tree = workInsert place.After s t (bytesOf line p) m tree
+workOf (form.Remove p) s t line tree = workRemove s t (bytesOf line p)
+workOf form.NoForm s t line tree = record { checks = check noForm true ∷ []; text = []; effect = reading }
 
 -- what comes before a line is read, and before the own checks of the form that was read, in stage g
 abbrev pub textChecks : List ℕ → List ℕ → List ℕ → List Check
@@ -84,7 +83,7 @@ formChecks f g = check noForm (isNoForm f) ∷ check wrongStage (not (inStage (s
 abbrev pub lineChecks : List ℕ → List ℕ → List ℕ → Form → List Check
 lineChecks s t line f = textChecks s t line ++ formChecks f (stage s)
 
--- What a line answers and leaves, from the state s, the table t and an area of `room` bytes, at a choice of `find`.
-unfoldable pub step : Choice → List ℕ → List ℕ → List ℕ → ℕ → Outcome
-step choice s t line room =
-    performed (guarded (lineChecks s t line (readForm line)) (workOf choice (readForm line) s t line (recordsOf (treeIn line)))) room s t
+-- What a line answers and leaves, from the state s, the table t and an area of `room` bytes.
+unfoldable pub step : List ℕ → List ℕ → List ℕ → ℕ → Outcome
+step s t line room =
+    performed (guarded (lineChecks s t line (readForm line)) (workOf (readForm line) s t line (recordsOf (treeIn line)))) room s t

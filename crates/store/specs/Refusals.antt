@@ -9,7 +9,6 @@ use mathlib.Core.Logic.{_⊎_}
 use lib.ListN.{length}
 use Rattle.forms.specs.Text.{lineOk}
 use Rattle.forms.specs.Command.{Command, written, GoodCommand}
-use Rattle.answers.specs.AnswerChoice.{Choice}
 use Rattle.rights.specs.Nodes.{Nodes}
 use Rattle.lines.specs.State.{stageC, stage, storeOk}
 use Rattle.lines.specs.Allowed.{Session, HoldsStore}
@@ -45,10 +44,10 @@ pub data Says (line : List ℕ) : Type 0 where
   nothing : ((c : Command) → GoodCommand c → line ≡ written c → ⊥) → Says line
 
 -- the rows of a line: 13, 1 and 2 or 3 in front of its form's own, behind them "12 answer area shorter than the answer"
-abbrev pub refusals : Choice → List ℕ → List ℕ → ℕ → {line : List ℕ} → Says line → Conditions
-refusals choice s t room {line} (says c g e) =
+abbrev pub refusals : List ℕ → List ℕ → ℕ → {line : List ℕ} → Says line → Conditions
+refusals s t room {line} (says c g e) =
     (13, NoStore s t)
     ∷ (1, BadLine line)
     ∷ (3, WrongStage s c)
-    ∷ (rows s t c ++ ((12, room < length (clause choice c s t .text)) ∷ []))
-refusals choice s t room {line} (nothing h) = (13, NoStore s t) ∷ (1, BadLine line) ∷ (2, Unit {0}) ∷ []
+    ∷ (rows s t c ++ ((12, room < length (clause c s t .text)) ∷ []))
+refusals s t room {line} (nothing h) = (13, NoStore s t) ∷ (1, BadLine line) ∷ (2, Unit {0}) ∷ []

@@ -39,7 +39,6 @@ ghost use Rattle.rights.specs.Record.{pasted};
 ghost use Rattle.forms.specs.Text.{lineOk};
 ghost use Rattle.forms.specs.Tree.{recordsOf};
 ghost use Rattle.forms.specs.Form.{readForm, treeIn};
-ghost use Rattle.answers.specs.AnswerChoice.{chosen};
 ghost use Rattle.lines.specs.State.{stage, storeOk};
 ghost use Rattle.lines.specs.Outcome.{Made};
 ghost use Rattle.lines.specs.Refusal.{firstRefusal};
@@ -154,7 +153,7 @@ fn run(
     requires { ⌜ (storeOk (now state) (now table) ≡ true) × (lineOk (now line) ≡ true) × (f ≡ readForm (now line))
         × (inStage (stageOf f) (stage (now state)) ≡ true)
         × (now tree ≡ pasted (replicate 16384 0) 0 (recordsOf (treeIn (now line)))) ⌝ }
-    ensures { λ r. ⌜ Performs (workOf chosen f (now (state .entry)) (now (table .entry)) (now (line .entry)) (recordsOf (treeIn (now (line .entry)))))
+    ensures { λ r. ⌜ Performs (workOf f (now (state .entry)) (now (table .entry)) (now (line .entry)) (recordsOf (treeIn (now (line .entry)))))
         (now (state .entry)) (now (table .entry)) (now (area .entry)) r (now (state .exit)) (now (table .exit)) (now (area .exit)) ⌝ }
 {
     match f {
@@ -223,9 +222,9 @@ fn run(
     }
 }
 
-// One line: the answer's bytes are put at the front of the area. Whatever is lent, what is returned and left is `step` at the program's choice of a hit for `find`.
+// One line: the answer's bytes are put at the front of the area. Whatever is lent, what is returned and left is `step`.
 pub fn line(state: &mut [u8], table: &mut [u8], line: &[u8], area: &mut [u8]) -> Answer
-    ensures { λ r. ⌜ Made (step chosen (now (state .entry)) (now (table .entry)) (now (line .entry)) (length (now (area .entry))))
+    ensures { λ r. ⌜ Made (step (now (state .entry)) (now (table .entry)) (now (line .entry)) (length (now (area .entry))))
         (now (area .entry)) r (now (state .exit)) (now (table .exit)) (now (area .exit)) ⌝ }
 {
     let down = text_refusal(state, table, line);

@@ -8,7 +8,6 @@ use borrow.Author.Tests.{le-leb, lt-leb}
 use lib.ListN.{length, take, drop, length-drop, take-append-drop}
 use lib.Seq.{drop-append-le, drop-drop, length-take-le}
 use Rattle.answers.specs.Answer.{refusedText}
-use Rattle.answers.specs.AnswerChoice.{chosen}
 use Rattle.answers.specs.How.AnswerArea.{Puts, Answered}
 use Rattle.lines.specs.declared.line.Answer.{Answer}
 use Rattle.lines.specs.declared.line.Answer.the-variants.{Accepted, Refused}
@@ -58,7 +57,7 @@ module _ (s t buffer : List ℕ) (used : ℕ) {at r : ℕ} {before s' t' after :
       → Prints (ended s t (lineIn buffer used) room) at before r s' t' after
   ended-long room h p = rw (lt-leb used (length buffer) h) p
 
-  pub ended-short : (room : ℕ) → used ≤ length buffer → Prints (step chosen s t (take (used - 0) (drop 0 buffer)) room) at before r s' t' after
+  pub ended-short : (room : ℕ) → used ≤ length buffer → Prints (step s t (take (used - 0) (drop 0 buffer)) room) at before r s' t' after
       → Prints (ended s t (lineIn buffer used) room) at before r s' t' after
   ended-short room h p = let z : used - 0 ≡ used = omega arith in rw (le-leb used (length buffer) h, ← z) p
 

@@ -10,7 +10,6 @@ use lib.ListN.{length, take}
 use Rattle.rights.specs.Table.{capacity}
 use Rattle.rights.proofs.ListLaws.{byCase}
 use Rattle.forms.specs.Text.{lineOk}
-use Rattle.answers.specs.AnswerChoice.{chosen, chosen-lawful}
 use Rattle.lines.specs.Outcome.{Reply, says, refuses, Outcome}
 use Rattle.lines.specs.Effect.{performed}
 use Rattle.lines.specs.Refusal.{areaShort, badStore, checked}
@@ -40,10 +39,10 @@ abbrev pub OfTheLine : ℕ → Type 0
 OfTheLine n = (n ≡ areaShort → ⊥) × (n ≡ badStore → ⊥)
 
 module _ (s t line : List ℕ) (g : Good s t) where
-  step-refuses : (n : ℕ) → step chosen s t line areaBytes .reply ≡ refuses n → OfTheLine n
+  step-refuses : (n : ℕ) → step s t line areaBytes .reply ≡ refuses n → OfTheLine n
   step-refuses n e = (
-    λ q. area-suffices chosen s t line areaBytes (g .passes) chosen-lawful (g .room) (e ∙ ap refuses q),
-    λ q. passing-not-13 chosen s t line areaBytes (g .passes) (e ∙ ap refuses q),
+    λ q. area-suffices s t line areaBytes (g .passes) (g .room) (e ∙ ap refuses q),
+    λ q. passing-not-13 s t line areaBytes (g .passes) (e ∙ ap refuses q),
   )
 
   outcome-refuses : (n : ℕ) → outcomeOf s t line .reply ≡ refuses n → OfTheLine n
@@ -57,7 +56,7 @@ module _ (s t line : List ℕ) (g : Good s t) where
   unfolding outcomeOf
   outcome-good =
       byCase (leb (length line) lineMax)
-      (λ q. rw q (record { passes = store-kept chosen s t line areaBytes (g .passes); room = rw (table-length-kept chosen s t line areaBytes) (g .room) }))
+      (λ q. rw q (record { passes = store-kept s t line areaBytes (g .passes); room = rw (table-length-kept s t line areaBytes) (g .room) }))
       (λ q. rw q g)
 
 replies-refuse : (s t : List ℕ) → Good s t → (lines : List (List ℕ)) (n : ℕ) → List·Memᴰ (refuses n) (repliesFrom s t lines) → OfTheLine n
@@ -67,7 +66,7 @@ replies-refuse s t g (line ∷ lines) n m =
     ⊎-elim (λ e. outcome-refuses s t line g n (sym e)) (λ k. replies-refuse _ _ (outcome-good s t line g) lines n k) (List·Memᴰ·cases-cons m)
 
 -- A line that is too long is no case of its own: from a store that passes, `step` refuses it as the program does.
-pub long-lines-stepped : (s t line : List ℕ) → storeOk s t ≡ true → outcomeOf s t line ≡ step chosen s t line areaBytes
+pub long-lines-stepped : (s t line : List ℕ) → storeOk s t ≡ true → outcomeOf s t line ≡ step s t line areaBytes
 unfolding outcomeOf step performed checked lineOk
 long-lines-stepped s t line ok = byCase (leb (length line) lineMax) (λ e. rw e) (λ e. rw (e, ok))
 

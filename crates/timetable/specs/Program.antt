@@ -6,7 +6,6 @@ use lib.Dec.{leb, eqb}
 use lib.ListN.{length, take, replicate}
 use Rattle.rights.specs.Bytes.{bytes}
 use Rattle.answers.specs.Answer.{refusedText}
-use Rattle.answers.specs.AnswerChoice.{chosen}
 use Rattle.lines.specs.Outcome.{Reply, says, refuses, Outcome, refusal}
 use Rattle.lines.specs.Refusal.{badLine}
 use Rattle.store.specs.Line.{step}
@@ -39,7 +38,7 @@ linesFrom line (b ∷ rest) = cond (eqb b lineFeed) (line ∷ linesFrom [] rest)
 
 -- What the program makes of a line, from the state s and the table t: "The program reads a longer one up to its line feed and refuses it once."
 unfoldable pub outcomeOf : List ℕ → List ℕ → List ℕ → Outcome
-outcomeOf s t line = cond (leb (length line) lineMax) (step chosen s t line areaBytes) (refusal badLine s t)
+outcomeOf s t line = cond (leb (length line) lineMax) (step s t line areaBytes) (refusal badLine s t)
 
 -- the replies to lines, each from the state and the table that the line before left
 unfoldable pub repliesFrom : List ℕ → List ℕ → List (List ℕ) → List Reply

@@ -14,7 +14,6 @@ ghost use mathlib.Core.List.{[]};
 ghost use mathlib.Core.Logic.{_⊎_};
 ghost use lib.Dec.{leb};
 ghost use lib.ListN.{length, take};
-ghost use Rattle.answers.specs.AnswerChoice.{chosen};
 ghost use Rattle.store.specs.Line.{step};
 ghost use Rattle.timetable.specs.Program.{emptyState, emptyTable};
 ghost use Rattle.timetable.specs.How.Run.{Prints, TakesChunk, ReadsAll, RunsAll, ended, lineIn};
@@ -56,7 +55,7 @@ fn write_held(out: &[u8], held: usize) -> bool
 // Answers a line, or prints its refusal, at the start of the area; how many bytes that takes.
 fn answer_line(state: &mut [u8], table: &mut [u8], text: &[u8], area: &mut [u8]) -> usize
     requires { ⌜ 32 ≤ length (now area) ⌝ }
-    ensures { λ r. ⌜ Prints (step chosen (now (state .entry)) (now (table .entry)) (now (text .entry)) (length (now (area .entry))))
+    ensures { λ r. ⌜ Prints (step (now (state .entry)) (now (table .entry)) (now (text .entry)) (length (now (area .entry))))
         0 (now (area .entry)) r (now (state .exit)) (now (table .exit)) (now (area .exit)) ⌝ }
 {
     let answer = line(state, table, text, area);

@@ -6,7 +6,6 @@ use mathlib.Core.Logic.{_⊎_}
 use mathlib.Core.List.{List, [], _∷_, _++_}
 use lib.Dec.{leb, ltb, eqb}
 use lib.ListN.{length, getD, take}
-use Rattle.answers.specs.AnswerChoice.{chosen}
 use Rattle.answers.specs.How.AnswerArea.{Puts}
 use Rattle.lines.specs.Outcome.{Outcome, refusal}
 use Rattle.lines.specs.Refusal.{badLine}
@@ -25,7 +24,7 @@ longer tooLong b = tooLong
 
 -- what ends with it, in an area of `room` bytes
 abbrev pub ended : List ℕ → List ℕ → Line → ℕ → Outcome
-ended s t (short line) room = step chosen s t line room
+ended s t (short line) room = step s t line room
 ended s t tooLong room = refusal badLine s t
 
 -- the line of which a buffer has the first `used` bytes; more than it holds stand for every line that is too long

@@ -8,7 +8,7 @@ use Rattle.store.proofs.line.line.Statement.{statement}
 use Rattle.store.proofs.line.line.Tie as tie
 
 returns : tie.Need-returns
-returns c = text-refused _ _ _ _ (c .before .text-refusal .ensures) (c .if1 .taken)
+returns c = text-refused _ _ _ (c .before .text-refusal .ensures) (c .if1 .taken)
 
 read-form-requires : tie.Need-read-form-requires
 read-form-requires c κs = form-room _ (text-passed _ _ _ (c .before .before .text-refusal .ensures) (c .before .if1 .left) .1)
@@ -22,7 +22,7 @@ returns-2 : tie.Need-returns-2
 returns-2 c =
     let at-form-refusal = c .before in let at-read-form = at-form-refusal .before .before .before in let at-if1 = at-read-form .before .before in
     let at-text-refusal = at-if1 .before in
-    form-refused _ _ _ _ (at-text-refusal .text-refusal .ensures) (at-if1 .if1 .left)
+    form-refused _ _ _ (at-text-refusal .text-refusal .ensures) (at-if1 .if1 .left)
     (at-read-form .read-form .ensures .0) (at-form-refusal .form-refusal .ensures) (c .if2 .taken)
 
 run-requires : tie.Need-run-requires
@@ -43,7 +43,7 @@ returns-3 c =
     let at-run = c .before .before .before .before .before .before in let at-if2 = at-run .before .before .before .before .before in
     let at-form-refusal = at-if2 .before in let at-read-form = at-form-refusal .before .before .before in let at-if1 = at-read-form .before .before in
     let at-text-refusal = at-if1 .before in
-    line-run _ _ _ _ (at-text-refusal .text-refusal .ensures) (at-if1 .if1 .left)
+    line-run _ _ _ (at-text-refusal .text-refusal .ensures) (at-if1 .if1 .left)
     (at-read-form .read-form .ensures .0) (at-form-refusal .form-refusal .ensures) (at-if2 .if2 .left) (at-run .run .ensures)
 
 pub line-spec : {M : Type 1} → statement M
