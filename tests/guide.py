@@ -9,13 +9,13 @@ library, and stay out without it. Ends with `N passed, M failed`.
 """
 
 import argparse
-import ctypes
 import os
 import re
 import subprocess
 import sys
 
 sys.path.insert(0, os.path.dirname(os.path.abspath(__file__)))
+import library  # noqa: E402
 import timetable  # noqa: E402
 
 ROOT = timetable.ROOT
@@ -134,25 +134,19 @@ def check_man_page(program):
         report(MAN_PAGE, False, "lines and answers are wanted")
 
 
-def call_library(path, lines, last, state_bytes=68880, table=4 + 32 * 1024, area=65536):
-    """What `timetable_line` returns for the last line, with these lengths then."""
-    library = ctypes.CDLL(path)
-    library.timetable_line.restype = ctypes.c_int64
-    state = ctypes.create_string_buffer(state_bytes)
-    store = ctypes.create_string_buffer(4 + 32 * 1024)
-    answer = ctypes.create_string_buffer(65536)
-
-    def call(line, table_length, area_length):
-        data = line.encode()
-        sizes = [ctypes.c_size_t(size) for size in (state_bytes, table_length, len(data), area_length)]
-        return library.timetable_line(state, sizes[0], store, sizes[1], ctypes.c_char_p(data), sizes[2], answer, sizes[3])
-
+def call_library(path, lines, last, table=None, area=None):
+    """What `timetable_line` returns for the last line, with so many bytes of table and area then."""
+    store = library.Store(path)
     for line in lines:
-        call(line, 4 + 32 * 1024, 65536)
-    return call(last, table, area)
+        store.line(line.encode())
+    if table is not None:
+        store.table.length = table
+    if area is not None:
+        store.area.length = area
+    return store.line(last.encode())
 
 
-def check_refusals(page, text, program, library):
+def check_refusals(page, text, program, shared):
     """Rows `| N | .. | `line` |` of the table of refusals. Says whether there is one."""
     rows = re.findall(r"^\| (\d+) \|.*\| `([^`]*)`[^|]*\|$", text, re.M)
     for number, line in rows:
@@ -162,8 +156,8 @@ def check_refusals(page, text, program, library):
             printed = run_program(program, BEFORE[number] + [line])
             good = printed[:-1] == ["(ok)"] * len(BEFORE[number]) and printed[-1] == f"(refused {number})"
             report(name, good, printed[-1])
-        elif library is not None:
-            report(name, call_library(library, BEFORE[number], line, **LIBRARY_ONLY[number]) == -number)
+        elif shared is not None:
+            report(name, call_library(shared, BEFORE[number], line, **LIBRARY_ONLY[number]) == -number)
     if rows:
         report(f"{page}: every refusal has a row", [int(number) for number, _ in rows] == list(range(1, 14)))
     return bool(rows)

@@ -1,6 +1,6 @@
 #!/usr/bin/env python3
 """vectors.py [PROGRAM]: runs the program on each list of lines in tests/vectors, NAME.in, and compares what it writes with NAME.out,
-byte for byte. The default is the program that `rt check timetable` builds.
+byte for byte. The lists in card-KK use what card KK of document 02 brings. The default is the program that `rt check timetable` builds.
 """
 
 import os
@@ -10,6 +10,12 @@ sys.path.insert(0, os.path.dirname(os.path.abspath(__file__)))
 import timetable  # noqa: E402
 
 FOLDER = os.path.join(timetable.ROOT, "tests", "vectors")
+
+
+def lists(ending):
+    """The names of the lists with this ending, those of the cards with their folder."""
+    found = [os.path.relpath(os.path.join(folder, name), FOLDER) for folder, _, names in os.walk(FOLDER) for name in names]
+    return sorted(name.removesuffix(ending) for name in found if name.endswith(ending))
 
 
 def read(name):
@@ -28,7 +34,7 @@ def difference(got, wanted):
 
 def main():
     program = timetable.arguments(__doc__)
-    names = sorted(name[:-3] for name in os.listdir(FOLDER) if name.endswith(".in"))
+    names = lists(".in")
     failed = 0
     for name in names:
         got, wanted = timetable.answers(program, read(name + ".in")), read(name + ".out")

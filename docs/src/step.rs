@@ -22,7 +22,7 @@ pub const TABLE_FULL: u8 = 11;
 pub const AREA_SHORT: u8 = 12;
 pub const BAD_STORE: u8 = 13;
 
-/// How the changes are read. All but the first are false, and stand here for the test of the demand-3 tester alone.
+/// How document 01 and the cards are read. All but the first are false, and stand here for the tests of the testers alone.
 #[derive(Clone, Copy, PartialEq, Eq, Debug)]
 pub enum Reading {
     Right,
@@ -35,9 +35,14 @@ pub enum Reading {
     SpareHidden,
     ReadersWords,
     PlaceByPlace,
+    StoredHits,
+    LastHit,
+    NoneForOneHit,
+    RoomForAllHits,
 }
 
-pub const FALSE_READINGS: [(&str, Reading); 9] = [
+/// Those that make demand 3 false
+pub const FALSE_READINGS: [(&str, Reading); 10] = [
     ("rename-into-word", Reading::RenameIntoWord),
     ("rename-of-word", Reading::RenameOfWord),
     ("no-own-names", Reading::NoOwnNames),
@@ -47,7 +52,12 @@ pub const FALSE_READINGS: [(&str, Reading); 9] = [
     ("spare-hidden", Reading::SpareHidden),
     ("readers-words", Reading::ReadersWords),
     ("place-by-place", Reading::PlaceByPlace),
+    ("stored-hits", Reading::StoredHits),
 ];
+
+/// Those that give two trees that look alike the same answers, though not the right ones
+pub const OTHER_ANSWERS: [(&str, Reading); 3] =
+    [("last-hit", Reading::LastHit), ("none-for-one-hit", Reading::NoneForOneHit), ("room-for-all-hits", Reading::RoomForAllHits)];
 
 /// What 13 lets pass: a state, a table, and the two agreeing on the root.
 #[derive(Clone, Debug)]
@@ -239,12 +249,28 @@ impl Session<'_> {
         answer
     }
 
-    /// The choice is free among the hits; this is the first in document order.
+    /// The node that a path finds: the first selected in document order.
+    fn found(&self, path: &[Step]) -> Option<&Node> {
+        let selected = self.selected(path);
+        match self.reading {
+            Reading::LastHit => selected.last(),
+            Reading::NoneForOneHit if selected.len() == 1 => None,
+            _ => selected.first(),
+        }
+        .map(|number| &self.view.nodes[*number])
+    }
+
+    /// The node that a path finds in the stored tree, shown or not.
+    fn found_stored(&self, path: &[Step]) -> Option<&Node> {
+        let marks = select(self.nodes(), path, &self.store.state.policy.subjects[self.user]);
+        marks.iter().position(|mark| *mark).map(|number| &self.nodes()[number])
+    }
+
     fn find_answer(&self, path: &[Step]) -> Vec<u8> {
         let mut answer = Vec::new();
-        match self.selected(path).first() {
+        match if self.reading == Reading::StoredHits { self.found_stored(path) } else { self.found(path) } {
             None => answer.extend_from_slice(b"(none)\n"),
-            Some(number) => write_hit(&self.view.nodes[*number], &mut answer),
+            Some(node) => write_hit(node, &mut answer),
         }
         answer
     }
@@ -428,6 +454,7 @@ pub fn step(store: &Store, line: &[u8], area_length: usize, reading: Reading) ->
         }
         Form::Find(text) => {
             let (session, path) = session(store, Some(text), reading)?;
+            refuse_if(reading == Reading::RoomForAllHits && session.query_answer(&path).len() > area_length, AREA_SHORT)?;
             answered(session.find_answer(&path))
         }
         Form::Rename(text, label) => {

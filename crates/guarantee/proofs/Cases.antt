@@ -1,4 +1,4 @@
--- The starred cases of document 01, computed on the bytes of state, table and lines (specs/Cases.antt). Assumes nothing.
+-- The starred cases of document 01 and the cases of document 02, computed on the bytes of state, table and lines (specs/Cases.antt). Assumes nothing.
 use Prim.Native.Nat.{ℕ}
 use mathlib.Core.Path.{_≡_, refl, _∙_}
 use mathlib.Core.Bool.{true}
@@ -6,7 +6,7 @@ use mathlib.Core.List.{List, [], _∷_, map}
 use lib.ListN.{drop}
 use Rattle.guarantee.specs.Alike.{Input, outcome}
 use Rattle.guarantee.specs.Cases.{replies, newState, newTable, input, Case, CaseAnswered, Starred}
-use Rattle.guarantee.specs.Cases.{exampleAnswered, exampleRenamed, bracketHolds, bracketCounts, noRules, rootRemoved, lessonRemoved, levels, fewRecords, hiddenChild, wordsOfOthers, ReadRight}
+use Rattle.guarantee.specs.Cases.{exampleAnswered, exampleRenamed, bracketHolds, bracketCounts, noRules, rootRemoved, lessonRemoved, levels, fewRecords, hiddenChild, wordsOfOthers, ReadRight, firstRoom, CardsAnswered}
 use Rattle.rights.specs.Bytes.{digitByte, run, all, every}
 use Rattle.rights.specs.Labels.{labelByte, folded, sameLabel}
 use Rattle.rights.specs.Path.{passes}
@@ -126,15 +126,15 @@ infixr 3 _and_
 -- ★ Every row of the table.
 pub starred : Starred
 starred =
-    answered exampleAnswered new-passes (example-answered)
-    and answered exampleRenamed new-passes (example-renamed)
-    and answered bracketHolds new-passes (bracket-holds)
-    and answered bracketCounts new-passes (bracket-counts)
-    and answered noRules new-passes (no-rules)
-    and answered rootRemoved new-passes (root-removed)
-    and answered lessonRemoved new-passes (lesson-removed)
-    and answered levels new-passes (levels-given)
-    and answered fewRecords small-passes (few-records)
+    answered exampleAnswered new-passes example-answered
+    and answered exampleRenamed new-passes example-renamed
+    and answered bracketHolds new-passes bracket-holds
+    and answered bracketCounts new-passes bracket-counts
+    and answered noRules new-passes no-rules
+    and answered rootRemoved new-passes root-removed
+    and answered lessonRemoved new-passes lesson-removed
+    and answered levels new-passes levels-given
+    and answered fewRecords small-passes few-records
     and tt
 
 -- No reading that makes demand 3 false is the store's.
@@ -148,7 +148,15 @@ words-of-others = refl
 
 pub read-right : ReadRight
 read-right =
-    answered hiddenChild small-passes (hidden-child)
-    and answered wordsOfOthers small-passes (words-of-others)
-    and answered fewRecords small-passes (few-records)
+    answered hiddenChild small-passes hidden-child
+    and answered wordsOfOthers small-passes words-of-others
+    and answered fewRecords small-passes few-records
     and tt
+
+-- The cases of document 02's cards
+first-room : Gives firstRoom
+unfolding given
+first-room = refl
+
+pub cards-answered : CardsAnswered
+cards-answered = answered firstRoom small-passes first-room and tt

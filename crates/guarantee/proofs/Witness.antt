@@ -157,9 +157,9 @@ ill-flu = told-apart "ill" "flu" "(done 1 0)\n" "(done 1 1)\n" ill flu look-ill-
 ill-sha : ToldApart "ill" "SHA" "(remove /*/*)" "(done 1 0)\n" "(done 1 1)\n"
 ill-sha = told-apart "ill" "SHA" "(done 1 0)\n" "(done 1 1)\n" ill sha look-ill-sha behind-ill-sha
 
-root-noted : Readable (renaming (bytes "note") (true ∷ []))
+pub words-needed : WordsNeeded
 unfolding given
-root-noted =
+words-needed =
     let e : tableWith "ill" ≡ theTable "ill" = table-is "ill" "(done 1 0)\n" ill in
     record {
       kept = ap (λ (t : List ℕ). tagAt (afterEffect (renaming (bytes "note") (true ∷ [])) (tagAll 0 (records t))) 1) e;
@@ -170,11 +170,8 @@ root-noted =
 pub hidden : Hidden
 hidden = (
   ill-cold,
-  λ e. tables-differ (sym (table-is "ill" "(done 1 0)\n" (ill)) ∙ e ∙ table-is "cold" "(done 1 0)\n" (cold)),
+  λ e. tables-differ (sym (table-is "ill" "(done 1 0)\n" ill) ∙ e ∙ table-is "cold" "(done 1 0)\n" cold),
 )
 
 pub second-needed : SecondNeeded
 second-needed = (ill-flu, ill-sha)
-
-pub words-needed : WordsNeeded
-words-needed = root-noted

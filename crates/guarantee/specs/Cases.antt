@@ -1,5 +1,5 @@
--- The starred cases of document 01 ("Cases (★ proved)") as one table. Each row is a run from a new store: lines as they are typed, each with what it must be answered.
--- The rows go through `step` on the lines' bytes. The theorem stands in proofs/Cases.antt; it assumes nothing.
+-- The starred cases of document 01 ("Cases (★ proved)") as one table, and the cases of document 02's cards. Each row is a run from a new store: lines as they are typed, each with what it must be answered.
+-- The rows go through `step` on the lines' bytes. The theorems stand in proofs/Cases.antt; they assume nothing.
 use Prim.Native.Nat.{ℕ, _+_, _*_}
 use Prim.Native.String.{String}
 use mathlib.Core.Path.{_≡_}
@@ -221,7 +221,7 @@ abbrev pub cases : List Case
 cases = exampleAnswered ∷ exampleRenamed ∷ bracketHolds ∷ bracketCounts ∷ noRules ∷ rootRemoved ∷ lessonRemoved ∷ levels ∷ fewRecords ∷ []
 
 abbrev pub Starred : Type 0
-Starred = All (CaseAnswered) cases
+Starred = All CaseAnswered cases
 
 -- Each reading that makes demand 3 false answers a line of these rows otherwise, or of `fewRecords`: 11 decided place by place.
 
@@ -273,4 +273,27 @@ wordsOfOthers =
     }
 
 abbrev pub ReadRight : Type 0
-ReadRight = All (CaseAnswered) (hiddenChild ∷ wordsOfOthers ∷ fewRecords ∷ [])
+ReadRight = All CaseAnswered (hiddenChild ∷ wordsOfOthers ∷ fewRecords ∷ [])
+
+-- The cases of document 02's cards, one row a card
+
+-- Card 1: "With two rooms for a split class it showed either, and receptionists want the same one the printed list starts with." The first room is hidden.
+abbrev pub firstRoom : Case
+firstRoom =
+    record {
+      capacity = 10;
+      turns =
+          ok "(subject reception)"
+          ∷ ok "(rule accept read //* reception)"
+          ∷ ok "(rule deny read //private reception)"
+          ∷ ok "(root school)"
+          ∷ ok "(child (10B (private (room (R9))) (room (R12)) (room (R14))))"
+          ∷ ok "(user reception)"
+          ∷ "(query //10B//room/*)" gives "(hit 3 R12)\n(hit 3 R14)\n(end 2)\n"
+          ∷ "(find //10B//room/*)" gives "(hit 3 R12)\n"
+          ∷ "(find //R9)" gives "(none)\n"
+          ∷ [];
+    }
+
+abbrev pub CardsAnswered : Type 0
+CardsAnswered = All CaseAnswered (firstRoom ∷ [])

@@ -3,7 +3,7 @@
 use crate::plain_view;
 use crate::policy::RULES_MAXIMUM;
 use crate::state::{RULES_AT, RULE_BYTES, SESSION_BYTES};
-use crate::step::{read_line, Reading, FALSE_READINGS};
+use crate::step::{read_line, Reading, FALSE_READINGS, OTHER_ANSWERS};
 use crate::STATE_BYTES;
 use std::ffi::{c_char, c_int, c_void, CStr, CString};
 
@@ -67,7 +67,7 @@ pub fn wrong_engine(name: &str) -> Option<Box<dyn Engine>> {
     if name == "first-rule-wins" {
         return Some(Box::new(FirstRuleWins));
     }
-    FALSE_READINGS.iter().find(|(known, _)| *known == name).map(|(_, reading)| Box::new(Straightforward(*reading)) as Box<dyn Engine>)
+    FALSE_READINGS.iter().chain(&OTHER_ANSWERS).find(|(known, _)| *known == name).map(|(_, reading)| Box::new(Straightforward(*reading)) as Box<dyn Engine>)
 }
 
 // --- A library: `timetable_line` and `timetable_state_bytes` of a shared object, each slice as a pointer and a length ---

@@ -1,0 +1,53 @@
+#!/usr/bin/env python3
+"""calls.py LIBRARY.so: gives the library each list of calls in tests/vectors, NAME.calls, and compares what it answers with NAME.out, byte for byte.
+
+A list begins with a new store of 1,024 records and an area of 65,536 bytes. Its lines go to `timetable_line`, except for these (HEX: bytes in hexadecimal):
+
+    @area N      from now on an area of N bytes
+    @records N   a new store of N records
+    @table HEX   from now on a table of these bytes
+"""
+
+import sys
+
+from library import Broken, Slice, Store
+from vectors import difference, lists, read
+
+
+def given(store, text):
+    """What one line of a list answers."""
+    word, _, rest = text.partition(b" ")
+    if word == b"@area":
+        store.lend_area(int(rest))
+    elif word == b"@records":
+        store.start(int(rest))
+    elif word == b"@table":
+        store.table = Slice(bytes.fromhex(rest.decode()))
+    elif word.startswith(b"@"):
+        raise Broken(f"no call of the library: {text.decode()}")
+    else:
+        return store.answer(store.line(text))
+    return b""
+
+
+def main():
+    if len(sys.argv) != 2:
+        sys.exit(__doc__)
+    names = lists(".calls")
+    failed = 0
+    for name in names:
+        store = Store(sys.argv[1])
+        try:
+            got = b"".join(given(store, text) for text in read(name + ".calls").split(b"\n")[:-1])
+            wrong = "" if got == read(name + ".out") else difference(got, read(name + ".out"))
+        except Broken as broken:
+            wrong = str(broken)
+        if wrong:
+            failed += 1
+            print(f"FAILED: {name}: {wrong}")
+    print(f"{len(names)} lists of calls given, {failed} differ")
+    sys.exit(1 if failed or not names else 0)
+
+
+if __name__ == "__main__":
+    main()
