@@ -4,7 +4,7 @@ use mathlib.Core.Path.{_≡_}
 use mathlib.Core.Bool.{Bool, true, false}
 use mathlib.Core.List.{List}
 use lib.Dec.{eqb}
-use lib.ListN.{length, getD}
+use lib.ListN.{getD}
 use Rattle.rights.specs.Path.{Path}
 use Rattle.rights.specs.PathReader.{Got, got, bad}
 use Rattle.rights.specs.Nodes.{Nodes}
@@ -43,7 +43,6 @@ marksIn s t path = xpathSelection path (passesOwn (policyIn s) (userOf s)) (view
 
 -- "the first selected node in document order" (document 02, card 1): the path selects node k of the view, and none before it
 pub record FirstSelected (s t path : List ℕ) (k : ℕ) : Type 0 where
-  pub shown : k < length (viewIn s t)
   pub selected : getD (marksIn s t path) k false ≡ true
   pub none-before : (j : ℕ) → j < k → getD (marksIn s t path) j false ≡ false
 

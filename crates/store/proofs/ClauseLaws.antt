@@ -3,6 +3,7 @@ use Prim.Native.Nat.{ℕ}
 use mathlib.Core.Path.{_≡_, ap, ap₂, fun-ext, _∙_}
 use mathlib.Core.Bool.{Bool, not, cond}
 use mathlib.Core.List.{List, [], _∷_}
+use mathlib.Core.Logic.{_⊎_, inl, inr}
 use lib.ListN.{length}
 use Rattle.rights.specs.Isa.{passesOwn}
 use Rattle.rights.specs.Marks.{eachFrom}
@@ -11,6 +12,7 @@ use Rattle.rights.specs.Path.{Path}
 use Rattle.rights.specs.PathText.{write, Within}
 use Rattle.rights.specs.XPath.{has, nodeSet, document, xpathSelected}
 use Rattle.rights.proofs.ListLaws.{byCase}
+use Rattle.rights.proofs.MarkLaws.{each-length}
 use Rattle.rights.proofs.PathComplete.{complete}
 use Rattle.views.specs.declared.insert.Place.the-variants as place
 use Rattle.forms.specs.declared.form.Form.{Form}
@@ -21,7 +23,7 @@ use Rattle.forms.specs.Command.{Command, written, GoodCommand}
 use Rattle.forms.specs.Command as command
 use Rattle.forms.proofs.CommandLaws.{FormSays, written-read, none-written}
 use Rattle.answers.specs.Answer.{noneLine, hitLine}
-use Rattle.answers.proofs.FindLaws.{first-found, none-found}
+use Rattle.answers.proofs.FindLaws.{FirstSet, NoneSet, first-or-none, first-found, none-found}
 use Rattle.lines.specs.State.{stage, storeOk, policyIn, userOf}
 use Rattle.lines.specs.UserView.{viewIn, marksIn, FirstSelected, NoneSelected}
 use Rattle.lines.specs.Outcome.{Outcome, refusal}
@@ -92,9 +94,20 @@ pub written-marks : (s t : List ℕ) (p : Path) → Within p
     → marksIn s t (write p) ≡ eachFrom (λ i. has i (nodeSet p (passesOwn (policyIn s) (userOf s)) (viewIn s t) document)) 0 (length (viewIn s t))
 written-marks s t p w = ap (λ f. eachFrom f 0 (length (viewIn s t))) (fun-ext (λ i. path-selected p (passesOwn (policyIn s) (userOf s)) (viewIn s t) i w))
 
--- `(find P)`: the answer, and so what 12 measures, is the line of the first selected node alone; `(none)` if nothing is selected.
-pub find-clause : (s t path : List ℕ) (k : ℕ) → FirstSelected s t path k → clause (command.find path) s t .text ≡ hitLine (node (levelAt (viewIn s t) k) (labelAt (viewIn s t) k))
-find-clause s t path k f = first-found (marksIn s t path) (viewIn s t) k (f .shown) (f .selected) (f .none-before)
+-- `(find P)`: the answer, and so what 12 measures, is the line of the first selected node alone; `(none)` if nothing is selected. One of both is the case.
+module _ (s t path : List ℕ) where
+  mark-each : length (marksIn s t path) ≡ length (viewIn s t)
+  mark-each = each-length (xpathSelected path (passesOwn (policyIn s) (userOf s)) (viewIn s t)) 0 (length (viewIn s t))
 
-pub find-clause-none : (s t path : List ℕ) → NoneSelected s t path → clause (command.find path) s t .text ≡ noneLine
-find-clause-none s t path none = none-found (marksIn s t path) (viewIn s t) none
+  pub find-clause : (k : ℕ) → FirstSelected s t path k → clause (command.find path) s t .text ≡ hitLine (node (levelAt (viewIn s t) k) (labelAt (viewIn s t) k))
+  find-clause k f = first-found (marksIn s t path) (viewIn s t) k mark-each (f .selected, f .none-before)
+
+  pub find-clause-none : NoneSelected s t path → clause (command.find path) s t .text ≡ noneLine
+  find-clause-none none = none-found (marksIn s t path) (viewIn s t) none
+
+  pub first-selected : ((k : ℕ) × FirstSelected s t path k) ⊎ NoneSelected s t path
+  first-selected = go (first-or-none (marksIn s t path))
+    where
+      go : ((k : ℕ) × FirstSet (marksIn s t path) k) ⊎ NoneSet (marksIn s t path) → ((k : ℕ) × FirstSelected s t path k) ⊎ NoneSelected s t path
+      go (inl (k, f)) = inl (k, record { selected = f .0; none-before = f .1 })
+      go (inr none) = inr none
