@@ -1,19 +1,18 @@
 -- How long an answer is at most: 12 bytes and 35 for each node, where levels run to 11 and labels have at most 24 bytes. Assumes nothing.
 use Prim.Native.Nat.{ℕ, zero, suc, _+_, _-_, _*_, _/_, _^_, _≤_, _<_}
-use mathlib.Core.Path.{_≡_, refl, ap}
-use mathlib.Core.Bool.{Bool, true, false, cond}
-use mathlib.Core.List.{List, [], _∷_, _++_, List·Memᴰ, List·Memᴰ·cases-cons, List·Memᴰ·not-nil}
-use mathlib.Core.Logic.{⊎-elim}
+use mathlib.Core.Path.{_≡_, refl}
+use mathlib.Core.Bool.{Bool, true, false}
+use mathlib.Core.List.{List, [], _∷_}
 use native.Mathlib.Omega.{arith}
 use native.Mathlib.Nat.{pow-succ'}
 use lib.Dec.{ltb, eqb}
 use lib.ListN.{length, length-append, length-replicate}
-use borrow.Author.Tests.{ltb-true, ltb-false, eqb-true, eqb-false}
+use borrow.Author.Tests.{ltb-false, eqb-true, eqb-false}
 use Rattle.rights.specs.PathText.{decimal}
 use Rattle.rights.specs.Nodes.{Node, levelOf, labelOf, levelAt, TreeShaped}
 use Rattle.rights.specs.Marks.{keep}
 use Rattle.rights.proofs.ListLaws.{byCase}
-use Rattle.answers.specs.Answer.{number, doneText, endLine, hitLine, hitLines, queryText, findText, opening, closing, childLines, viewText}
+use Rattle.answers.specs.Answer.{doneText, hitLine, hitLines, queryText, findText, opening, closing, childLines, viewText}
 
 -- Numbers
 

@@ -19,7 +19,7 @@ use Rattle.lines.specs.Effect.{renaming, recordsAfter}
 use Rattle.guarantee.specs.Alike.{Start, Alike, Behind, shownTo, look, UserIs, Input, outcome}
 use Rattle.guarantee.specs.Identity.{afterEffect, stateAfterAll, tableAfterAll, tagAll, tagAt}
 use Rattle.guarantee.specs.Cases.{newState, newTable}
-use Rattle.guarantee.specs.Witness.{typed, school, stateWith, tableWith, Hidden, ToldApart, SecondNeeded, Readable, WordsNeeded}
+use Rattle.guarantee.specs.Witness.{typed, school, stateWith, tableWith, Hidden, ToldApart, SecondNeeded, WordsNeeded}
 use Rattle.guarantee.proofs.Schools.{thePolicy, theTable, lookOf, shownOf, BehindBoth, look-ill-cold, look-ill-flu, look-ill-sha, behind-ill-cold, behind-ill-flu, behind-ill-sha, tables-differ}
 use Rattle.guarantee.proofs.LineAlike.{same-self}
 use Rattle.guarantee.proofs.SessionKept.{store-kept}

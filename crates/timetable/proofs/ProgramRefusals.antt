@@ -1,7 +1,7 @@
 -- "In the program 12 and 13 cannot occur": its store always passes, and its area of 65,536 bytes has room for every answer over 1,024 records. Assumes nothing.
 use Prim.Native.Nat.{ℕ, _+_, _*_, _≤_}
-use mathlib.Core.Path.{_≡_, refl, sym, ap, _∙_}
-use mathlib.Core.Bool.{Bool, true, false}
+use mathlib.Core.Path.{_≡_, sym, ap, _∙_}
+use mathlib.Core.Bool.{true}
 use mathlib.Core.List.{List, [], _∷_, List·Memᴰ, List·Memᴰ·cases-cons, List·Memᴰ·not-nil}
 use mathlib.Core.Logic.{⊎-elim}
 use native.Mathlib.Omega.{arith}
@@ -10,7 +10,7 @@ use lib.ListN.{length, take}
 use Rattle.rights.specs.Table.{capacity}
 use Rattle.rights.proofs.ListLaws.{byCase}
 use Rattle.forms.specs.Text.{lineOk}
-use Rattle.lines.specs.Outcome.{Reply, says, refuses, Outcome}
+use Rattle.lines.specs.Outcome.{refuses}
 use Rattle.lines.specs.Effect.{performed}
 use Rattle.lines.specs.Refusal.{areaShort, badStore, checked}
 use Rattle.lines.specs.State.{storeOk}
