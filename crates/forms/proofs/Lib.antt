@@ -8,3 +8,4 @@ pub mod TreeTextLaws
 pub mod FormTextLaws
 pub mod CommandLaws
 pub mod PlaceLaws
+pub mod PathRunLaws

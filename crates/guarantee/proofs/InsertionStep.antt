@@ -36,7 +36,7 @@ use Rattle.forms.proofs.TreeTextLaws.{UpTo, levels-held}
 use Rattle.lines.specs.Effect.{Effect, root, insertion, tableAfter}
 use Rattle.lines.specs.Outcome.{says, Outcome}
 use Rattle.lines.specs.UserView.{marksIn, doneIn}
-use Rattle.lines.specs.Work.{rootAlone}
+use Rattle.lines.specs.Work.{rootAlone, changeAt}
 use Rattle.lines.proofs.ChangeLaws.{done-size}
 use Rattle.lines.proofs.StateLaws.{store-held}
 use Rattle.lines.proofs.TreeRows.{nodeRecords}
@@ -78,6 +78,12 @@ root-marked : (n : ℕ) → 1 ≤ n → markCount (take n rootAlone) ≡ markCou
 root-marked zero h = absurd (omega arith)
 root-marked (suc zero) h = refl
 root-marked (suc (suc n)) h = refl
+
+-- the form of an insertion
+abbrev pub formAt : Place → Part → ℕ → Form
+formAt place.Append p m = form.Append p m
+formAt place.Before p m = form.Before p m
+formAt place.After p m = form.After p m
 
 module _ (s t line : List ℕ) (room : ℕ) (text : List ℕ) (answered : step s t line room .reply ≡ says text) where
   taken : Accepted s t line room
@@ -128,23 +134,14 @@ module _ (s t line : List ℕ) (room : ℕ) (text : List ℕ) (answered : step s
       answer-is s t line room text answered ∙ ap (λ (f : Form). workIn line f s t .text) q ∙ d,
     )
 
-    -- An accepted `(append P TREE)` leaves the stored tree with TREE as the last child of every node that is done, and of no other, and says how many these are.
-    pub append-lands : (p : Part) (m : ℕ) → readForm line ≡ form.Append p m
-        → Lands place.Append (doneIn change.Append s t (bytesOf line p)) new t (step s t line room .table)
-        × (text ≡ doneText (markCount (marksIn s t (bytesOf line p))) (markCount (doneIn change.Append s t (bytesOf line p))))
-    append-lands p m q = marked-by change.Append place.Append p m (form.Append p m) q refl refl (subst (Fits line) q (form-fits line))
-
-    -- An accepted `(before P TREE)`: directly before every node that is done.
-    pub before-lands : (p : Part) (m : ℕ) → readForm line ≡ form.Before p m
-        → Lands place.Before (doneIn change.Before s t (bytesOf line p)) new t (step s t line room .table)
-        × (text ≡ doneText (markCount (marksIn s t (bytesOf line p))) (markCount (doneIn change.Before s t (bytesOf line p))))
-    before-lands p m q = marked-by change.Before place.Before p m (form.Before p m) q refl refl (subst (Fits line) q (form-fits line))
-
-    -- An accepted `(after P TREE)`: directly after every node that is done.
-    pub after-lands : (p : Part) (m : ℕ) → readForm line ≡ form.After p m
-        → Lands place.After (doneIn change.After s t (bytesOf line p)) new t (step s t line room .table)
-        × (text ≡ doneText (markCount (marksIn s t (bytesOf line p))) (markCount (doneIn change.After s t (bytesOf line p))))
-    after-lands p m q = marked-by change.After place.After p m (form.After p m) q refl refl (subst (Fits line) q (form-fits line))
+    -- An accepted insertion leaves the stored tree with TREE at every node that is done, and at no other, and says how many these are: `(append P TREE)` as its last
+    -- child, `(before P TREE)` directly before it, `(after P TREE)` directly after it.
+    pub insert-lands : (at : Place) (p : Part) (m : ℕ) → readForm line ≡ formAt at p m
+        → Lands at (doneIn (changeAt at) s t (bytesOf line p)) new t (step s t line room .table)
+        × (text ≡ doneText (markCount (marksIn s t (bytesOf line p))) (markCount (doneIn (changeAt at) s t (bytesOf line p))))
+    insert-lands place.Append p m q = marked-by change.Append place.Append p m (form.Append p m) q refl refl (subst (Fits line) q (form-fits line))
+    insert-lands place.Before p m q = marked-by change.Before place.Before p m (form.Before p m) q refl refl (subst (Fits line) q (form-fits line))
+    insert-lands place.After p m q = marked-by change.After place.After p m (form.After p m) q refl refl (subst (Fits line) q (form-fits line))
 
     -- An accepted `(child TREE)`: "last child of the root".
     pub child-lands : (m : ℕ) → readForm line ≡ form.Child m → Lands place.Append rootAlone new t (step s t line room .table) × (text ≡ okText)

@@ -8,58 +8,51 @@ use lib.ListN.{getD}
 use Rattle.rights.specs.Bytes.{bytes}
 use Rattle.rights.specs.Marks.{markCount}
 use Rattle.rights.specs.Nodes.{node, levelAt, labelAt}
-use Rattle.rights.specs.Tree.{Tree, tree, none, sizeOf}
+use Rattle.rights.specs.Tree.{Tree, tree, none, nodesOf, sizeOf}
 use Rattle.views.specs.Shown.{grants}
 use Rattle.views.specs.StoredTree.{HoldsTree, Lands}
-use Rattle.views.specs.declared.done.Change.the-variants as change
+use Rattle.views.specs.declared.insert.Place.{Place}
 use Rattle.views.specs.declared.insert.Place.the-variants as place
 use Rattle.answers.specs.Answer.{okText, doneText, noneLine, hitLine}
 use Rattle.answers.specs.AnswerTree.{Printed}
-use Rattle.forms.specs.Command.{written, GoodCommand}
+use Rattle.forms.specs.Command.{Command, written, GoodCommand}
 use Rattle.forms.specs.Command as command
+use Rattle.forms.specs.Form.{readForm, treeIn}
+use Rattle.forms.specs.declared.form.Part.{Part}
 use Rattle.forms.specs.declared.form.Form.{Form}
 use Rattle.forms.proofs.CommandLaws.{written-read}
 use Rattle.lines.specs.Outcome.{says}
 use Rattle.lines.specs.UserView.{rightsIn, viewIn, marksIn, doneIn, FirstSelected, NoneSelected}
 use Rattle.lines.specs.Clause.{clause}
-use Rattle.lines.specs.Work.{rootAlone}
-use Rattle.store.specs.Line.{step}
+use Rattle.lines.specs.Work.{rootAlone, changeAt}
+use Rattle.store.specs.Line.{bytesOf, step}
 use Rattle.store.proofs.ClauseLaws.{find-clause, find-clause-none}
 use Rattle.guarantee.proofs.Accepted.{answer-is}
 use Rattle.guarantee.proofs.FormLaws.{workIn}
-use Rattle.guarantee.proofs.InsertionStep.{root-lands, append-lands, before-lands, after-lands, child-lands}
+use Rattle.guarantee.proofs.InsertionStep.{formAt, root-lands, insert-lands, child-lands}
 use Rattle.guarantee.proofs.ViewStep.{view-of-hidden-root, view-of-shown-root}
 
+-- `(append P TREE)`, `(before P TREE)`, `(after P TREE)`, and their forms
+abbrev pub insertCommand : Place → List ℕ → Tree → Command
+insertCommand place.Append path new = command.append path new
+insertCommand place.Before path new = command.before path new
+insertCommand place.After path new = command.after path new
+
+insert-read : (at : Place) (path : List ℕ) (new : Tree) → GoodCommand (insertCommand at path new) → (x : Part) × (readForm (written (insertCommand at path new)) ≡ formAt at x (sizeOf new))
+    × (bytesOf (written (insertCommand at path new)) x ≡ path) × (treeIn (written (insertCommand at path new)) ≡ nodesOf 0 new)
+insert-read place.Append path new g = written-read (command.append path new) g
+insert-read place.Before path new g = written-read (command.before path new) g
+insert-read place.After path new g = written-read (command.after path new) g
+
 module _ (s t : List ℕ) (room : ℕ) (text : List ℕ) where
-  -- `(append P TREE)`
-  pub append-written : (path : List ℕ) (new : Tree) → GoodCommand (command.append path new) → step s t (written (command.append path new)) room .reply ≡ says text
-      → Lands place.Append (doneIn change.Append s t path) new t (step s t (written (command.append path new)) room .table)
-      × (text ≡ doneText (markCount (marksIn s t path)) (markCount (doneIn change.Append s t path)))
-  append-written path new g a =
-      let line : List ℕ = written (command.append path new) in
-      let w = written-read (command.append path new) g in
-      subst (λ (p : List ℕ). Lands place.Append (doneIn change.Append s t p) new t (step s t line room .table) × (text ≡ doneText (markCount (marksIn s t p)) (markCount (doneIn change.Append s t p))))
-      (w .2) (append-lands s t line room text a new (w .3) (w .0) (sizeOf new) (w .1))
-
-  -- `(before P TREE)`
-  pub before-written : (path : List ℕ) (new : Tree) → GoodCommand (command.before path new) → step s t (written (command.before path new)) room .reply ≡ says text
-      → Lands place.Before (doneIn change.Before s t path) new t (step s t (written (command.before path new)) room .table)
-      × (text ≡ doneText (markCount (marksIn s t path)) (markCount (doneIn change.Before s t path)))
-  before-written path new g a =
-      let line : List ℕ = written (command.before path new) in
-      let w = written-read (command.before path new) g in
-      subst (λ (p : List ℕ). Lands place.Before (doneIn change.Before s t p) new t (step s t line room .table) × (text ≡ doneText (markCount (marksIn s t p)) (markCount (doneIn change.Before s t p))))
-      (w .2) (before-lands s t line room text a new (w .3) (w .0) (sizeOf new) (w .1))
-
-  -- `(after P TREE)`
-  pub after-written : (path : List ℕ) (new : Tree) → GoodCommand (command.after path new) → step s t (written (command.after path new)) room .reply ≡ says text
-      → Lands place.After (doneIn change.After s t path) new t (step s t (written (command.after path new)) room .table)
-      × (text ≡ doneText (markCount (marksIn s t path)) (markCount (doneIn change.After s t path)))
-  after-written path new g a =
-      let line : List ℕ = written (command.after path new) in
-      let w = written-read (command.after path new) g in
-      subst (λ (p : List ℕ). Lands place.After (doneIn change.After s t p) new t (step s t line room .table) × (text ≡ doneText (markCount (marksIn s t p)) (markCount (doneIn change.After s t p))))
-      (w .2) (after-lands s t line room text a new (w .3) (w .0) (sizeOf new) (w .1))
+  pub insert-written : (at : Place) (path : List ℕ) (new : Tree) → GoodCommand (insertCommand at path new) → step s t (written (insertCommand at path new)) room .reply ≡ says text
+      → Lands at (doneIn (changeAt at) s t path) new t (step s t (written (insertCommand at path new)) room .table)
+      × (text ≡ doneText (markCount (marksIn s t path)) (markCount (doneIn (changeAt at) s t path)))
+  insert-written at path new g a =
+      let line : List ℕ = written (insertCommand at path new) in
+      let w = insert-read at path new g in
+      subst (λ (p : List ℕ). Lands at (doneIn (changeAt at) s t p) new t (step s t line room .table) × (text ≡ doneText (markCount (marksIn s t p)) (markCount (doneIn (changeAt at) s t p))))
+      (w .2) (insert-lands s t line room text a new (w .3) at (w .0) (sizeOf new) (w .1))
 
   -- `(child TREE)`
   pub child-written : (new : Tree) → GoodCommand (command.child new) → step s t (written (command.child new)) room .reply ≡ says text
