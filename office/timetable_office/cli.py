@@ -1,0 +1,317 @@
+"""The command `timetable-office`."""
+
+from __future__ import annotations
+
+import argparse
+import json
+import os
+import resource
+import sys
+from typing import Any, Callable, Sequence
+
+from timetable_office import __version__, refusals
+from timetable_office.errors import DONE, INTERRUPTED, NOT_TAKEN, InputError, LibraryError, OfficeError, OutputError
+from timetable_office.export import export_lines, policy_lines
+from timetable_office.formats import LOG_FORMATS, VIEW_FORMATS
+from timetable_office.library import LIBRARY_VARIABLE, RECORDS_MAXIMUM, Library
+from timetable_office.lines import STANDARD_INPUT, Lines, read_lines
+from timetable_office.replace import replace_policy
+from timetable_office.runs import Answered, RefusedLine, run_lines
+from timetable_office.state import read_policy
+from timetable_office.store import WAIT_SECONDS, Contents, Store, create_store
+from timetable_office.tree import read_table, read_view
+from timetable_office.views import view_of
+
+PROGRAM = "timetable-office"
+STACK_BYTES = 4 << 20
+_PROGRESS_STEP = 100
+_STATUS = """exit status:
+  0  everything was done
+  1  a line was refused or a name is unknown; the store is as it was, but for `run --keep-going`
+  2  the command line is wrong
+  3  the store, the library or a file cannot be used; the store is as it was
+"""
+
+
+def say(text: str) -> None:
+    """A message to the user, on standard error."""
+    print(text, file=sys.stderr)
+
+
+def complain(text: str) -> None:
+    """A message on what went wrong: red where a terminal shows it."""
+    plain = not sys.stderr.isatty() or "NO_COLOR" in os.environ
+    say(text if plain else f"\x1b[31m{text}\x1b[0m")
+
+
+def put(text: str | bytes) -> None:
+    """Writes to standard output, all of it and at once, so that a full disk or a closed pipe is an error here."""
+    data = text.encode("utf-8") if isinstance(text, str) else text
+    try:
+        sys.stdout.buffer.write(data)
+        sys.stdout.buffer.flush()
+    except OSError as error:
+        # nothing is left for the interpreter to write when it ends
+        os.dup2(os.open(os.devnull, os.O_WRONLY), sys.stdout.fileno())
+        raise OutputError(f"the answer cannot be written: {error.strerror}") from error
+
+
+def show_progress(total: int) -> Callable[[int], None]:
+    """A line that counts, on a terminal alone."""
+    if not sys.stderr.isatty() or total < 2 * _PROGRESS_STEP:
+        return lambda count: None
+
+    def count_up(count: int) -> None:
+        """Writes the count over the one before."""
+        if count % _PROGRESS_STEP == 0 or count == total:
+            print(f"\r{count:,} of {total:,} lines", end="\n" if count == total else "", file=sys.stderr, flush=True)
+
+    return count_up
+
+
+def counted(number: int, word: str) -> str:
+    """A number with its word: `1 line`, `2 lines`."""
+    return f"{number:,} {word}" if number == 1 else f"{number:,} {word}s"
+
+
+def new(options: argparse.Namespace) -> int:
+    """Makes an empty store."""
+    library = Library(options.library)
+    session = library.session(options.records)
+    if not session.is_store():
+        raise LibraryError(f"the library {library.path} does not take an empty store")
+    create_store(options.store, Contents(session.state, session.table))
+    say(f"{options.store}: an empty store for {counted(options.records, 'node')}")
+    return DONE
+
+
+def take_lines(source: str) -> Lines:
+    """The lines of a file; a last line without its line feed is taken, and told."""
+    if source == STANDARD_INPUT and sys.stdin.isatty():
+        say("type lines, and end with Ctrl-D")
+    given = read_lines(source)
+    if not given.last_line_feed:
+        say(f"{given.at(given.lines[-1])}: note: the last line has no line feed; it counts as a line all the same")
+    return given
+
+
+def run(options: argparse.Namespace) -> int:
+    """Gives lines to a store, all of them or none."""
+    library = Library(options.library)
+    with Store(options.store, options.wait) as store:
+        given = take_lines(options.file)
+        with store.transaction():
+            session = store.session(library)
+            try:
+                done = run_lines(
+                    session, given, keep_going=options.keep_going, progress=show_progress(len(given.lines))
+                )
+            except RefusedLine as refused:
+                if options.json:
+                    put(run_json(given, [refused.answered], kept=False))
+                raise
+            for answered in done.refused():
+                complain(f"{given.at(answered.line)}: {answered.complaint()}")
+            if options.json:
+                put(run_json(given, done.answered, kept=True))
+            elif not options.quiet:
+                put(b"".join(answer_text(answered) for answered in done.answered))
+            store.write(Contents(done.state, done.table), "run", done.log)
+    return NOT_TAKEN if done.refused() else DONE
+
+
+def answer_text(answered: Answered) -> bytes:
+    """What the program `timetable` prints for a line."""
+    return b"(refused %d)\n" % answered.refused.number if answered.refused else answered.answer
+
+
+def run_json(given: Lines, answered: Sequence[Answered], kept: bool) -> str:
+    """A run as JSON: whether the store keeps it, and each line with its answer or its refusal."""
+    lines: list[dict[str, Any]] = []
+    for one in answered:
+        line: dict[str, Any] = {"line": one.line.number, "form": one.form}
+        if one.refused:
+            line |= {"refused": one.refused.number, "reason": refusals.reason(one.refused.number), "advice": one.advice}
+        else:
+            line |= {"answer": one.answer.decode("ascii").splitlines()}
+        lines.append(line)
+    return json.dumps({"file": given.name, "kept": kept, "lines": lines}, indent=2) + "\n"
+
+
+def policy(options: argparse.Namespace) -> int:
+    """Gives a stored tree a new policy."""
+    library = Library(options.library)
+    with Store(options.store, options.wait) as store:
+        given = take_lines(options.file)
+        with store.transaction():
+            made = replace_policy(store.session(library), given)
+            store.write(Contents(made.state, made.table), "policy", made.log)
+    held = read_policy(made.state)
+    numbers = {"subject": len(held.subjects), "isa line": len(held.isa), "rule": len(held.rules)}
+    parts = ", ".join(counted(number, word) for word, number in numbers.items())
+    say(f"{options.store}: {parts} over {counted(len(read_table(made.table)), 'node')}")
+    return DONE
+
+
+def show(options: argparse.Namespace) -> int:
+    """Shows what one subject sees. The store stays as it is."""
+    library = Library(options.library)
+    with Store(options.store, options.wait) as store:
+        answer = view_of(store.session(library), options.name)
+    put(VIEW_FORMATS[options.format](options.name, answer))
+    if not read_view(answer):
+        say(f"{options.name} is shown nothing")
+    return DONE
+
+
+def log(options: argparse.Namespace) -> int:
+    """Prints the log."""
+    with Store(options.store, options.wait) as store:
+        put(LOG_FORMATS[options.format](store.entries()))
+    return DONE
+
+
+def export(options: argparse.Namespace) -> int:
+    """Prints the lines that give the store's policy and tree."""
+    library = Library(options.library)
+    with Store(options.store, options.wait) as store:
+        session = store.session(library)
+    lines = policy_lines(session) if options.policy else export_lines(session)
+    put(b"".join(line + b"\n" for line in lines))
+    return DONE
+
+
+def record_count(text: str) -> int:
+    """A number of records, for argparse."""
+    number = int(text.replace(",", ""))
+    if not 1 <= number <= RECORDS_MAXIMUM:
+        raise argparse.ArgumentTypeError(f"a table has 1 to {RECORDS_MAXIMUM:,} records")
+    return number
+
+
+def make_parser() -> argparse.ArgumentParser:
+    """The command line."""
+    common = argparse.ArgumentParser(add_help=False)
+    common.add_argument("--library", metavar="FILE", help=f"the proved library; also in {LIBRARY_VARIABLE}")
+    common.add_argument(
+        "--wait",
+        metavar="SECONDS",
+        type=float,
+        default=WAIT_SECONDS,
+        help="how long to wait for another command on the same store (%(default)g)",
+    )
+    parser = argparse.ArgumentParser(
+        prog=PROGRAM,
+        description="Keeps a school's timetable in one file, and shows each reader what the rules allow.",
+        epilog=_STATUS,
+        formatter_class=argparse.RawDescriptionHelpFormatter,
+    )
+    parser.add_argument("--version", action="version", version=f"%(prog)s {__version__}")
+    commands = parser.add_subparsers(title="commands", metavar="COMMAND", required=True)
+
+    def command(
+        name: str, work: Callable[[argparse.Namespace], int], summary: str, text: str
+    ) -> argparse.ArgumentParser:
+        """A command with what all commands have."""
+        added = commands.add_parser(
+            name,
+            parents=[common],
+            help=summary,
+            description=text,
+            epilog=_STATUS,
+            formatter_class=argparse.RawDescriptionHelpFormatter,
+        )
+        added.add_argument("store", metavar="STORE", help="the file of the store")
+        added.set_defaults(work=work)
+        return added
+
+    made = command("new", new, "make an empty store", "Makes an empty store. A file that is there is never replaced.")
+    made.add_argument(
+        "--records",
+        metavar="N",
+        type=record_count,
+        default=RECORDS_MAXIMUM,
+        help="how many nodes it has room for, the hidden ones too: give it room to spare (%(default)s)",
+    )
+
+    made = command(
+        "run",
+        run,
+        "give lines to a store",
+        "Gives the lines of a file to a store and prints their answers. The first refused line ends it, and the store\n"
+        "stays as it was. A login lasts to the end of the run: the next one begins with nobody logged in.",
+    )
+    add_file(made)
+    made.add_argument("--keep-going", action="store_true", help="pass over refused lines, as timetable does")
+    made.add_argument("-q", "--quiet", action="store_true", help="print no answers")
+    made.add_argument("--json", action="store_true", help="print the answers as JSON")
+
+    made = command(
+        "policy",
+        policy,
+        "give a stored tree new rules",
+        "Replaces the policy by the subject, isa and rule lines of a file. The tree stays as it is.",
+    )
+    add_file(made)
+
+    made = command(
+        "show",
+        show,
+        "show what one reader sees",
+        "Shows what this one subject sees. The store stays as it is.",
+    )
+    made.add_argument("--as", dest="name", metavar="NAME", required=True, help="the subject whose view it is")
+    add_format(made, VIEW_FORMATS)
+
+    made = command(
+        "log",
+        log,
+        "list who gave which form when",
+        "Lists who gave which form when, with its counts. It holds no label of the tree and no path.",
+    )
+    add_format(made, LOG_FORMATS)
+
+    made = command(
+        "export",
+        export,
+        "print lines that give this store again",
+        "Prints lines that give the policy and the tree of a store. They are tried on an empty store first.",
+    )
+    made.add_argument("--policy", action="store_true", help="the policy alone, for `policy` to read when it is edited")
+    return parser
+
+
+def add_file(parser: argparse.ArgumentParser) -> None:
+    """The list of lines that a command reads."""
+    words = "a list of lines; - is standard input"
+    parser.add_argument("file", metavar="FILE", nargs="?", default=STANDARD_INPUT, help=words)
+
+
+def add_format(parser: argparse.ArgumentParser, formats: dict[str, Any]) -> None:
+    """The options `--format` and `--json`."""
+    parser.add_argument("--format", choices=list(formats), default="text", help="how to print it (%(default)s)")
+    parser.add_argument("--json", dest="format", action="store_const", const="json", help="the same as --format json")
+
+
+def check_stack() -> None:
+    """The library needs 2 MiB of stack, and Python some more."""
+    limit = resource.getrlimit(resource.RLIMIT_STACK)[0]
+    if limit != resource.RLIM_INFINITY and limit < STACK_BYTES:
+        raise LibraryError(f"the stack is limited to {limit >> 10:,} KiB; `ulimit -s 8192` gives the library enough")
+
+
+def main(words: Sequence[str] | None = None) -> int:
+    """Runs one command and returns its exit status."""
+    options = make_parser().parse_args(words)
+    try:
+        check_stack()
+        status: int = options.work(options)
+        return status
+    except OfficeError as error:
+        complain(str(error) if isinstance(error, RefusedLine) else f"{PROGRAM}: {error}")
+        if isinstance(error, InputError) and options.work in (run, policy):
+            say(f"{PROGRAM}: {options.store} is as it was")
+        return error.status
+    except KeyboardInterrupt:
+        complain(f"{PROGRAM}: interrupted; {options.store} is as it was")
+        return INTERRUPTED

@@ -1,0 +1,150 @@
+"""The lines that give a policy and a tree.
+
+A `child` line gives a whole tree below the root, so by child lines alone a tree below the root has to fit 1,024 bytes.
+A larger one is given with its first nodes, in document order, and the others are added by `append` lines. Those need a
+login: a subject of this very policy who sees the whole tree and has insert where nodes are added. Without one, lines
+cannot give such a tree.
+
+The lines are given to an empty store before they are shown, and have to leave the same policy and the same table.
+"""
+
+from __future__ import annotations
+
+from bisect import bisect_right
+from typing import Iterator, Sequence
+
+from timetable_office.errors import InputError
+from timetable_office.library import LINE_MAXIMUM, Refused, Session
+from timetable_office.lines import Lines, split_lines
+from timetable_office.runs import run_lines
+from timetable_office.state import Stage, policy_part, read_policy, stage_of
+from timetable_office.tree import Node, read_table, subtree_end, tree_text
+
+_ONE_DONE = b"(done 1 1)\n"
+
+
+def policy_lines(session: Session) -> list[bytes]:
+    """The lines that give the policy of a store, checked by the library."""
+    lines = read_policy(session.state).lines()
+    empty = session.library.session(records=1)
+    run_lines(empty, _listed(lines))
+    if policy_part(empty.state) != policy_part(session.state):
+        raise InputError("the policy cannot be given by lines")
+    return lines
+
+
+def export_lines(session: Session) -> list[bytes]:
+    """The lines that give the policy and the tree of a store, checked by the library."""
+    lines = policy_lines(session)
+    nodes = read_table(session.table)
+    if nodes:
+        lines.append(b"(root " + nodes[0].label.encode("ascii") + b")")
+        child_lines, left = _child_lines(nodes)
+        lines += child_lines
+        if left:
+            lines += _append_lines(session, lines, nodes, left)
+    _check(session, lines)
+    return lines
+
+
+def _listed(lines: Sequence[bytes]) -> Lines:
+    return split_lines("export", b"".join(line + b"\n" for line in lines))
+
+
+def _fitting_end(nodes: Sequence[Node], start: int, room: int) -> int:
+    """The end of the longest run of nodes from `start`, all below it, whose text fits. It is `start` if none does."""
+    ends = range(start + 1, subtree_end(nodes, start) + 1)
+    fitting = bisect_right(ends, room, key=lambda end: len(tree_text(nodes[start:end])))
+    return start + fitting
+
+
+def _child_lines(nodes: Sequence[Node]) -> tuple[list[bytes], list[range]]:
+    """A child line for each tree below the root, and the places of the nodes that had no room in it."""
+    lines, left = [], []
+    start = 1
+    while start < len(nodes):
+        end = subtree_end(nodes, start)
+        fitting = _fitting_end(nodes, start, LINE_MAXIMUM - len(b"(child )"))
+        lines.append(b"(child " + tree_text(nodes[start:fitting]) + b")")
+        if fitting < end:
+            left.append(range(fitting, end))
+        start = end
+    return lines, left
+
+
+def _positions(nodes: Sequence[Node]) -> list[bytes]:
+    """For each node a path that selects it alone where every node is shown: `/*/*[2]/*[1]`."""
+    paths: list[bytes] = []
+    # for each level the number of siblings so far and the path of the last of them
+    siblings: list[int] = []
+    above: list[bytes] = []
+    for node in nodes:
+        del siblings[node.level + 1 :], above[node.level :]
+        if len(siblings) == node.level:
+            siblings.append(0)
+        siblings[node.level] += 1
+        path = b"/*" if node.level == 0 else above[node.level - 1] + b"/*[%d]" % siblings[node.level]
+        above.append(path)
+        paths.append(path)
+    return paths
+
+
+def _appends(nodes: Sequence[Node], left: Sequence[range]) -> Iterator[bytes]:
+    """Append lines for the nodes that are left, in document order: each parent and all before it are there by then."""
+    paths = _positions(nodes)
+    for places in left:
+        start = places.start
+        while start < places.stop:
+            parent = next(place for place in reversed(range(start)) if nodes[place].level < nodes[start].level)
+            head = b"(append " + paths[parent] + b" "
+            end = _fitting_end(nodes, start, LINE_MAXIMUM - len(head) - len(b")"))
+            yield head + tree_text(nodes[start:end]) + b")"
+            start = end
+
+
+def _append_lines(
+    session: Session, before: Sequence[bytes], nodes: Sequence[Node], left: Sequence[range]
+) -> list[bytes]:
+    """A login and append lines that complete the tree, for the first subject who may give them."""
+    appends = list(_appends(nodes, left))
+    made = session.library.session(records=session.records)
+    run_lines(made, _listed(before))
+    for name in read_policy(session.state).subjects:
+        lines = [f"(user {name})".encode("ascii"), *appends]
+        if _complete(made.copy(), lines, session.table):
+            return lines
+    large = [f"{nodes[_top(nodes, places.start)].label} (number {_number(nodes, places.start)})" for places in left]
+    raise InputError(
+        "lines cannot give this tree. Below the root, these have more than one child line of 1,024 bytes holds: "
+        f"{', '.join(large)}. The rest of them could be added by append lines, but no subject of this policy sees the "
+        "whole tree and has insert wherever nodes are to be added. `export --policy` gives the policy alone; "
+        "a copy of the store's file keeps both."
+    )
+
+
+def _complete(session: Session, lines: Sequence[bytes], table: bytes) -> bool:
+    """Whether a login and append lines that each add one tree lead to this table."""
+    try:
+        session.line(lines[0])
+        return all(session.line(line) == _ONE_DONE for line in lines[1:]) and session.table == table
+    except Refused:
+        return False
+
+
+def _top(nodes: Sequence[Node], place: int) -> int:
+    """The place of the child of the root above a node."""
+    return next(top for top in reversed(range(place + 1)) if nodes[top].level == 1)
+
+
+def _number(nodes: Sequence[Node], place: int) -> int:
+    """Which child of the root is above a node, from 1."""
+    return sum(1 for node in nodes[: _top(nodes, place) + 1] if node.level == 1)
+
+
+def _check(session: Session, lines: Sequence[bytes]) -> None:
+    """The lines, given to an empty store, leave the same policy and table, and a stage that takes the same forms."""
+    run = run_lines(session.library.session(records=session.records), _listed(lines))
+    # once there is a root, a store takes the same forms whether or not it has had a child line
+    stages = [min(stage_of(state), Stage.ROOT) for state in (run.state, session.state)]
+    if policy_part(run.state) != policy_part(session.state) or run.table != session.table or stages[0] != stages[1]:
+        raise InputError("the lines of this store do not give the same store again; nothing is exported")

@@ -1,0 +1,159 @@
+"""The proved library by ctypes: a module of its own, which other programs may import.
+
+    from timetable_office.library import Library, Refused
+
+    session = Library("liblouvretansy.so").session(records=1024)
+    session.line(b"(subject staff)")             # b"(ok)\\n"
+    try:
+        session.line(b"(view)")
+    except Refused as refused:
+        print(refused)                           # refused 3: its form does not fit the stage: ..
+
+A call needs 2 MiB of stack, which the main thread has unless `ulimit -s` is set below that.
+"""
+
+from __future__ import annotations
+
+import ctypes
+import ctypes.util
+import os
+import threading
+from pathlib import Path
+
+from timetable_office import refusals
+from timetable_office.errors import InputError, LibraryError
+
+# As in include/timetable.h and docs/FORMAT.md.
+RECORDS_MAXIMUM = 16_384
+RECORD_BYTES = 32
+COUNT_BYTES = 4
+LINE_MAXIMUM = 1_024
+
+LIBRARY_VARIABLE = "TIMETABLE_LIBRARY"
+LIBRARY_NAME = "louvretansy"
+LIBRARY_FILE = f"lib{LIBRARY_NAME}.so"
+
+
+class Refused(InputError):
+    """A line that the library refused; nothing has changed."""
+
+    def __init__(self, number: int) -> None:
+        super().__init__(f"refused {number}: {refusals.reason(number)}")
+        self.number = number
+
+
+def table_bytes(records: int) -> int:
+    """The bytes of a table of so many records."""
+    return COUNT_BYTES + RECORD_BYTES * records
+
+
+def area_bytes(records: int) -> int:
+    """An area that no answer outgrows, for a table of so many records."""
+    return 12 + 35 * min(records, RECORDS_MAXIMUM)
+
+
+def find_library(given: str | os.PathLike[str] | None = None) -> str:
+    """Where the library is: as given, as the environment variable says, beside this package, or in the system.
+
+    A file that was named and is not there is an error: no other library stands in for it.
+    """
+    for said, place in (("", given), (f" ({LIBRARY_VARIABLE} names it)", os.environ.get(LIBRARY_VARIABLE))):
+        if place:
+            path = Path(place).absolute()
+            if not path.is_file():
+                raise LibraryError(f"there is no library at {path}{said}")
+            return str(path)
+    beside = Path(__file__).absolute().with_name(LIBRARY_FILE)
+    if beside.is_file():
+        return str(beside)
+    system = ctypes.util.find_library(LIBRARY_NAME)
+    if system:
+        return system
+    raise LibraryError(
+        f"the library {LIBRARY_FILE} was not found: name it with --library FILE or in {LIBRARY_VARIABLE}, "
+        f"put it beside {beside.parent}, or install it in the system"
+    )
+
+
+class Library:
+    """The functions of the shared library."""
+
+    def __init__(self, path: str | os.PathLike[str] | None = None) -> None:
+        self.path = find_library(path)
+        try:
+            functions = ctypes.CDLL(self.path)
+        except OSError as error:
+            raise LibraryError(f"{self.path} cannot be loaded as a library: {error}") from error
+        try:
+            self._state_bytes = functions.timetable_state_bytes
+            self._line = functions.timetable_line
+        except AttributeError as error:
+            raise LibraryError(f"{self.path} is another library, or of another version: {error}") from error
+        pointer, size = ctypes.POINTER(ctypes.c_uint8), ctypes.c_size_t
+        self._state_bytes.argtypes = []
+        self._state_bytes.restype = size
+        self._line.argtypes = [pointer, size, pointer, size, ctypes.c_char_p, size, pointer, size]
+        self._line.restype = ctypes.c_int64
+        self.state_bytes = int(self._state_bytes())
+
+    def call(
+        self,
+        state: ctypes.Array[ctypes.c_uint8],
+        table: ctypes.Array[ctypes.c_uint8],
+        line: bytes,
+        area: ctypes.Array[ctypes.c_uint8],
+    ) -> int:
+        """One call of `timetable_line` on lent arrays: the answer's length, or minus the number of a refusal."""
+        return int(self._line(state, len(state), table, len(table), line, len(line), area, len(area)))
+
+    def session(self, records: int) -> Session:
+        """A session on an empty store whose table has so many records."""
+        return Session(self, bytes(self.state_bytes), bytes(table_bytes(records)))
+
+
+class Session:
+    """A state and a table, kept as ctypes arrays, with an area for every answer.
+
+    The bytes are copies: nobody else writes them. Two threads may share a session; their lines take turns.
+    """
+
+    def __init__(self, library: Library, state: bytes, table: bytes) -> None:
+        """A session on these bytes. If they are no store, every line is refused with 13."""
+        self.library = library
+        self._state = (ctypes.c_uint8 * len(state)).from_buffer_copy(state)
+        self._table = (ctypes.c_uint8 * len(table)).from_buffer_copy(table)
+        self.records = max(0, len(table) - COUNT_BYTES) // RECORD_BYTES
+        self._area = (ctypes.c_uint8 * area_bytes(self.records))()
+        self._turn = threading.Lock()
+
+    def line(self, text: bytes) -> bytes:
+        """The answer to one line, which is given without its line feed. Raises `Refused`; then nothing has changed."""
+        with self._turn:
+            returned = self.library.call(self._state, self._table, text, self._area)
+            if returned < 0:
+                raise Refused(-returned)
+            return ctypes.string_at(self._area, returned)
+
+    def is_store(self) -> bool:
+        """Whether the library takes these bytes for a store. It tests that before it looks at a line."""
+        try:
+            self.line(b"")
+        except Refused as refused:
+            return refused.number != refusals.BAD_STORE
+        return True
+
+    @property
+    def state(self) -> bytes:
+        """The bytes of the state as they are now."""
+        with self._turn:
+            return bytes(self._state)
+
+    @property
+    def table(self) -> bytes:
+        """The bytes of the table as they are now."""
+        with self._turn:
+            return bytes(self._table)
+
+    def copy(self) -> Session:
+        """Another session on copies of these bytes."""
+        return Session(self.library, self.state, self.table)

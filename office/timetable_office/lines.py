@@ -1,0 +1,163 @@
+"""Lists of lines as users write them: reading a file, and what to say about a line that is refused."""
+
+from __future__ import annotations
+
+import difflib
+import re
+import sys
+from dataclasses import dataclass
+from pathlib import Path
+
+from timetable_office import refusals
+from timetable_office.errors import OfficeError
+from timetable_office.library import COUNT_BYTES, LINE_MAXIMUM, Session
+from timetable_office.state import Stage, read_policy, stage_of
+
+STANDARD_INPUT = "-"
+_FORM = re.compile(rb"\(([a-z]+)[ )]")
+_ENCODING_MARKS = {
+    b"\xef\xbb\xbf": "the file begins with a byte order mark: save it as plain text without one",
+    b"\xff\xfe": "the file is saved as UTF-16: save it as plain ASCII text",
+    b"\xfe\xff": "the file is saved as UTF-16: save it as plain ASCII text",
+}
+# Where the names of declared subjects stand among the words of a form.
+_NAMES = {b"user": (1,), b"isa": (1, 2), b"rule": (-1,)}
+
+
+@dataclass(frozen=True)
+class Line:
+    """A line without its line feed, and its number from 1."""
+
+    number: int
+    text: bytes
+
+
+@dataclass(frozen=True)
+class Lines:
+    """A list of lines, and what it is called in messages."""
+
+    name: str
+    lines: tuple[Line, ...]
+    last_line_feed: bool
+
+    def at(self, line: Line) -> str:
+        """The place of a line: `FILE:LINE`."""
+        return f"{self.name}:{line.number}"
+
+
+def split_lines(name: str, data: bytes) -> Lines:
+    """The lines of a text: each ends at a line feed; the last one, if it is not empty, may lack it."""
+    *texts, rest = data.split(b"\n")
+    if rest:
+        texts.append(rest)
+    return Lines(name, tuple(Line(number, text) for number, text in enumerate(texts, 1)), not rest)
+
+
+def read_lines(source: str) -> Lines:
+    """All lines of a file, or of standard input."""
+    if source == STANDARD_INPUT:
+        return split_lines("standard input", sys.stdin.buffer.read())
+    try:
+        return split_lines(source, Path(source).read_bytes())
+    except OSError as error:
+        raise OfficeError(f"{source} cannot be read: {error.strerror}") from error
+
+
+def form_of(text: bytes, refused: int | None = None) -> str | None:
+    """The word of a line's form, where the library took the line for a form at all. No other word of it is told."""
+    if refused in (refusals.LINE_BYTES, refusals.NO_FORM, refusals.BAD_STORE):
+        return None
+    word = _FORM.match(text)
+    return word[1].decode("ascii") if word else None
+
+
+def explain(text: bytes, number: int, session: Session) -> str:
+    """What helps with a refused line, beyond the reason for its number; it may be nothing."""
+    advisers = {
+        refusals.LINE_BYTES: _explain_bytes,
+        refusals.NO_FORM: _explain_form,
+        refusals.WRONG_STAGE: _explain_stage,
+        refusals.BAD_NAME: _explain_name,
+        refusals.NO_USER: _explain_user,
+        refusals.TABLE_FULL: _explain_room,
+    }
+    adviser = advisers.get(number)
+    return adviser(text, session) if adviser else ""
+
+
+def _explain_bytes(text: bytes, session: Session) -> str:
+    said = [words for mark, words in _ENCODING_MARKS.items() if text.startswith(mark)]
+    body = text.removesuffix(b"\r")
+    if body != text:
+        said.append("the line ends with CR LF, as Windows writes it: save the file with LF line ends")
+    if not text.startswith(tuple(_ENCODING_MARKS)):
+        odd = re.search(rb"[^ -~]+", body)
+        if odd:
+            said.append(f"byte {odd.start() + 1} of the line: {odd[0].decode('utf-8', 'replace')!r}")
+    if len(body) > LINE_MAXIMUM:
+        said.append(f"the line has {len(body):,} bytes")
+        if body.startswith(b"(child "):
+            said.append(
+                "give this tree with its first nodes, and after all child lines the others by append lines "
+                "of a subject who has read and insert there"
+            )
+    return "; ".join(said)
+
+
+def _explain_form(text: bytes, session: Session) -> str:
+    if not text:
+        return "the line is empty"
+    if text.startswith(b"#"):
+        return "a list of lines has no comments"
+    if text != text.strip(b" "):
+        return "a space stands before or after the form"
+    opened, closed = text.count(b"("), text.count(b")")
+    if opened != closed:
+        return f"parentheses: {_are(opened)} opened and {_are(closed)} closed"
+    if b"  " in text:
+        return "two spaces stand together"
+    return ""
+
+
+def _are(number: int) -> str:
+    return f"{number} is" if number == 1 else f"{number} are"
+
+
+def _explain_stage(text: bytes, session: Session) -> str:
+    stage = stage_of(session.state)
+    form = form_of(text)
+    if form in ("subject", "isa", "rule") and stage >= Stage.ROOT:
+        return "the policy is fixed once the root is there; `timetable-office policy` gives new rules to a stored tree"
+    if form == "child" and stage == Stage.WORK:
+        return "child lines come before the first user line of a run"
+    if stage < Stage.ROOT and form not in ("subject", "isa", "rule"):
+        return "there is no root yet"
+    return ""
+
+
+def _explain_name(text: bytes, session: Session) -> str:
+    known = read_policy(session.state).subjects
+    words = text.removeprefix(b"(").removesuffix(b")").split(b" ")
+    said = []
+    for place in _NAMES.get(words[0], ()):
+        name = words[place].decode("ascii")
+        if name not in known:
+            said.append(suggest_name(name, known))
+    return "; ".join(said)
+
+
+def suggest_name(name: str, known: tuple[str, ...]) -> str:
+    """That no subject has this name, and which one may be meant."""
+    lower = {other.lower(): other for other in known}
+    near = difflib.get_close_matches(name.lower(), lower, n=1)
+    question = f"; did you mean {lower[near[0]]}?" if near else ""
+    return f"no subject is declared as {name}{question}"
+
+
+def _explain_user(text: bytes, session: Session) -> str:
+    return "put a (user NAME) line before it; a login ends with its run"
+
+
+def _explain_room(text: bytes, session: Session) -> str:
+    used = int.from_bytes(session.table[:COUNT_BYTES], "little")
+    return f"the table has {session.records:,} records, and {used:,} are in use"

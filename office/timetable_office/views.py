@@ -1,0 +1,34 @@
+"""The view of one reader: made for exactly that subject, on a copy of the store's state."""
+
+from __future__ import annotations
+
+from timetable_office import refusals
+from timetable_office.errors import InputError
+from timetable_office.library import Refused, Session
+from timetable_office.lines import suggest_name
+from timetable_office.state import read_policy, user_of
+
+_OK = b"(ok)\n"
+
+
+def log_in(session: Session, name: str) -> Session:
+    """A copy of the session with this subject logged in, and nobody else. The session itself stays as it is."""
+    reader = session.copy()
+    try:
+        answer = reader.line(b"(user " + name.encode("utf-8", "surrogateescape") + b")")
+    except Refused as refused:
+        if refused.number == refusals.WRONG_STAGE:
+            advice = "give it root and child lines with `timetable-office run`"
+            raise InputError(f"the store has no tree yet: {advice}") from refused
+        if refused.number != refusals.BAD_NAME:
+            raise InputError(f"{name!r} cannot be a name: {refused}") from refused
+        raise InputError(suggest_name(name, read_policy(session.state).subjects)) from refused
+    logged_in = user_of(reader.state)
+    if answer != _OK or logged_in != name:
+        raise InputError(f"the login of {name} did not go through: the library has {logged_in or 'nobody'} logged in")
+    return reader
+
+
+def view_of(session: Session, name: str) -> bytes:
+    """The answer to `(view)` for exactly this subject."""
+    return log_in(session, name).line(b"(view)")

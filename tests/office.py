@@ -1,0 +1,971 @@
+#!/usr/bin/env python3
+"""office.py [ARCHIVE]: tests of the companion `timetable-office`, each command as a user runs it, and what goes wrong
+with it. The library is made from the archive, target/staticlib/liblouvretansy.a unless another is named. Needs gcc.
+"""
+
+import ast
+import contextlib
+import csv
+import importlib
+import io
+import json
+import os
+import random
+import re
+import resource
+import shutil
+import signal
+import sqlite3
+import subprocess
+import sys
+import tempfile
+import time
+import tomllib
+import unittest
+
+sys.path.insert(0, os.path.dirname(os.path.abspath(__file__)))
+import timetable  # noqa: E402
+
+ROOT = timetable.ROOT
+OFFICE = os.path.join(ROOT, "office")
+sys.path.insert(0, OFFICE)
+from timetable_office import __version__, cli, refusals  # noqa: E402
+from timetable_office.export import export_lines  # noqa: E402
+from timetable_office.library import LINE_MAXIMUM, Library, Refused, Session  # noqa: E402
+from timetable_office.lines import split_lines  # noqa: E402
+from timetable_office.runs import run_lines  # noqa: E402
+from timetable_office.tree import Node, read_table, read_view, tree_text  # noqa: E402
+
+ARCHIVE = os.path.join(ROOT, "target", "staticlib", "liblouvretansy.a")
+KILLS = 40
+SECONDS = 60
+COLUMNS = 120
+# A label that stands nowhere but in the tree.
+NOTE = "Zx9-hidden-note"
+SETTING_UP = timetable.EXAMPLE[:-1]
+POLICY = SETTING_UP[:7]
+VIEW = "(root school)\n(child (mon (lesson (class (10B)) (room (R12)) (note (RESTRICTED)))))\n(end 9)\n"
+OUTLINE = (
+    "school\n  mon\n    lesson\n      class\n        10B\n      room\n        R12\n      note\n        RESTRICTED\n"
+)
+EDITOR = [
+    "(subject editor)",
+    "(rule accept read //* editor)",
+    "(rule accept insert //* editor)",
+    "(rule accept delete //* editor)",
+]
+
+library_file = ""
+library: Library
+
+
+def text_of(lines):
+    return "".join(line + "\n" for line in lines)
+
+
+def make_library(folder, archive):
+    """A shared library of the archive's functions."""
+    path = os.path.join(folder, "liblouvretansy.so")
+    subprocess.run(["gcc", "-shared", "-o", path, "-Wl,--whole-archive", archive, "-Wl,--no-whole-archive"], check=True)
+    return path
+
+
+class Office(unittest.TestCase):
+    """A folder of its own for each test, and the command run in it."""
+
+    def setUp(self):
+        self.folder = tempfile.mkdtemp()
+        self.addCleanup(shutil.rmtree, self.folder)
+        self.store = self.path("store")
+
+    def path(self, name):
+        return os.path.join(self.folder, name)
+
+    def write(self, name, data):
+        with open(self.path(name), "wb") as file:
+            file.write(data.encode() if isinstance(data, str) else data)
+        return self.path(name)
+
+    def read(self, name="store"):
+        with open(self.path(name), "rb") as file:
+            return file.read()
+
+    def command(self, words, before=()):
+        # -S: the standard library alone
+        return [*before, sys.executable, "-S", "-m", "timetable_office", *words]
+
+    def environment(self, **changes):
+        environment = {**os.environ, "PYTHONPATH": OFFICE, "TIMETABLE_LIBRARY": library_file, **changes}
+        return {name: value for name, value in environment.items() if value is not None}
+
+    def in_a_process(self, words, given=b"", before=(), environment=None, **more):
+        """Runs a command in a process of its own: its status, its standard output and its standard error."""
+        if "stdout" not in more:
+            more["stdout"] = subprocess.PIPE
+        environment = self.environment(**(environment or {}))
+        run = subprocess.run(
+            self.command(words, before),
+            input=given,
+            stderr=subprocess.PIPE,
+            cwd=self.folder,
+            env=environment,
+            timeout=SECONDS,
+            **more,
+        )
+        return run.returncode, (run.stdout or b"").decode(), run.stderr.decode()
+
+    def in_this_process(self, words, given=b""):
+        """The same, quicker."""
+        streams = [io.TextIOWrapper(io.BytesIO(data)) for data in (given, b"", b"")]
+        saved = sys.stdin, sys.stdout, sys.stderr, os.getcwd()
+        sys.stdin, sys.stdout, sys.stderr = streams
+        os.chdir(self.folder)
+        try:
+            status = cli.main(words)
+        except SystemExit as ended:
+            status = ended.code
+        finally:
+            sys.stdin, sys.stdout, sys.stderr = saved[:3]
+            os.chdir(saved[3])
+        for stream in streams[1:]:
+            stream.flush()
+        return status, streams[1].buffer.getvalue().decode(), streams[2].buffer.getvalue().decode()
+
+    def office(self, *words, given="", status=0, says="", process=False, **more):
+        """Runs a command: its status and what it says on standard error are as wanted. Returns what it prints."""
+        if isinstance(given, list):
+            given = text_of(given)
+        given = given.encode() if isinstance(given, str) else given
+        ended, printed, self.errors = (
+            self.in_a_process(words, given, **more) if process or more else self.in_this_process(words, given)
+        )
+        self.assertEqual(ended, status, self.errors)
+        self.assertNotIn("Traceback", self.errors)
+        self.assertIn(says, self.errors)
+        if status == 0 and not says:
+            self.assertEqual(self.errors, "")
+        return printed
+
+    def school(self, lines=(), records=64):
+        """A store with the school of document 01, and these lines after it."""
+        self.office("new", "store", "--records", str(records), says="an empty store")
+        self.office("run", "-q", "store", given=SETTING_UP + list(lines))
+
+    @contextlib.contextmanager
+    def unchanged(self):
+        """The folder has the same files with the same bytes before and after."""
+        before = {name: self.read(name) for name in os.listdir(self.folder)}
+        yield
+        self.assertEqual({name: self.read(name) for name in os.listdir(self.folder)}, before)
+
+    def holds(self, data):
+        """Whether any file of the folder has these bytes."""
+        return any(data in self.read(name) for name in os.listdir(self.folder))
+
+
+class Package(Office):
+    def test_version_and_help(self):
+        self.assertEqual(self.office("--version", process=True), f"timetable-office {__version__}\n")
+        for command in ("new", "run", "policy", "show", "log", "export"):
+            self.assertIn(command, self.office("--help"))
+            self.assertIn("STORE", self.office(command, "--help"))
+
+    def test_a_wrong_command_line(self):
+        self.office(status=2, says="usage:")
+        self.office("paint", "store", status=2, says="usage:")
+        self.office("show", "store", status=2, says="--as")
+
+    def test_the_installed_command(self):
+        with open(os.path.join(OFFICE, "pyproject.toml"), "rb") as file:
+            project = tomllib.load(file)["project"]
+        self.assertEqual(project["dependencies"], [])
+        module, _, function = project["scripts"]["timetable-office"].partition(":")
+        self.assertTrue(callable(getattr(importlib.import_module(module), function)))
+
+    def test_the_sources(self):
+        """Columns, type hints, docstrings, and nothing imported from outside the standard library."""
+        folder = os.path.join(OFFICE, "timetable_office")
+        for name in sorted(os.listdir(folder)):
+            if not name.endswith(".py"):
+                continue
+            with open(os.path.join(folder, name), encoding="ascii") as file:
+                source = file.read()
+            self.assertLessEqual(max(map(len, source.split("\n"))), COLUMNS, name)
+            tree = ast.parse(source)
+            self.assertTrue(ast.get_docstring(tree), name)
+            for node in ast.walk(tree):
+                if isinstance(node, ast.ImportFrom | ast.Import):
+                    modules = (
+                        [node.module] if isinstance(node, ast.ImportFrom) else [alias.name for alias in node.names]
+                    )
+                    for module in modules:
+                        self.assertIn(module.partition(".")[0], sys.stdlib_module_names | {"timetable_office"}, name)
+                if isinstance(node, ast.FunctionDef):
+                    self.assertIsNotNone(node.returns, f"{name}: {node.name}")
+                    self.assertTrue(node.name.startswith("_") or ast.get_docstring(node), f"{name}: {node.name}")
+
+
+class Refusals(Office):
+    """The one table of refusals, against the pages that have one."""
+
+    def page(self, name):
+        with open(os.path.join(ROOT, name), encoding="utf-8") as file:
+            return file.read()
+
+    def same_figures(self, texts):
+        """Every figure and every word in capitals of the table stands in the page's text too."""
+        for refusal in refusals.TABLE:
+            for figure in re.findall(r"[0-9][0-9,]*[0-9]|[0-9]|[A-Z]{5,}", refusal.reason):
+                if refusal.number in texts:
+                    self.assertIn(figure, texts[refusal.number] + "ASCII", refusal)
+
+    def test_header(self):
+        rows = re.findall(r"TIMETABLE_(\w+) = (\d+),? +/\* (.*) \*/", self.page("include/timetable.h"))
+        self.assertEqual([(int(number), name) for name, number, _ in rows], [refusal[:2] for refusal in refusals.TABLE])
+        self.same_figures({int(number): text for _, number, text in rows})
+
+    def test_readme(self):
+        rows = re.findall(r"^\| (\d+) \| (.*?)(?: \(library alone\))? \| `", self.page("README.md"), re.M)
+        self.assertEqual(
+            [(int(number), text) for number, text in rows], [(one.number, one.reason) for one in refusals.TABLE]
+        )
+
+    def test_man_page(self):
+        section = re.search(r"^\.SH REFUSALS\n(.*?)^\.SH ", self.page("docs/timetable.1"), re.M | re.S)[1]
+        rows = {int(number): text for number, text in re.findall(r"^\.B (\d+)\n(.*)$", section, re.M)}
+        self.assertEqual(list(rows), list(range(1, 12)))
+        self.assertRegex(section, r"12 .* and 13 ")
+        self.same_figures(rows)
+
+    def test_constants(self):
+        self.assertTrue(all(getattr(refusals, refusal.constant) == refusal.number for refusal in refusals.TABLE))
+        self.assertIn("does not know", refusals.reason(99))
+
+
+class Binding(Office):
+    def test_lines_and_refusals(self):
+        session = library.session(records=16)
+        self.assertEqual(session.line(b"(subject staff)"), b"(ok)\n")
+        with self.assertRaises(Refused) as caught:
+            session.line(b"(view)")
+        self.assertEqual((caught.exception.number, str(caught.exception)), (3, "refused 3: " + refusals.reason(3)))
+        self.assertTrue(session.is_store())
+        self.assertFalse(Session(library, session.state, b"abc").is_store())
+        other = session.copy()
+        other.line(b"(root school)")
+        self.assertEqual(session.table, bytes(4 + 32 * 16))
+        self.assertEqual(read_table(other.table), [Node(0, "school")])
+
+    def test_every_list_of_the_program(self):
+        """The lists of tests/vectors are answered as the program answers them."""
+        folder = os.path.join(ROOT, "tests", "vectors")
+        names = sorted(name[:-3] for name in os.listdir(folder) if name.endswith(".in"))
+        self.assertTrue(names)
+        for name in names:
+            given = split_lines(name, self.read(os.path.join(folder, name + ".in")))
+            run = run_lines(library.session(records=1024), given, keep_going=True)
+            printed = b"".join(map(cli.answer_text, run.answered))
+            self.assertEqual(printed, self.read(os.path.join(folder, name + ".out")), name)
+            self.assertTrue(Session(library, run.state, run.table).is_store(), name)
+            self.assertEqual(sum(lines for _, lines in run.log), len(given.lines), name)
+
+    def test_no_library(self):
+        self.office("new", "store", "--library", "none.so", process=True, status=3, says="there is no library at")
+        self.office(
+            "new", "store", environment={"TIMETABLE_LIBRARY": "none.so"}, status=3, says="TIMETABLE_LIBRARY names it"
+        )
+        self.office(
+            "new",
+            "store",
+            environment={"TIMETABLE_LIBRARY": None},
+            status=3,
+            says="was not found: name it with --library",
+        )
+        self.write("text.so", "no library")
+        self.office("new", "store", "--library", "text.so", status=3, says="cannot be loaded as a library")
+        self.assertFalse(os.path.exists(self.store))
+
+    def make_other(self, source):
+        self.write("other.c", source)
+        subprocess.run(["gcc", "-shared", "-o", self.path("other.so"), self.path("other.c")], check=True)
+
+    def test_another_library(self):
+        self.make_other("int other;")
+        self.office("new", "store", "--library", "other.so", status=3, says="is another library, or of another version")
+        self.school()
+        self.make_other(
+            "#include <stddef.h>\nsize_t timetable_state_bytes(void) { return 8; }\n"
+            "long timetable_line(void) { return -2; }"
+        )
+        with self.unchanged():
+            self.office("run", "store", "--library", "other.so", process=True, status=3, says="a state of 68,880 bytes")
+
+    def test_where_it_is_looked_for(self):
+        self.office(
+            "new", "a", "--library", library_file, environment={"TIMETABLE_LIBRARY": "none.so"}, says="an empty store"
+        )
+        shutil.copytree(OFFICE, self.path("office"), ignore=shutil.ignore_patterns("*.so"))
+        nowhere = {"TIMETABLE_LIBRARY": None, "PYTHONPATH": self.path("office")}
+        self.office("new", "b", environment=nowhere, status=3, says="was not found")
+        shutil.copy(library_file, self.path("office/timetable_office/liblouvretansy.so"))
+        self.office("new", "b", environment=nowhere, says="an empty store")
+
+    def test_too_small_a_stack(self):
+        self.school()
+        limit = ["bash", "-c", 'ulimit -s 1024 && exec "$@"', "bash"]
+        self.office("show", "store", "--as", "SHA", before=limit, status=3, says="ulimit -s 8192")
+
+
+class New(Office):
+    def test_the_file(self):
+        self.office("new", "store", says="store: an empty store for 16,384 nodes", preexec_fn=lambda: os.umask(0))
+        self.assertEqual(os.stat(self.store).st_mode & 0o777, 0o600)
+        self.assertEqual(os.listdir(self.folder), ["store"])
+
+    def test_a_file_is_never_replaced(self):
+        self.school()
+        with self.unchanged():
+            self.office("new", "store", status=3, says="is there already")
+
+    def test_records(self):
+        for number in ("0", "16385", "many"):
+            self.office("new", "store", "--records", number, status=2, says="--records")
+        self.office("new", "store", "--records", "2", says="for 2 nodes")
+        full = ["(root a)", "(child (b))", "(child (c))"]
+        self.office(
+            "run", "store", given=full, status=1, says="standard input:3: refused 11: the whole line needs more"
+        )
+        self.assertIn("the table has 2 records, and 2 are in use", self.errors)
+
+    def test_a_folder_that_is_not_there(self):
+        self.office("new", "none/store", status=3, says="none/store cannot be made: No such file")
+
+
+class RunLines(Office):
+    def test_answers(self):
+        self.school()
+        self.assertEqual(self.office("run", "store", given="(user SHA)\n(view)\n", process=True), "(ok)\n" + VIEW)
+        self.write("work", "(user SHA)\n(update //room R14)\n")
+        self.assertEqual(self.office("run", "store", "work"), "(ok)\n(done 1 1)\n")
+        self.assertEqual(self.office("run", "store", "-", "--quiet", given="(user SHA)\n(view)\n"), "")
+        self.assertEqual(self.office("run", "store", given=""), "")
+
+    def test_the_first_refused_line_ends_it(self):
+        self.school()
+        self.write("work", "(user SHA)\n(update //room R14)\n(rename //class note)\n(view)\n")
+        with self.unchanged():
+            self.assertEqual(
+                self.office("run", "store", "work", status=1, says="work:3: refused 9: RESTRICTED is a new label"), ""
+            )
+        self.assertIn("timetable-office: store is as it was\n", self.errors)
+
+    def test_a_mistyped_login_prints_no_view(self):
+        """The second view would be that of staff, under the name of the web."""
+        self.office("new", "store", "--records", "64", says="an empty store")
+        self.office("run", "store", "-q", given=["(subject web)"] + SETTING_UP)
+        with self.unchanged():
+            printed = self.office(
+                "run",
+                "store",
+                given=["(user staff)", "(view)", "(user wbe)", "(view)"],
+                status=1,
+                says="standard input:3: refused 5",
+            )
+        self.assertEqual(printed, "")
+        self.assertIn("no subject is declared as wbe; did you mean web?", self.errors)
+
+    def test_a_refused_deny_stops_the_tree(self):
+        self.office("new", "store", says="an empty store")
+        with self.unchanged():
+            lines = [line.replace("deny read", "deny raed") for line in SETTING_UP]
+            self.office("run", "store", given=lines, status=1, says="standard input:5: refused 2")
+
+    def test_a_login_ends_with_its_run(self):
+        self.school(["(user SHA)", "(view)"])
+        with self.unchanged():
+            self.office(
+                "run",
+                "store",
+                given="(view)\n",
+                status=1,
+                says="refused 8: nobody has logged in yet (put a (user NAME) line",
+            )
+        self.office("run", "store", "-q", given="(child (tue))\n")
+        self.assertIn("(child (tue))\n(end 10)", self.office("show", "store", "--as", "SHA", "--format", "lines"))
+
+    def test_keep_going(self):
+        self.school()
+        lines = ["(user SHA)", "(rename //class note)", "(update //room R14)", "oops"]
+        self.assertEqual(
+            self.office("run", "store", "--keep-going", given=lines, status=1, says=":2: refused 9"),
+            "(ok)\n(refused 9)\n(done 1 1)\n(refused 2)\n",
+        )
+        self.assertIn("standard input:4: refused 2", self.errors)
+        self.assertIn("R14", self.office("show", "store", "--as", "SHA"))
+
+    def test_json(self):
+        self.school()
+        told = json.loads(self.office("run", "store", "--json", given="(user SHA)\n(view)\n"))
+        self.assertEqual(
+            (told["kept"], told["lines"][1]), (True, {"line": 2, "form": "view", "answer": VIEW.splitlines()})
+        )
+        told = json.loads(
+            self.office("run", "store", "--json", given="(user SHA)\n(find //x[0])\n", status=1, says=":2: refused 4")
+        )
+        self.assertEqual((told["kept"], told["lines"][-1]["refused"]), (False, 4))
+
+    def test_what_editors_do_to_files(self):
+        self.office("new", "store", says="an empty store")
+        with self.unchanged():
+            for data, line, number, advice in (
+                (b"(subject a)\r\n", 1, 1, "the line ends with CR LF, as Windows writes it"),
+                (b"(subject a)\n(subject b)\r\n", 2, 1, "the line ends with CR LF"),
+                (b"\xef\xbb\xbf(subject a)\n", 1, 1, "the file begins with a byte order mark"),
+                ("(subject a)\n".encode("utf-16"), 1, 1, "the file is saved as UTF-16"),
+                ("(subject a)\n(subject Zo\u00eb)\n".encode(), 2, 1, "byte 12 of the line: '\u00eb')"),
+                (b"(subject\ta)\n", 1, 1, "byte 9 of the line: '\\t')"),
+                (b"(root r)\n(child (day" + b" (lesson)" * 200 + b"))\n", 2, 1, "the line has 1,813 bytes; give this"),
+                (b"(subject a)\n\n", 2, 2, "the line is empty)"),
+                (b"# subjects\n", 1, 2, "a list of lines has no comments)"),
+                (b"(subject a) \n", 1, 2, "a space stands before or after the form)"),
+                (b"(subject  a)\n", 1, 2, "two spaces stand together)"),
+                (b"(root r)\n(child (day)\n", 2, 2, "parentheses: 2 are opened and 1 is closed)"),
+                (b"(view)\n", 1, 3, "there is no root yet)"),
+                (b"(root r)\n(subject a)\n", 2, 3, "the policy is fixed once the root is there"),
+                (b"(subject a)\n(root r)\n(user a)\n(child (b))\n", 4, 3, "child lines come before the first user"),
+            ):
+                says = f"standard input:{line}: refused {number}: {refusals.reason(number)} ({advice}"
+                self.office("run", "store", given=data, status=1, says=says)
+        self.assertEqual(
+            self.office(
+                "run",
+                "store",
+                given="(subject a)\n(subject b)",
+                says="standard input:2: note: the last line has no line feed",
+            ),
+            "(ok)\n(ok)\n",
+        )
+
+    def test_a_list_that_cannot_be_read(self):
+        self.school()
+        self.office("run", "store", "none", status=3, says="none cannot be read: No such file")
+        self.office("run", "store", ".", status=3, says=". cannot be read: Is a directory")
+
+
+class Show(Office):
+    def test_formats(self):
+        self.school()
+        with self.unchanged():
+            self.assertEqual(self.office("show", "store", "--as", "SHA", process=True), OUTLINE)
+            self.assertEqual(self.office("show", "store", "--as", "SHA", "--format", "lines"), VIEW)
+            told = json.loads(self.office("show", "store", "--as", "SHA", "--json"))
+            rows = list(csv.DictReader(io.StringIO(self.office("show", "store", "--as", "SHA", "--format", "csv"))))
+        self.assertEqual((told["reader"], told["shown"]), ("SHA", 9))
+        lesson = told["tree"]["children"][0]["children"][0]
+        self.assertEqual([child["label"] for child in lesson["children"]], ["class", "room", "note"])
+        self.assertEqual(
+            lesson["children"][2]["children"], [{"label": "RESTRICTED", "restricted": True, "children": []}]
+        )
+        self.assertEqual(len(rows), 9)
+        self.assertEqual(
+            rows[8],
+            {
+                "number": "9",
+                "parent": "8",
+                "level": "4",
+                "label": "RESTRICTED",
+                "path": "/school/mon/lesson/note/RESTRICTED",
+            },
+        )
+
+    def test_exactly_that_reader(self):
+        self.school(["(user SHA)", "(view)"])
+        with self.unchanged():
+            for name, says in (
+                ("sha", "did you mean SHA?"),
+                ("MEI", "no subject is declared as MEI"),
+                ("", "cannot be a name"),
+                ("SHA) (x", "cannot be a name"),
+                ("a\n(view)", "cannot be a name"),
+            ):
+                self.assertEqual(self.office("show", "store", f"--as={name}", status=1, says=says), "")
+
+    def test_nothing_to_show(self):
+        self.office("new", "store", says="an empty store")
+        self.office("run", "store", "-q", given="(subject guest)\n")
+        self.assertEqual(self.office("show", "store", "--as", "guest", status=1, says="no tree yet"), "")
+        self.office("run", "store", "-q", given="(root school)\n")
+        self.assertEqual(self.office("show", "store", "--as", "guest", says="guest is shown nothing"), "")
+        told = json.loads(self.office("show", "store", "--as", "guest", "--json", says="nothing"))
+        self.assertEqual((told["shown"], told["tree"]), (0, None))
+
+    def test_a_full_output(self):
+        self.school()
+        with open("/dev/full", "wb") as full:
+            self.office("show", "store", "--as", "SHA", stdout=full, status=3, says="cannot be written: No space left")
+            with self.unchanged():
+                self.office(
+                    "run",
+                    "store",
+                    given="(user SHA)\n(update //room R14)\n",
+                    stdout=full,
+                    status=3,
+                    says="No space left",
+                )
+
+
+class Log(Office):
+    def test_who_gave_which_form(self):
+        self.school(["(user SHA)", "(update //room R14)", "(find //none)"])
+        self.office(
+            "run",
+            "store",
+            "--keep-going",
+            given=["(user SHA)", "(rename //class note)", "nonsense"],
+            status=1,
+            says="refused",
+        )
+        told = json.loads(self.office("log", "store", "--json", process=True))
+        self.assertEqual([entry["form"] for entry in told[:5]], ["subject", "isa", "rule", "root", "child"])
+        self.assertEqual([entry["lines"] for entry in told[:5]], [2, 1, 4, 1, 1])
+        seen = [
+            (entry["run"], entry["user"], entry["form"], entry["refused"], entry["selected"], entry["done"])
+            for entry in told[5:]
+        ]
+        wanted = [
+            (1, "SHA", "user", None, None, None),
+            (1, "SHA", "update", None, 1, 1),
+            (1, "SHA", "find", None, 0, None),
+        ]
+        wanted += [
+            (2, "SHA", "user", None, None, None),
+            (2, "SHA", "rename", 9, None, None),
+            (2, "SHA", None, 2, None, None),
+        ]
+        self.assertEqual(seen, wanted)
+        self.assertTrue(
+            all(
+                re.fullmatch(r"\d{4}-\d\d-\d\dT\d\d:\d\d:\d\d\+00:00", entry["time"]) and entry["account"]
+                for entry in told
+            )
+        )
+
+    def test_no_label(self):
+        self.school(["(user SHA)", "(query //R12)", "(update //room R14)"])
+        for form in ("text", "json", "csv"):
+            printed = self.office("log", "store", "--format", form)
+            self.assertIn("update", printed)
+            for label in ("R12", "R14", "10B", "ill", "school", "lesson", "//"):
+                self.assertNotIn(label, printed)
+
+
+class Export(Office):
+    def again(self, lines):
+        """The lines, run into another store of the same size, give the same lines."""
+        self.office("new", "again", "--records", "64", says="an empty store")
+        self.office("run", "again", "-q", given=lines)
+        self.assertEqual(self.office("export", "again"), lines)
+        self.assertEqual(self.contents("again"), self.contents("store"))
+
+    def contents(self, name):
+        with contextlib.closing(sqlite3.connect(self.path(name))) as connection:
+            return connection.execute("SELECT state, tree FROM contents").fetchone()
+
+    def test_the_school(self):
+        self.school(["(user SHA)", "(update //room R14)"])
+        with self.unchanged():
+            lines = self.office("export", "store", process=True)
+            self.assertEqual(lines, text_of(SETTING_UP).replace("R12", "R14"))
+            self.assertEqual(self.office("export", "store", "--policy"), text_of(POLICY))
+        self.again(lines)
+
+    def test_stores_that_are_not_full(self):
+        self.office("new", "store", "--records", "64", says="an empty store")
+        self.assertEqual(self.office("export", "store"), "")
+        for line in (*POLICY, "(root r)"):
+            self.office("run", "store", "-q", given=[line])
+        self.assertEqual(self.office("export", "store"), text_of([*POLICY, "(root r)"]))
+
+    def test_only_the_root_is_left(self):
+        self.office("new", "store", "--records", "64", says="an empty store")
+        self.office("run", "store", "-q", given=[*EDITOR, "(root r)", "(child (a))", "(user editor)", "(remove //a)"])
+        self.assertEqual(self.office("export", "store"), text_of([*EDITOR, "(root r)"]))
+
+    def large(self, policy):
+        """A session whose second and third day do not fit a line; an editor put them in under another policy."""
+        session = library.session(records=2000)
+        lessons = [f"(lesson (class (c{k})) (room (R{k})))" for k in range(60)]
+        lines = [
+            *EDITOR,
+            "(root school)",
+            "(child (mon))",
+            "(child (tue))",
+            "(child (wed))",
+            "(child (thu))",
+            "(user editor)",
+        ]
+        lines += [f"(append /school/{day} {lesson})" for day in ("tue", "wed") for lesson in lessons]
+        lines += ["(append //tue/lesson[30]/class (x" + " (y)" * 200 + "))"]
+        run = run_lines(session, split_lines("large", text_of(lines).encode()))
+        fresh = library.session(records=2)
+        run_lines(fresh, split_lines("policy", text_of([*policy, "(root school)", "(child (x))"]).encode()))
+        return Session(library, fresh.state, run.table)
+
+    def test_days_that_do_not_fit_a_line(self):
+        session = self.large(["(subject guest)", *EDITOR])
+        lines = export_lines(session)
+        self.assertLessEqual(max(map(len, lines)), LINE_MAXIMUM)
+        self.assertIn(b"(user editor)", lines)
+        again = library.session(records=2000)
+        run = run_lines(again, split_lines("export", b"".join(line + b"\n" for line in lines)))
+        self.assertEqual((run.state, run.table), (session.state, session.table))
+
+    def test_days_that_no_lines_give(self):
+        for policy in (
+            ["(subject a)", "(rule accept read //* a)"],
+            [*EDITOR, "(rule deny insert //tue editor)"],
+            [*EDITOR, "(rule deny read //mon editor)"],
+        ):
+            with self.assertRaises(Exception) as caught:
+                export_lines(self.large(policy))
+            self.assertIn("lines cannot give this tree", str(caught.exception))
+            self.assertIn("tue (number 2), wed (number 3)", str(caught.exception))
+
+    def test_random_trees(self):
+        rand = random.Random(20261116)
+        for _ in range(30):
+            nodes = [Node(0, "r")]
+            for _ in range(rand.randint(0, 400)):
+                level = rand.randint(1, min(nodes[-1].level + 1, 11))
+                nodes.append(Node(level, "L" * rand.randint(1, 24)))
+            text = tree_text(nodes)
+            self.assertEqual(
+                read_view(b"(root x)\n(child " + text + b")\n(end %d)\n" % (len(nodes) + 1))[1:],
+                [Node(node.level + 1, node.label) for node in nodes],
+            )
+            session = library.session(records=500)
+            for line in [*EDITOR, "(root r)"]:
+                session.line(line.encode())
+            state = session.state
+            session.line(b"(user editor)")
+            last = [1] * 13
+            above = [b"/*"]
+            for before, node in zip(nodes, nodes[1:]):
+                last[node.level] = last[node.level] + 1 if node.level <= before.level else 1
+                del above[node.level :]
+                session.line(b"(append " + above[-1] + b" (" + node.label.encode() + b"))")
+                above.append(above[-1] + b"/*[%d]" % last[node.level])
+            self.assertEqual(read_table(session.table), nodes)
+            lines = export_lines(Session(library, state, session.table))
+            again = run_lines(
+                library.session(records=500), split_lines("again", b"".join(line + b"\n" for line in lines))
+            )
+            self.assertEqual(again.table, session.table)
+
+
+class NewPolicy(Office):
+    RULES = ["(subject web)", "(rule accept position //* web)", "(rule accept read /school web)"]
+
+    def test_new_rules_over_the_tree(self):
+        self.school(["(user SHA)", "(update //room R14)"])
+        self.write("rules", text_of(self.RULES))
+        self.office(
+            "policy", "store", "rules", process=True, says="store: 1 subject, 0 isa lines, 2 rules over 9 nodes"
+        )
+        self.assertEqual(
+            self.office("export", "store"), text_of(self.RULES) + text_of(SETTING_UP[7:]).replace("R12", "R14")
+        )
+        self.assertTrue(self.office("show", "store", "--as", "web").startswith("school\n  RESTRICTED\n"))
+        self.office("show", "store", "--as", "SHA", status=1, says="no subject is declared as SHA")
+        self.assertFalse(self.holds(b"position //note"))
+        told = json.loads(self.office("log", "store", "--json"))
+        self.assertEqual(
+            [(entry["command"], entry["form"], entry["lines"]) for entry in told[-2:]],
+            [("policy", "subject", 1), ("policy", "rule", 2)],
+        )
+
+    def test_an_edited_policy(self):
+        self.school()
+        rules = self.office("export", "store", "--policy").replace("deny", "accept")
+        self.office("policy", "store", given=rules, says="2 subjects, 1 isa line, 4 rules over 9 nodes")
+        self.assertIn("ill", self.office("show", "store", "--as", "SHA"))
+
+    def test_refused_lines(self):
+        self.school()
+        with self.unchanged():
+            self.office(
+                "policy",
+                "store",
+                given=[*self.RULES, "(rule deny read //note[1] web)"],
+                status=1,
+                says="standard input:4: refused 6",
+            )
+            self.office(
+                "policy",
+                "store",
+                given=[*self.RULES, "(root school)"],
+                status=1,
+                says="standard input:4: a root line does not belong here",
+            )
+            self.office(
+                "policy", "store", given=[*self.RULES, "(user web)"], status=1, says="standard input:4: refused 3"
+            )
+
+    def test_before_the_tree(self):
+        self.office("new", "store", "--records", "9", says="an empty store")
+        self.office("run", "store", "-q", given=POLICY)
+        self.office("policy", "store", given=self.RULES, says="over 0 nodes")
+        self.office("run", "store", "-q", given="(subject b)\n", status=1, says="refused 3")
+        self.office("run", "store", "-q", given="(root school)\n(child (x))\n")
+        self.assertEqual(self.office("show", "store", "--as", "web"), "school\n  RESTRICTED\n")
+
+
+class NoTrace(Office):
+    def test_a_removed_note(self):
+        for words in ((["(remove //note/*)"]), (["(rename //note/* cold)"]), (["(remove //lesson)"])):
+            with self.subTest(words=words):
+                self.folder = tempfile.mkdtemp()
+                self.addCleanup(shutil.rmtree, self.folder)
+                self.office("new", "store", "--records", "9000", says="an empty store")
+                rules = [*EDITOR, "(rule accept update //* editor)", "(root school)"]
+                tree = [f"(child (day{k} (lesson (room (R{k})) (note ({NOTE})))))" for k in range(400)]
+                self.office("run", "store", "-q", given=rules + tree)
+                self.assertTrue(self.holds(NOTE.encode()))
+                self.office("run", "store", "-q", given=["(user editor)", *words])
+                self.assertEqual(os.listdir(self.folder), ["store"])
+                self.assertFalse(self.holds(NOTE.encode()))
+                self.assertNotIn(NOTE, self.office("export", "store"))
+
+    def test_a_note_of_a_run_that_failed(self):
+        self.school()
+        self.office("run", "store", "-q", given=[f"(child (note ({NOTE})))", "oops"], status=1, says="refused 2")
+        self.assertFalse(self.holds(NOTE.encode()))
+        self.office(
+            "run",
+            "store",
+            "-q",
+            "--keep-going",
+            given=[f"(chold (note ({NOTE})))", f"(user {NOTE})"],
+            status=1,
+            says="refused 2",
+        )
+        self.assertFalse(self.holds(NOTE.encode()))
+
+
+class Faults(Office):
+    def test_no_store(self):
+        for words in (
+            ("run", "store"),
+            ("show", "store", "--as", "a"),
+            ("log", "store"),
+            ("export", "store"),
+            ("policy", "store"),
+        ):
+            self.office(*words, status=3, says="there is no store store; `timetable-office new store` makes one")
+        self.assertEqual(os.listdir(self.folder), [])
+        self.office("log", ".", status=3, says=". is not a file")
+
+    def test_open_to_others(self):
+        self.school()
+        os.chmod(self.store, 0o644)
+        self.office("show", "store", "--as", "SHA", status=3, says="`chmod 600 store` closes it")
+
+    def test_other_files(self):
+        for data, says in (
+            (b"", "is not a timetable store"),
+            (b"(subject a)\n" * 100, "is not a timetable store, or its first bytes are damaged"),
+        ):
+            self.write("store", data)
+            os.chmod(self.store, 0o600)
+            self.office("log", "store", status=3, says=says)
+        os.unlink(self.store)
+        with contextlib.closing(sqlite3.connect(self.store)) as connection:
+            connection.execute("CREATE TABLE contents (state)")
+        os.chmod(self.store, 0o600)
+        self.office("log", "store", status=3, says="is not a timetable store")
+
+    def test_a_later_format(self):
+        self.school()
+        with contextlib.closing(sqlite3.connect(self.store)) as connection:
+            connection.execute("PRAGMA user_version = 2")
+        self.office(
+            "log", "store", status=3, says="store has format 2; this version of timetable-office knows format 1"
+        )
+
+    def test_damaged_bytes(self):
+        """A few bytes overwritten anywhere: what is shown is right, or there is a clear message."""
+        self.school(records=300)
+        good = self.read()
+        rand = random.Random(7)
+        places = [0, 18, 100, good.index(b"R12") + 1, good.index(b"staff"), len(good) - 1] + [
+            rand.randrange(len(good)) for _ in range(200)
+        ]
+        told = 0
+        for place in places:
+            bad = bytearray(good)
+            for offset in range(min(8, len(bad) - place)):
+                bad[place + offset] ^= rand.randrange(1, 256)
+            self.write("store", bytes(bad))
+            status, printed, errors = self.in_this_process(["show", "store", "--as", "SHA"])
+            if status == 0:
+                self.assertEqual(printed, OUTLINE)
+            else:
+                told += 1
+                self.assertEqual((status, printed), (3, ""))
+                self.assertRegex(errors, "store (is damaged|is not a timetable store|has format)")
+        self.assertGreater(told, len(places) // 4)
+        for size in (100, 5000, len(good) // 2):
+            self.write("store", good[:size])
+            self.office("show", "store", "--as", "SHA", status=3, says="store is")
+
+    def test_bytes_that_are_no_store(self):
+        """Bytes with a right check sum that the library refuses with 13."""
+        self.school()
+        with contextlib.closing(sqlite3.connect(self.store)) as connection, connection:
+            state, tree = connection.execute("SELECT state, tree FROM contents").fetchone()
+            tree = tree[:4] + b"\1" + tree[5:]
+            digest = __import__("hashlib").sha256(state + tree).digest()
+            connection.execute("UPDATE contents SET tree = ?, digest = ?", (tree, digest))
+        self.office("show", "store", "--as", "SHA", status=3, says="refused 13")
+
+    def test_a_read_only_folder(self):
+        self.school()
+        os.chmod(self.folder, 0o500)
+        self.addCleanup(os.chmod, self.folder, 0o700)
+        # the account root writes everywhere, unless it gives that up
+        before = ["setpriv", "--bounding-set", "-dac_override,-dac_read_search"] if os.getuid() == 0 else []
+        with self.unchanged():
+            self.office(
+                "run",
+                "store",
+                given="(child (tue))\n",
+                before=before,
+                status=3,
+                says="the file or its folder is read-only; the store is as it was",
+            )
+            self.office("new", "other", before=before, status=3, says="other cannot be made: Permission denied")
+            self.assertEqual(self.office("show", "store", "--as", "SHA", before=before), OUTLINE)
+            os.chmod(self.store, 0o400)
+            self.office("run", "store", given="(child (tue))\n", before=before, status=3, says="read-only")
+            self.assertEqual(self.office("show", "store", "--as", "SHA", before=before), OUTLINE)
+            os.chmod(self.store, 0o600)
+
+    def test_no_room_on_the_disk(self):
+        """Files may not grow beyond 40,000 bytes: SQLite's journal does not fit, nor does a new store."""
+        self.school(records=3000)
+
+        def small_files():
+            resource.setrlimit(resource.RLIMIT_FSIZE, (40_000, 40_000))
+
+        tree = ["(child (day" + " (lesson (room (R12)))" * 40 + "))"] * 10
+        before = self.read()
+        self.office("run", "store", "-q", given=tree, preexec_fn=small_files, status=3, says="store")
+        self.office("log", "store")
+        self.assertEqual(self.read(), before)
+        self.assertEqual(os.listdir(self.folder), ["store"])
+        self.office("new", "other", preexec_fn=small_files, status=3, says="other cannot be made: File too large")
+        self.assertEqual(os.listdir(self.folder), ["store"])
+
+    def test_two_writers(self):
+        self.school()
+        with contextlib.closing(sqlite3.connect(self.store, isolation_level=None)) as other:
+            other.execute("BEGIN IMMEDIATE")
+            # the file is not read by this process: that would give its lock up
+            self.office(
+                "run",
+                "store",
+                "--wait",
+                "0.2",
+                given="(child (tue))\n",
+                process=True,
+                status=3,
+                says="store is in use by another command; waited 0.2 seconds",
+            )
+            self.assertEqual(self.office("show", "store", "--as", "SHA", process=True), OUTLINE)
+            waiting = subprocess.Popen(
+                self.command(["run", "store"]),
+                stdin=subprocess.PIPE,
+                stdout=subprocess.PIPE,
+                cwd=self.folder,
+                env=self.environment(),
+            )
+            waiting.stdin.write(b"(child (tue))\n")
+            waiting.stdin.close()
+            time.sleep(0.5)
+            self.assertIsNone(waiting.poll())
+            other.execute("ROLLBACK")
+            self.assertEqual((waiting.wait(SECONDS), waiting.stdout.read()), (0, b"(ok)\n"))
+            waiting.stdout.close()
+        self.assertIn("tue", self.office("show", "store", "--as", "SHA"))
+
+    def test_killed_runs(self):
+        """kill -9 at random moments: the store opens, as it was before the run or as it is after it."""
+        rand = random.Random(time.time_ns())
+        self.office("new", "store", "--records", "12000", says="an empty store")
+        self.office("run", "store", "-q", given=[*EDITOR, "(root school)"])
+        children = 0
+        seen = {True: 0, False: 0}
+        first = None
+        for turn in range(KILLS):
+            self.write("work", "(child (day (lesson (room (R12)))))\n" * 60)
+            begun = time.monotonic()
+            run = subprocess.Popen(
+                self.command(["run", "-q", "store", "work"]), cwd=self.folder, env=self.environment()
+            )
+            if first is None:
+                self.assertEqual(run.wait(SECONDS), 0)
+                first = time.monotonic() - begun
+            else:
+                time.sleep(rand.uniform(0.3, 1.1) * first)
+                run.send_signal(signal.SIGKILL)
+                run.wait(SECONDS)
+            os.unlink(self.path("work"))
+            with contextlib.closing(sqlite3.connect(self.store)) as connection:
+                self.assertEqual(connection.execute("PRAGMA integrity_check").fetchone(), ("ok",))
+                table, logged = connection.execute(
+                    "SELECT tree, (SELECT sum(lines) FROM log WHERE form = 'child') FROM contents"
+                ).fetchone()
+            nodes = int.from_bytes(table[:4], "little")
+            self.assertEqual(nodes, 1 + 4 * logged)
+            self.assertIn(logged, (children, children + 60))
+            seen[logged > children] += 1
+            children = logged
+            if turn % 10 == 9:
+                self.assertIn(f"(end {nodes})", self.office("show", "store", "--as", "editor", "--format", "lines"))
+        self.office("run", "store", "-q", given="(child (last))\n")
+        self.assertEqual(os.listdir(self.folder), ["store"])
+        print(f"killed runs: {seen[False]} left the store as it was, {seen[True]} had been done")
+
+    def test_interrupted(self):
+        self.school()
+        with self.unchanged():
+            run = subprocess.Popen(
+                self.command(["run", "store"]),
+                stdin=subprocess.PIPE,
+                stderr=subprocess.PIPE,
+                cwd=self.folder,
+                env=self.environment(),
+            )
+            time.sleep(0.5)
+            run.send_signal(signal.SIGINT)
+            self.assertIn(b"interrupted; store is as it was", run.communicate(timeout=SECONDS)[1])
+            self.assertEqual(run.returncode, 130)
+
+
+def main():
+    global library_file, library
+    words = sys.argv[1:]
+    if len(words) > 1 or (words and words[0].startswith("-")):
+        sys.exit(__doc__)
+    archive = os.path.abspath(words[0]) if words else ARCHIVE
+    if not os.path.exists(archive):
+        sys.exit(f"FAILED: {archive} is missing; `rt staticlib louvretansy` makes it")
+    with tempfile.TemporaryDirectory() as folder:
+        library_file = os.environ["TIMETABLE_LIBRARY"] = make_library(folder, archive)
+        library = Library(library_file)
+        done = unittest.main(argv=sys.argv[:1], exit=False, verbosity=1).result
+    sys.exit(0 if done.wasSuccessful() else 1)
+
+
+if __name__ == "__main__":
+    main()
