@@ -34,6 +34,7 @@ from timetable_office.export import export_lines  # noqa: E402
 from timetable_office.library import LINE_MAXIMUM, Library, Refused, Session  # noqa: E402
 from timetable_office.lines import split_lines  # noqa: E402
 from timetable_office.runs import run_lines  # noqa: E402
+from timetable_office.store import Store  # noqa: E402
 from timetable_office.tree import Node, read_table, read_view, tree_text  # noqa: E402
 
 ARCHIVE = os.path.join(ROOT, "target", "staticlib", "liblouvretansy.a")
@@ -357,6 +358,7 @@ class RunLines(Office):
             self.assertEqual(
                 self.office("run", "store", "work", status=1, says="work:3: refused 9: RESTRICTED is a new label"), ""
             )
+            self.assertIn("(note is a word that the rules use", self.errors)
         self.assertIn("timetable-office: store is as it was\n", self.errors)
 
     def test_a_mistyped_login_prints_no_view(self):
@@ -432,6 +434,7 @@ class RunLines(Office):
                 (b"(root r)\n(child (day)\n", 2, 2, "parentheses: 2 are opened and 1 is closed)"),
                 (b"(view)\n", 1, 3, "there is no root yet)"),
                 (b"(root r)\n(subject a)\n", 2, 3, "the policy is fixed once the root is there"),
+                (b"(root r)\n(child (RESTRICTED))\n", 2, 9, "RESTRICTED stands for hidden labels"),
                 (b"(subject a)\n(root r)\n(user a)\n(child (b))\n", 4, 3, "child lines come before the first user"),
             ):
                 says = f"standard input:{line}: refused {number}: {refusals.reason(number)} ({advice}"
@@ -513,6 +516,18 @@ class Show(Office):
                     says="No space left",
                 )
 
+    def test_closed_streams(self):
+        self.school()
+        with self.unchanged():
+            for words, closed, says in (
+                ("show store --as SHA", ">&-", "standard output is closed"),
+                ("run store", "<&-", "standard input cannot be read: it is closed"),
+            ):
+                before = ["bash", "-c", f'exec "$@" {closed}', "bash"]
+                self.office(*words.split(" "), before=before, status=3, says=says)
+            before = ["bash", "-c", 'exec "$@" 2>&-', "bash"]
+            self.assertEqual(self.office("show", "store", "--as", "nobody", before=before, status=1), "")
+
 
 class Log(Office):
     def test_who_gave_which_form(self):
@@ -525,7 +540,8 @@ class Log(Office):
             status=1,
             says="refused",
         )
-        told = json.loads(self.office("log", "store", "--json", process=True))
+        first, *told = json.loads(self.office("log", "store", "--json", process=True))
+        self.assertEqual((first["command"], first["form"], first["lines"]), ("new", None, 0))
         self.assertEqual([entry["form"] for entry in told[:5]], ["subject", "isa", "rule", "root", "child"])
         self.assertEqual([entry["lines"] for entry in told[:5]], [2, 1, 4, 1, 1])
         seen = [
@@ -533,14 +549,14 @@ class Log(Office):
             for entry in told[5:]
         ]
         wanted = [
-            (1, "SHA", "user", None, None, None),
-            (1, "SHA", "update", None, 1, 1),
-            (1, "SHA", "find", None, 0, None),
+            (2, "SHA", "user", None, None, None),
+            (2, "SHA", "update", None, 1, 1),
+            (2, "SHA", "find", None, 0, None),
         ]
         wanted += [
-            (2, "SHA", "user", None, None, None),
-            (2, "SHA", "rename", 9, None, None),
-            (2, "SHA", None, 2, None, None),
+            (3, "SHA", "user", None, None, None),
+            (3, "SHA", "rename", 9, None, None),
+            (3, "SHA", None, 2, None, None),
         ]
         self.assertEqual(seen, wanted)
         self.assertTrue(
@@ -898,43 +914,46 @@ class Faults(Office):
             waiting.stdout.close()
         self.assertIn("tue", self.office("show", "store", "--as", "SHA"))
 
+    def kill_a_run(self, moment, journal):
+        """Kills a run of the file `work`: so many seconds after its start, or after SQLite's journal has appeared."""
+        run = subprocess.Popen(self.command(["run", "-q", "store", "work"]), cwd=self.folder, env=self.environment())
+        while journal and run.poll() is None and not os.path.exists(self.store + "-journal"):
+            pass
+        time.sleep(moment)
+        run.send_signal(signal.SIGKILL)
+        run.wait(SECONDS)
+
     def test_killed_runs(self):
         """kill -9 at random moments: the store opens, as it was before the run or as it is after it."""
         rand = random.Random(time.time_ns())
         self.office("new", "store", "--records", "12000", says="an empty store")
         self.office("run", "store", "-q", given=[*EDITOR, "(root school)"])
-        children = 0
-        seen = {True: 0, False: 0}
-        first = None
+        self.write("work", f"(child (day (lesson (room ({NOTE})))))\n" * 60)
+        begun = time.monotonic()
+        self.office("run", "store", "work", "-q", process=True)
+        needed = time.monotonic() - begun
+        children = 60
+        kept = journals = 0
         for turn in range(KILLS):
-            self.write("work", "(child (day (lesson (room (R12)))))\n" * 60)
-            begun = time.monotonic()
-            run = subprocess.Popen(
-                self.command(["run", "-q", "store", "work"]), cwd=self.folder, env=self.environment()
-            )
-            if first is None:
-                self.assertEqual(run.wait(SECONDS), 0)
-                first = time.monotonic() - begun
-            else:
-                time.sleep(rand.uniform(0.3, 1.1) * first)
-                run.send_signal(signal.SIGKILL)
-                run.wait(SECONDS)
-            os.unlink(self.path("work"))
-            with contextlib.closing(sqlite3.connect(self.store)) as connection:
-                self.assertEqual(connection.execute("PRAGMA integrity_check").fetchone(), ("ok",))
-                table, logged = connection.execute(
-                    "SELECT tree, (SELECT sum(lines) FROM log WHERE form = 'child') FROM contents"
-                ).fetchone()
-            nodes = int.from_bytes(table[:4], "little")
-            self.assertEqual(nodes, 1 + 4 * logged)
+            journal = turn % 2 == 1
+            self.kill_a_run(rand.uniform(0, 0.03) if journal else rand.uniform(0.3, 1) * needed, journal)
+            journals += os.path.exists(self.store + "-journal")
+            with Store(self.store) as store:
+                nodes = len(read_table(store.session(library).table))
+                logged = sum(entry.lines for entry in store.entries() if entry.form == "child")
             self.assertIn(logged, (children, children + 60))
-            seen[logged > children] += 1
+            self.assertEqual(nodes, 1 + 4 * logged)
+            kept += logged > children
             children = logged
-            if turn % 10 == 9:
-                self.assertIn(f"(end {nodes})", self.office("show", "store", "--as", "editor", "--format", "lines"))
-        self.office("run", "store", "-q", given="(child (last))\n")
+        print(
+            f"{KILLS} runs killed: {kept} had been done, the others left the store as it was; {journals} journals seen"
+        )
+        self.assertIn(f"(end {nodes})", self.office("show", "store", "--as", "editor", "--format", "lines"))
+        os.unlink(self.path("work"))
+        self.assertTrue(self.holds(NOTE.encode()))
+        self.office("run", "store", "-q", given=["(user editor)", "(remove //lesson)"])
         self.assertEqual(os.listdir(self.folder), ["store"])
-        print(f"killed runs: {seen[False]} left the store as it was, {seen[True]} had been done")
+        self.assertFalse(self.holds(NOTE.encode()))
 
     def test_interrupted(self):
         self.school()

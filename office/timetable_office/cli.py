@@ -7,7 +7,7 @@ import json
 import os
 import resource
 import sys
-from typing import Any, Callable, Sequence
+from typing import Any, Callable, Sequence, TextIO
 
 from timetable_office import __version__, refusals
 from timetable_office.errors import DONE, INTERRUPTED, NOT_TAKEN, InputError, LibraryError, OfficeError, OutputError
@@ -34,19 +34,27 @@ _STATUS = """exit status:
 
 
 def say(text: str) -> None:
-    """A message to the user, on standard error."""
-    print(text, file=sys.stderr)
+    """A message to the user, on standard error; without one there is nobody to tell."""
+    if sys.stderr is not None:
+        print(text, file=sys.stderr)
+
+
+def is_terminal(stream: TextIO | None) -> bool:
+    """Whether somebody sits before this stream. Python has none where the shell has closed it."""
+    return stream is not None and stream.isatty()
 
 
 def complain(text: str) -> None:
     """A message on what went wrong: red where a terminal shows it."""
-    plain = not sys.stderr.isatty() or "NO_COLOR" in os.environ
+    plain = not is_terminal(sys.stderr) or "NO_COLOR" in os.environ
     say(text if plain else f"\x1b[31m{text}\x1b[0m")
 
 
 def put(text: str | bytes) -> None:
     """Writes to standard output, all of it and at once, so that a full disk or a closed pipe is an error here."""
     data = text.encode("utf-8") if isinstance(text, str) else text
+    if sys.stdout is None:
+        raise OutputError("the answer cannot be written: standard output is closed")
     try:
         sys.stdout.buffer.write(data)
         sys.stdout.buffer.flush()
@@ -58,7 +66,7 @@ def put(text: str | bytes) -> None:
 
 def show_progress(total: int) -> Callable[[int], None]:
     """A line that counts, on a terminal alone."""
-    if not sys.stderr.isatty() or total < 2 * _PROGRESS_STEP:
+    if not is_terminal(sys.stderr) or total < 2 * _PROGRESS_STEP:
         return lambda count: None
 
     def count_up(count: int) -> None:
@@ -87,7 +95,7 @@ def new(options: argparse.Namespace) -> int:
 
 def take_lines(source: str) -> Lines:
     """The lines of a file; a last line without its line feed is taken, and told."""
-    if source == STANDARD_INPUT and sys.stdin.isatty():
+    if source == STANDARD_INPUT and is_terminal(sys.stdin):
         say("type lines, and end with Ctrl-D")
     given = read_lines(source)
     if not given.last_line_feed:

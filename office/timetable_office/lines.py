@@ -56,6 +56,8 @@ def split_lines(name: str, data: bytes) -> Lines:
 def read_lines(source: str) -> Lines:
     """All lines of a file, or of standard input."""
     if source == STANDARD_INPUT:
+        if sys.stdin is None:
+            raise OfficeError("standard input cannot be read: it is closed")
         return split_lines("standard input", sys.stdin.buffer.read())
     try:
         return split_lines(source, Path(source).read_bytes())
@@ -79,6 +81,7 @@ def explain(text: bytes, number: int, session: Session) -> str:
         refusals.WRONG_STAGE: _explain_stage,
         refusals.BAD_NAME: _explain_name,
         refusals.NO_USER: _explain_user,
+        refusals.BAD_LABEL: _explain_label,
         refusals.TABLE_FULL: _explain_room,
     }
     adviser = advisers.get(number)
@@ -156,6 +159,15 @@ def suggest_name(name: str, known: tuple[str, ...]) -> str:
 
 def _explain_user(text: bytes, session: Session) -> str:
     return "put a (user NAME) line before it; a login ends with its run"
+
+
+def _explain_label(text: bytes, session: Session) -> str:
+    words = re.findall(rb"[^ ()/]+", text)
+    if b"RESTRICTED" in words:
+        return "RESTRICTED stands for hidden labels and cannot be given"
+    if form_of(text) in ("rename", "update"):
+        return f"{words[-1].decode('ascii')} is a word that the rules use, so no node gets it by a rename or update"
+    return ""
 
 
 def _explain_room(text: bytes, session: Session) -> str:

@@ -21,7 +21,7 @@ from typing import Iterator, NamedTuple
 
 from timetable_office.errors import StoreError
 from timetable_office.library import Library, Session
-from timetable_office.runs import Given
+from timetable_office.runs import Counts, Given
 from timetable_office.state import STATE_BYTES
 
 APPLICATION_ID = 0x54744F66
@@ -116,6 +116,7 @@ def create_store(path: str, contents: Contents) -> None:
         connection.executescript(_SCHEMA)
         row = (contents.state, contents.table, contents.digest())
         connection.execute("INSERT INTO contents VALUES (1, ?, ?, ?)", row)
+        _insert_entries(connection, "new", [(Given(None, None, None, Counts()), 0)])
         data = connection.serialize()
     try:
         with tempfile.NamedTemporaryFile(dir=target.parent, prefix=f".{target.name}.", suffix=".new") as file:
