@@ -13,6 +13,7 @@ import os
 import random
 import re
 import resource
+import shlex
 import shutil
 import signal
 import sqlite3
@@ -38,7 +39,7 @@ from timetable_office.store import Store  # noqa: E402
 from timetable_office.tree import Node, read_table, read_view, tree_text  # noqa: E402
 
 ARCHIVE = os.path.join(ROOT, "target", "staticlib", "liblouvretansy.a")
-KILLS = 40
+KILLS = 30
 SECONDS = 60
 COLUMNS = 120
 # A label that stands nowhere but in the tree.
@@ -64,10 +65,19 @@ def text_of(lines):
     return "".join(line + "\n" for line in lines)
 
 
+def read_page(name):
+    with open(os.path.join(ROOT, name), encoding="utf-8") as file:
+        return file.read()
+
+
 def make_library(folder, archive):
-    """A shared library of the archive's functions."""
+    """A shared library of the archive's functions, made by the command of office/README.md."""
     path = os.path.join(folder, "liblouvretansy.so")
-    subprocess.run(["gcc", "-shared", "-o", path, "-Wl,--whole-archive", archive, "-Wl,--no-whole-archive"], check=True)
+    command = re.search(r"^    (gcc -shared (?:.*\\\n)*.*)$", read_page("office/README.md"), re.M)[1]
+    places = {"office/timetable_office/liblouvretansy.so": path, "target/staticlib/liblouvretansy.a": archive}
+    for place, here in places.items():
+        command = command.replace(place, shlex.quote(here))
+    subprocess.run(["bash", "-c", command], check=True)
     return path
 
 
@@ -209,10 +219,6 @@ class Package(Office):
 class Refusals(Office):
     """The one table of refusals, against the pages that have one."""
 
-    def page(self, name):
-        with open(os.path.join(ROOT, name), encoding="utf-8") as file:
-            return file.read()
-
     def same_figures(self, texts):
         """Every figure and every word in capitals of the table stands in the page's text too."""
         for refusal in refusals.TABLE:
@@ -221,18 +227,18 @@ class Refusals(Office):
                     self.assertIn(figure, texts[refusal.number] + "ASCII", refusal)
 
     def test_header(self):
-        rows = re.findall(r"TIMETABLE_(\w+) = (\d+),? +/\* (.*) \*/", self.page("include/timetable.h"))
+        rows = re.findall(r"TIMETABLE_(\w+) = (\d+),? +/\* (.*) \*/", read_page("include/timetable.h"))
         self.assertEqual([(int(number), name) for name, number, _ in rows], [refusal[:2] for refusal in refusals.TABLE])
         self.same_figures({int(number): text for _, number, text in rows})
 
     def test_readme(self):
-        rows = re.findall(r"^\| (\d+) \| (.*?)(?: \(library alone\))? \| `", self.page("README.md"), re.M)
+        rows = re.findall(r"^\| (\d+) \| (.*?)(?: \(library alone\))? \| `", read_page("README.md"), re.M)
         self.assertEqual(
             [(int(number), text) for number, text in rows], [(one.number, one.reason) for one in refusals.TABLE]
         )
 
     def test_man_page(self):
-        section = re.search(r"^\.SH REFUSALS\n(.*?)^\.SH ", self.page("docs/timetable.1"), re.M | re.S)[1]
+        section = re.search(r"^\.SH REFUSALS\n(.*?)^\.SH ", read_page("docs/timetable.1"), re.M | re.S)[1]
         rows = {int(number): text for number, text in re.findall(r"^\.B (\d+)\n(.*)$", section, re.M)}
         self.assertEqual(list(rows), list(range(1, 12)))
         self.assertRegex(section, r"12 .* and 13 ")
@@ -241,6 +247,39 @@ class Refusals(Office):
     def test_constants(self):
         self.assertTrue(all(getattr(refusals, refusal.constant) == refusal.number for refusal in refusals.TABLE))
         self.assertIn("does not know", refusals.reason(99))
+
+
+class Readme(Office):
+    def test_its_blocks(self):
+        """Files, console sessions with what they print, and Python; each block of another kind is an error."""
+        page = read_page("office/README.md")
+        self.assertLessEqual(max(map(len, page.split("\n"))), COLUMNS)
+        self.write("timetable-office", f'#!/bin/sh\nexec {shlex.quote(sys.executable)} -S -m timetable_office "$@"\n')
+        os.chmod(self.path("timetable-office"), 0o700)
+        seen = set()
+        for kind, content in re.findall(r"^```(\S+)\n(.*?)^```$", page, re.M | re.S):
+            seen.add(kind)
+            if kind.endswith(".lines"):
+                self.write(kind, content)
+            elif kind == "console":
+                for command, wanted in re.findall(r"^\$ (.*)\n((?:(?!\$ ).*\n)*)", content, re.M):
+                    self.assertEqual(self.any_time(self.shell(command)), self.any_time(wanted), command)
+            else:
+                self.assertEqual(kind, "python")
+                exec(content, {})
+        self.assertEqual(seen, {"school.lines", "console", "python"})
+
+    def shell(self, command):
+        """What a command prints, on both streams."""
+        environment = self.environment(PATH=f"{self.folder}:{os.environ['PATH']}")
+        words = ["bash", "-c", f"exec 2>&1; {command}"]
+        return subprocess.run(words, stdout=subprocess.PIPE, cwd=self.folder, env=environment).stdout.decode()
+
+    def any_time(self, printed):
+        """A log whenever and by whomever it was written; other texts as they are."""
+        if "time (UTC)" not in printed:
+            return printed
+        return re.sub(r" +", " ", re.sub(r"\d{4}-\d\d-\d\d \d\d:\d\d:\d\d +\S+", "TIME ACCOUNT", printed))
 
 
 class Binding(Office):
@@ -294,12 +333,16 @@ class Binding(Office):
         self.make_other("int other;")
         self.office("new", "store", "--library", "other.so", status=3, says="is another library, or of another version")
         self.school()
-        self.make_other(
-            "#include <stddef.h>\nsize_t timetable_state_bytes(void) { return 8; }\n"
-            "long timetable_line(void) { return -2; }"
-        )
-        with self.unchanged():
-            self.office("run", "store", "--library", "other.so", process=True, status=3, says="a state of 68,880 bytes")
+        for source, says in (
+            ("{ return 8; }", "other.so is of another version: its states have 8 bytes"),
+            ("{ return 68880; }", "other.so is of another version: it does not take the usual lines"),
+        ):
+            self.make_other(
+                f"#include <stddef.h>\nsize_t timetable_state_bytes(void) {source}\n"
+                "long timetable_line(void) { return -2; }"
+            )
+            with self.unchanged():
+                self.office("run", "store", "--library", "other.so", process=True, status=3, says=says)
 
     def test_where_it_is_looked_for(self):
         self.office(
@@ -337,6 +380,13 @@ class New(Office):
             "run", "store", given=full, status=1, says="standard input:3: refused 11: the whole line needs more"
         )
         self.assertIn("the table has 2 records, and 2 are in use", self.errors)
+
+    def test_odd_names(self):
+        for name in ("a store", "50%?mode=ro#x", "d\u00e9j\u00e0", "-x"):
+            self.office("new", "--", name, says="an empty store")
+            self.office("run", "-q", "--", name, given="(subject a)\n(root r)\n")
+            self.assertTrue(os.path.exists(self.path(name)))
+            self.assertEqual(self.office("export", "--", name), "(subject a)\n(root r)\n")
 
     def test_a_folder_that_is_not_there(self):
         self.office("new", "none/store", status=3, says="none/store cannot be made: No such file")
@@ -918,7 +968,7 @@ class Faults(Office):
         """Kills a run of the file `work`: so many seconds after its start, or after SQLite's journal has appeared."""
         run = subprocess.Popen(self.command(["run", "-q", "store", "work"]), cwd=self.folder, env=self.environment())
         while journal and run.poll() is None and not os.path.exists(self.store + "-journal"):
-            pass
+            time.sleep(0.0005)
         time.sleep(moment)
         run.send_signal(signal.SIGKILL)
         run.wait(SECONDS)
@@ -936,7 +986,7 @@ class Faults(Office):
         kept = journals = 0
         for turn in range(KILLS):
             journal = turn % 2 == 1
-            self.kill_a_run(rand.uniform(0, 0.03) if journal else rand.uniform(0.3, 1) * needed, journal)
+            self.kill_a_run(rand.expovariate(250) if journal else rand.uniform(0.3, 1) * needed, journal)
             journals += os.path.exists(self.store + "-journal")
             with Store(self.store) as store:
                 nodes = len(read_table(store.session(library).table))

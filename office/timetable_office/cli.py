@@ -13,7 +13,8 @@ from timetable_office import __version__, refusals
 from timetable_office.errors import DONE, INTERRUPTED, NOT_TAKEN, InputError, LibraryError, OfficeError, OutputError
 from timetable_office.export import export_lines, policy_lines
 from timetable_office.formats import LOG_FORMATS, VIEW_FORMATS
-from timetable_office.library import LIBRARY_VARIABLE, RECORDS_MAXIMUM, Library
+from timetable_office.layout import load_library
+from timetable_office.library import LIBRARY_VARIABLE, RECORDS_MAXIMUM
 from timetable_office.lines import STANDARD_INPUT, Lines, read_lines
 from timetable_office.replace import replace_policy
 from timetable_office.runs import Answered, RefusedLine, run_lines
@@ -25,6 +26,7 @@ from timetable_office.views import view_of
 PROGRAM = "timetable-office"
 STACK_BYTES = 4 << 20
 _PROGRESS_STEP = 100
+_CLEAR_LINE, _RED, _PLAIN = "\r\x1b[K", "\x1b[31m", "\x1b[0m"
 _STATUS = """exit status:
   0  everything was done
   1  a line was refused or a name is unknown; the store is as it was, but for `run --keep-going`
@@ -46,8 +48,10 @@ def is_terminal(stream: TextIO | None) -> bool:
 
 def complain(text: str) -> None:
     """A message on what went wrong: red where a terminal shows it."""
-    plain = not is_terminal(sys.stderr) or "NO_COLOR" in os.environ
-    say(text if plain else f"\x1b[31m{text}\x1b[0m")
+    if is_terminal(sys.stderr):
+        # over the progress line, if there is one
+        text = _CLEAR_LINE + (text if "NO_COLOR" in os.environ else _RED + text + _PLAIN)
+    say(text)
 
 
 def put(text: str | bytes) -> None:
@@ -84,10 +88,8 @@ def counted(number: int, word: str) -> str:
 
 def new(options: argparse.Namespace) -> int:
     """Makes an empty store."""
-    library = Library(options.library)
+    library = load_library(options.library)
     session = library.session(options.records)
-    if not session.is_store():
-        raise LibraryError(f"the library {library.path} does not take an empty store")
     create_store(options.store, Contents(session.state, session.table))
     say(f"{options.store}: an empty store for {counted(options.records, 'node')}")
     return DONE
@@ -105,7 +107,7 @@ def take_lines(source: str) -> Lines:
 
 def run(options: argparse.Namespace) -> int:
     """Gives lines to a store, all of them or none."""
-    library = Library(options.library)
+    library = load_library(options.library)
     with Store(options.store, options.wait) as store:
         given = take_lines(options.file)
         with store.transaction():
@@ -148,7 +150,7 @@ def run_json(given: Lines, answered: Sequence[Answered], kept: bool) -> str:
 
 def policy(options: argparse.Namespace) -> int:
     """Gives a stored tree a new policy."""
-    library = Library(options.library)
+    library = load_library(options.library)
     with Store(options.store, options.wait) as store:
         given = take_lines(options.file)
         with store.transaction():
@@ -163,7 +165,7 @@ def policy(options: argparse.Namespace) -> int:
 
 def show(options: argparse.Namespace) -> int:
     """Shows what one subject sees. The store stays as it is."""
-    library = Library(options.library)
+    library = load_library(options.library)
     with Store(options.store, options.wait) as store:
         answer = view_of(store.session(library), options.name)
     put(VIEW_FORMATS[options.format](options.name, answer))
@@ -181,7 +183,7 @@ def log(options: argparse.Namespace) -> int:
 
 def export(options: argparse.Namespace) -> int:
     """Prints the lines that give the store's policy and tree."""
-    library = Library(options.library)
+    library = load_library(options.library)
     with Store(options.store, options.wait) as store:
         session = store.session(library)
     lines = policy_lines(session) if options.policy else export_lines(session)

@@ -22,7 +22,6 @@ from typing import Iterator, NamedTuple
 from timetable_office.errors import StoreError
 from timetable_office.library import Library, Session
 from timetable_office.runs import Counts, Given
-from timetable_office.state import STATE_BYTES
 
 APPLICATION_ID = 0x54744F66
 FORMAT_VERSION = 1
@@ -253,11 +252,6 @@ class Store:
     def session(self, library: Library) -> Session:
         """A session on copies of the stored bytes, which the library takes for a store."""
         contents = self.read()
-        if not library.state_bytes == len(contents.state) == STATE_BYTES:
-            raise StoreError(
-                f"{self.path} has a state of {len(contents.state):,} bytes, the library {library.path} one of "
-                f"{library.state_bytes:,}, and this version of timetable-office knows {STATE_BYTES:,}"
-            )
         session = Session(library, contents.state, contents.table)
         if not session.is_store():
             raise StoreError(f"{self.path} is damaged, or the library {library.path} is of another version: refused 13")

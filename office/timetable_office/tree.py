@@ -5,6 +5,7 @@ from __future__ import annotations
 import re
 from typing import NamedTuple, Sequence
 
+from timetable_office.errors import LibraryError
 from timetable_office.library import COUNT_BYTES, RECORD_BYTES
 from timetable_office.state import read_label
 
@@ -47,7 +48,7 @@ def read_view(answer: bytes) -> list[Node]:
                 level += 1
                 nodes.append(Node(level, part[1].decode("ascii")))
     if end is None or int(end[1]) != len(nodes):
-        raise ValueError("the answer is not a view")
+        raise LibraryError("the library is of another version: its answer to (view) cannot be read")
     return nodes
 
 

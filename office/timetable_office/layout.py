@@ -1,0 +1,47 @@
+"""Whether a library's states and tables are laid out as this package reads them (docs/FORMAT.md)."""
+
+from __future__ import annotations
+
+import os
+
+from timetable_office.errors import LibraryError
+from timetable_office.library import Library, Refused
+from timetable_office.state import STATE_BYTES, Stage, read_policy, stage_of, user_of
+from timetable_office.tree import Node, read_table, read_view
+
+_POLICY = [
+    b"(subject a)",
+    b"(subject b)",
+    b"(isa b a)",
+    b"(rule accept read //* a)",
+    b"(rule deny read //d/*/$ b)",
+    b"(rule accept position //d/* a)",
+]
+_TREE = [b"(root r)", b"(child (c (d (b))))", b"(user b)"]
+_NODES = [Node(0, "r"), Node(1, "c"), Node(2, "d"), Node(3, "b")]
+
+
+def load_library(path: str | os.PathLike[str] | None = None) -> Library:
+    """The library, after a short list of lines has left the bytes that this package expects."""
+    library = Library(path)
+    if library.state_bytes != STATE_BYTES:
+        known = f"this version of timetable-office knows {STATE_BYTES:,}"
+        raise LibraryError(
+            f"{library.path} is of another version: its states have {library.state_bytes:,} bytes, {known}"
+        )
+    session = library.session(records=len(_NODES))
+    try:
+        for line in _POLICY + _TREE:
+            session.line(line)
+        view = read_view(session.line(b"(view)"))
+    except Refused as refused:
+        raise LibraryError(f"{library.path} is of another version: it does not take the usual lines") from refused
+    state = session.state
+    as_known = (
+        read_policy(state).lines() == _POLICY
+        and (stage_of(state), user_of(state)) == (Stage.WORK, "b")
+        and read_table(session.table) == view == _NODES
+    )
+    if not as_known:
+        raise LibraryError(f"{library.path} is of another version: its bytes are not laid out as in docs/FORMAT.md")
+    return library
