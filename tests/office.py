@@ -193,6 +193,20 @@ class Package(Office):
         module, _, function = project["scripts"]["timetable-office"].partition(":")
         self.assertTrue(callable(getattr(importlib.import_module(module), function)))
 
+    def test_the_man_page(self):
+        """It names every command and every option that the help has, and no other."""
+        page = read_page("office/timetable-office.1").replace("\\-", "-")
+        commands = re.search(r"\.SH COMMANDS\n(.*?)\.SH ", page, re.S)[1]
+        options = set(re.findall(r"--[a-z]+(?:-[a-z]+)*", re.search(r"\.SH OPTIONS\n(.*?)\.SH ", page, re.S)[1]))
+        named = re.findall(r"^\.TP\n\.B (\w+)$", commands, re.M)
+        told = set(re.findall(r"--[a-z]+(?:-[a-z]+)*", self.office("--help")))
+        for command in named:
+            told |= set(re.findall(r"--[a-z]+(?:-[a-z]+)*", self.office(command, "--help")))
+        self.assertEqual(options, told)
+        self.assertEqual(named, re.findall(r"^    (\w+)  ", self.office("--help"), re.M))
+        for status, _ in re.findall(r"^  (\d+)  (.*)$", self.office("--help"), re.M):
+            self.assertIn(f"\n.B {status}\n", page)
+
     def test_the_sources(self):
         """Columns, type hints, docstrings, and nothing imported from outside the standard library."""
         folder = os.path.join(OFFICE, "timetable_office")
@@ -801,6 +815,39 @@ class NoTrace(Office):
                 self.assertEqual(os.listdir(self.folder), ["store"])
                 self.assertFalse(self.holds(NOTE.encode()))
                 self.assertNotIn(NOTE, self.office("export", "store"))
+
+    def test_labels_that_come_and_go(self):
+        """Runs that add, rename and remove labels that are used once, and new policies: only what is there is found."""
+        rand = random.Random(20261116)
+        self.office("new", "store", "--records", "600", says="an empty store")
+        rules = [*EDITOR, "(rule accept update //* editor)"]
+        self.office("run", "store", "-q", given=[*rules, "(root school)", "(child (day))"])
+        there, gone = [], []
+        for turn in range(25):
+            lines = ["(user editor)"]
+            for _ in range(rand.randint(1, 40)):
+                label = f"{rand.getrandbits(96):024x}"
+                kind = rand.choice(("append", "append", "rename", "remove")) if there else "append"
+                if kind == "append":
+                    lines.append(f"(append /school/day ({label}))")
+                else:
+                    old = there.pop(rand.randrange(len(there)))
+                    gone.append(old)
+                    lines.append(f"({kind} //{old}" + (f" {label})" if kind == "rename" else ")"))
+                there += [label] if kind != "remove" else []
+            self.office("run", "store", "-q", given=lines)
+            word = f"{rand.getrandbits(96):024x}"
+            self.office("policy", "store", given=[*rules, f"(rule deny read //{word} editor)"], says="store")
+            kept = self.read()
+            # a label may lie across two pages of the database, and half of it then in each
+            found = {
+                label: label[:12].encode() in kept or label[12:].encode() in kept for label in [*gone, *there, word]
+            }
+            self.assertEqual([label for label in gone if found[label]], [])
+            self.assertTrue(all(found[label] for label in [*there, word]))
+            gone.append(word)
+        self.assertEqual(os.listdir(self.folder), ["store"])
+        self.assertGreater(len(gone), 100)
 
     def test_a_note_of_a_run_that_failed(self):
         self.school()

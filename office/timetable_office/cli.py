@@ -257,14 +257,6 @@ def make_parser() -> argparse.ArgumentParser:
     made.add_argument("--json", action="store_true", help="print the answers as JSON")
 
     made = command(
-        "policy",
-        policy,
-        "give a stored tree new rules",
-        "Replaces the policy by the subject, isa and rule lines of a file. The tree stays as it is.",
-    )
-    add_file(made)
-
-    made = command(
         "show",
         show,
         "show what one reader sees",
@@ -272,6 +264,14 @@ def make_parser() -> argparse.ArgumentParser:
     )
     made.add_argument("--as", dest="name", metavar="NAME", required=True, help="the subject whose view it is")
     add_format(made, VIEW_FORMATS)
+
+    made = command(
+        "policy",
+        policy,
+        "give a stored tree new rules",
+        "Replaces the policy by the subject, isa and rule lines of a file. The tree stays as it is.",
+    )
+    add_file(made)
 
     made = command(
         "log",

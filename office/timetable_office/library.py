@@ -71,7 +71,7 @@ def find_library(given: str | os.PathLike[str] | None = None) -> str:
         return system
     raise LibraryError(
         f"the library {LIBRARY_FILE} was not found: name it with --library FILE or in {LIBRARY_VARIABLE}, "
-        f"put it beside {beside.parent}, or install it in the system"
+        f"put it into {beside.parent}, or install it in the system"
     )
 
 
