@@ -1,8 +1,10 @@
 #!/usr/bin/env python3
-"""office.py [ARCHIVE]: tests of the companion `timetable-office`, each command as a user runs it, and what goes wrong
-with it. The library is made from the archive, target/staticlib/liblouvretansy.a unless another is named. Needs gcc.
+"""office.py [--kills N] [ARCHIVE]: tests of the companion `timetable-office`, each command as a user runs it, and what
+goes wrong with it. The library is made from the archive, target/staticlib/liblouvretansy.a unless another is named. So
+many runs are killed, 30 if no number is given. Needs gcc.
 """
 
+import argparse
 import ast
 import contextlib
 import csv
@@ -39,7 +41,6 @@ from timetable_office.store import Store  # noqa: E402
 from timetable_office.tree import Node, read_table, read_view, tree_text  # noqa: E402
 
 ARCHIVE = os.path.join(ROOT, "target", "staticlib", "liblouvretansy.a")
-KILLS = 30
 SECONDS = 60
 COLUMNS = 120
 # A label that stands nowhere but in the tree.
@@ -59,6 +60,7 @@ EDITOR = [
 
 library_file = ""
 library: Library
+kills = 30
 
 
 def text_of(lines):
@@ -1020,37 +1022,43 @@ class Faults(Office):
         run.send_signal(signal.SIGKILL)
         run.wait(SECONDS)
 
+    def nodes_and_runs(self):
+        """How many nodes the store has, and how many child lines its log tells of, after it was opened and checked."""
+        with Store(self.store) as store:
+            lines = sum(entry.lines for entry in store.entries() if entry.form == "child")
+            return len(read_table(store.session(library).table)), lines
+
     def test_killed_runs(self):
         """kill -9 at random moments: the store opens, as it was before the run or as it is after it."""
         rand = random.Random(time.time_ns())
-        self.office("new", "store", "--records", "12000", says="an empty store")
+        days, records = 60, 12_000
+        remove = ["(user editor)", "(remove //day)"]
+        self.office("new", "store", "--records", str(records), says="an empty store")
         self.office("run", "store", "-q", given=[*EDITOR, "(root school)"])
-        self.write("work", f"(child (day (lesson (room ({NOTE})))))\n" * 60)
+        self.write("work", f"(child (day (lesson (room ({NOTE})))))\n" * days)
         begun = time.monotonic()
         self.office("run", "store", "work", "-q", process=True)
         needed = time.monotonic() - begun
-        children = 60
         kept = journals = 0
-        for turn in range(KILLS):
+        for turn in range(kills):
+            nodes, lines = self.nodes_and_runs()
+            if nodes + 4 * days > records:
+                self.office("run", "store", "-q", given=remove)
+                nodes = 1
             journal = turn % 2 == 1
             self.kill_a_run(rand.expovariate(250) if journal else rand.uniform(0.3, 1) * needed, journal)
             journals += os.path.exists(self.store + "-journal")
-            with Store(self.store) as store:
-                nodes = len(read_table(store.session(library).table))
-                logged = sum(entry.lines for entry in store.entries() if entry.form == "child")
-            self.assertIn(logged, (children, children + 60))
-            self.assertEqual(nodes, 1 + 4 * logged)
-            kept += logged > children
-            children = logged
-        print(
-            f"{KILLS} runs killed: {kept} had been done, the others left the store as it was; {journals} journals seen"
-        )
-        self.assertIn(f"(end {nodes})", self.office("show", "store", "--as", "editor", "--format", "lines"))
+            after = self.nodes_and_runs()
+            self.assertIn(after, ((nodes, lines), (nodes + 4 * days, lines + days)))
+            kept += after[1] > lines
+        print(f"{kills} runs killed: {kept} had been done, the others left no mark; {journals} journals seen")
         os.unlink(self.path("work"))
+        self.office("run", "store", "-q", given="(child (%s))\n" % NOTE)
         self.assertTrue(self.holds(NOTE.encode()))
-        self.office("run", "store", "-q", given=["(user editor)", "(remove //lesson)"])
+        self.office("run", "store", "-q", given=[*remove, "(remove //%s)" % NOTE])
         self.assertEqual(os.listdir(self.folder), ["store"])
         self.assertFalse(self.holds(NOTE.encode()))
+        self.assertEqual(self.office("show", "store", "--as", "editor"), "school\n")
 
     def test_interrupted(self):
         self.school()
@@ -1069,11 +1077,13 @@ class Faults(Office):
 
 
 def main():
-    global library_file, library
-    words = sys.argv[1:]
-    if len(words) > 1 or (words and words[0].startswith("-")):
-        sys.exit(__doc__)
-    archive = os.path.abspath(words[0]) if words else ARCHIVE
+    global library_file, library, kills
+    parser = argparse.ArgumentParser(description=__doc__)
+    parser.add_argument("--kills", type=int, default=kills)
+    parser.add_argument("archive", nargs="?", default=ARCHIVE)
+    options = parser.parse_args()
+    kills = options.kills
+    archive = os.path.abspath(options.archive)
     if not os.path.exists(archive):
         sys.exit(f"FAILED: {archive} is missing; `rt staticlib louvretansy` makes it")
     with tempfile.TemporaryDirectory() as folder:

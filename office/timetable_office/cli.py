@@ -120,13 +120,14 @@ def run(options: argparse.Namespace) -> int:
                 if options.json:
                     put(run_json(given, [refused.answered], kept=False))
                 raise
+            # before the answers, so that a full disk is found while nothing is printed
+            store.write(Contents(done.state, done.table), "run", done.log)
             for answered in done.refused():
                 complain(f"{given.at(answered.line)}: {answered.complaint()}")
             if options.json:
                 put(run_json(given, done.answered, kept=True))
             elif not options.quiet:
                 put(b"".join(answer_text(answered) for answered in done.answered))
-            store.write(Contents(done.state, done.table), "run", done.log)
     return NOT_TAKEN if done.refused() else DONE
 
 
