@@ -471,6 +471,13 @@ class RunLines(Office):
         self.assertIn("standard input:4: refused 2", self.errors)
         self.assertIn("R14", self.office("show", "store", "--as", "SHA"))
 
+    def test_a_refused_login_that_is_passed_over(self):
+        self.school()
+        lines = ["(user nobody)", "(user staff)", "(user wbe)"]
+        self.office("run", "store", "--keep-going", given=lines, status=1, says="no subject is declared as nobody)\n")
+        self.assertIn("standard input:3: refused 5", self.errors)
+        self.assertIn("no subject is declared as wbe; staff is still logged in)", self.errors)
+
     def test_json(self):
         self.school()
         told = json.loads(self.office("run", "store", "--json", given="(user SHA)\n(view)\n"))
@@ -490,7 +497,8 @@ class RunLines(Office):
                 (b"(subject a)\n(subject b)\r\n", 2, 1, "the line ends with CR LF"),
                 (b"\xef\xbb\xbf(subject a)\n", 1, 1, "the file begins with a byte order mark"),
                 ("(subject a)\n".encode("utf-16"), 1, 1, "the file is saved as UTF-16"),
-                ("(subject a)\n(subject Zo\u00eb)\n".encode(), 2, 1, "byte 12 of the line: '\u00eb')"),
+                ("(subject a)\n(subject Zo\u00eb)\n".encode(), 2, 1, "byte 12 of the line: \u00eb)"),
+                (b"(subject Zo\xeb)\n", 1, 1, "byte 12 of the line: \\xeb)"),
                 (b"(subject\ta)\n", 1, 1, "byte 9 of the line: '\\t')"),
                 (b"(root r)\n(child (day" + b" (lesson)" * 200 + b"))\n", 2, 1, "the line has 1,813 bytes; give this"),
                 (b"(subject a)\n\n", 2, 2, "the line is empty)"),
@@ -500,6 +508,7 @@ class RunLines(Office):
                 (b"(root r)\n(child (day)\n", 2, 2, "parentheses: 2 are opened and 1 is closed)"),
                 (b"(view)\n", 1, 3, "there is no root yet)"),
                 (b"(root r)\n(subject a)\n", 2, 3, "the policy is fixed once the root is there"),
+                (b"(subject a)\n(subject a)\n", 2, 5, "a is declared already)"),
                 (b"(root r)\n(child (RESTRICTED))\n", 2, 9, "RESTRICTED stands for hidden labels"),
                 (b"(subject a)\n(root r)\n(user a)\n(child (b))\n", 4, 3, "child lines come before the first user"),
             ):
@@ -519,6 +528,8 @@ class RunLines(Office):
         self.school()
         self.office("run", "store", "none", status=3, says="none cannot be read: No such file")
         self.office("run", "store", ".", status=3, says=". cannot be read: Is a directory")
+        before = ["bash", "-c", 'exec "$@" 0>/dev/null', "bash"]
+        self.office("run", "store", before=before, status=3, says="standard input cannot be read: Bad file descriptor")
 
 
 class Show(Office):
@@ -787,7 +798,7 @@ class NewPolicy(Office):
                 "store",
                 given=[*self.RULES, "(root school)"],
                 status=1,
-                says="standard input:4: a root line does not belong here",
+                says="standard input:4: a root line does not belong in a policy",
             )
             self.office(
                 "policy", "store", given=[*self.RULES, "(user web)"], status=1, says="standard input:4: refused 3"

@@ -194,10 +194,10 @@ def export(options: argparse.Namespace) -> int:
 
 def record_count(text: str) -> int:
     """A number of records, for argparse."""
-    number = int(text.replace(",", ""))
-    if not 1 <= number <= RECORDS_MAXIMUM:
+    digits = text.replace(",", "")
+    if not digits.isdecimal() or not 1 <= int(digits) <= RECORDS_MAXIMUM:
         raise argparse.ArgumentTypeError(f"a table has 1 to {RECORDS_MAXIMUM:,} records")
-    return number
+    return int(digits)
 
 
 def make_parser() -> argparse.ArgumentParser:

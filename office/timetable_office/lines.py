@@ -55,14 +55,15 @@ def split_lines(name: str, data: bytes) -> Lines:
 
 def read_lines(source: str) -> Lines:
     """All lines of a file, or of standard input."""
-    if source == STANDARD_INPUT:
-        if sys.stdin is None:
-            raise OfficeError("standard input cannot be read: it is closed")
-        return split_lines("standard input", sys.stdin.buffer.read())
+    name = "standard input" if source == STANDARD_INPUT else source
     try:
-        return split_lines(source, Path(source).read_bytes())
+        if source != STANDARD_INPUT:
+            return split_lines(name, Path(source).read_bytes())
+        if sys.stdin is None:
+            raise OfficeError(f"{name} cannot be read: it is closed")
+        return split_lines(name, sys.stdin.buffer.read())
     except OSError as error:
-        raise OfficeError(f"{source} cannot be read: {error.strerror}") from error
+        raise OfficeError(f"{name} cannot be read: {error.strerror}") from error
 
 
 def form_of(text: bytes, refused: int | None = None) -> str | None:
@@ -94,9 +95,10 @@ def _explain_bytes(text: bytes, session: Session) -> str:
     if body != text:
         said.append("the line ends with CR LF, as Windows writes it: save the file with LF line ends")
     if not text.startswith(tuple(_ENCODING_MARKS)):
-        odd = re.search(rb"[^ -~]+", body)
+        odd = re.search(rb"[^ -~]{1,12}", body)
         if odd:
-            said.append(f"byte {odd.start() + 1} of the line: {odd[0].decode('utf-8', 'replace')!r}")
+            shown = odd[0].decode("utf-8", "backslashreplace")
+            said.append(f"byte {odd.start() + 1} of the line: {shown if shown.isprintable() else ascii(shown)}")
     if len(body) > LINE_MAXIMUM:
         said.append(f"the line has {len(body):,} bytes")
         if body.startswith(b"(child "):
@@ -141,6 +143,8 @@ def _explain_stage(text: bytes, session: Session) -> str:
 def _explain_name(text: bytes, session: Session) -> str:
     known = read_policy(session.state).subjects
     words = text.removeprefix(b"(").removesuffix(b")").split(b" ")
+    if words[0] == b"subject":
+        return f"{words[1].decode('ascii')} is declared already"
     said = []
     for place in _NAMES.get(words[0], ()):
         name = words[place].decode("ascii")

@@ -17,7 +17,7 @@ def replace_policy(session: Session, given: Lines) -> Run:
     child line. It stands with the table as it is, and the library has to take both together for a store.
     """
     fresh = session.library.session(records=2)
-    run = run_lines(fresh, given, last_stage=Stage.RULES)
+    run = run_lines(fresh, given, policy_alone=True)
     nodes = read_table(session.table)
     if nodes:
         fresh.line(b"(root " + nodes[0].label.encode("ascii") + b")")

@@ -3,7 +3,7 @@
 from __future__ import annotations
 
 import re
-from dataclasses import dataclass, field
+from dataclasses import dataclass, field, replace
 from typing import Callable, NamedTuple
 
 from timetable_office.errors import InputError
@@ -97,12 +97,12 @@ def run_lines(
     given: Lines,
     *,
     keep_going: bool = False,
-    last_stage: Stage = Stage.WORK,
+    policy_alone: bool = False,
     progress: Callable[[int], None] = lambda count: None,
 ) -> Run:
     """Gives the lines to the session. The first refused line ends it with `RefusedLine`, unless it is to keep going.
 
-    A line that leads past the last stage is an error too.
+    With `policy_alone` a line that is no longer of the policy is an error too.
     """
     run = Run(session.state, session.table)
     for line in given.lines:
@@ -113,12 +113,15 @@ def run_lines(
             answered = Answered(line, form, refused=refused, advice=explain(line.text, refused.number, session))
             if not keep_going:
                 raise RefusedLine(given, answered) from refused
-            run.note(Given(user_of(session.state), form, refused.number, Counts()))
+            user = user_of(session.state)
+            if form == "user" and user:
+                answered = replace(answered, advice=f"{answered.advice}; {user} is still logged in")
+            run.note(Given(user, form, refused.number, Counts()))
         else:
             state = session.state
             answered = Answered(line, form_of(line.text), answer)
-            if stage_of(state) > last_stage:
-                raise InputError(f"{given.at(line)}: a {answered.form} line does not belong here")
+            if policy_alone and stage_of(state) > Stage.RULES:
+                raise InputError(f"{given.at(line)}: a {answered.form} line does not belong in a policy")
             if stage_of(state) < Stage.WORK:
                 run.state = state
             run.note(Given(user_of(state), answered.form, None, counts_of(answer)))

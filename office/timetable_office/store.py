@@ -118,7 +118,7 @@ def create_store(path: str, contents: Contents) -> None:
         _insert_entries(connection, "new", [(Given(None, None, None, Counts()), 0)])
         data = connection.serialize()
     try:
-        with tempfile.NamedTemporaryFile(dir=target.parent, prefix=f".{target.name}.", suffix=".new") as file:
+        with tempfile.NamedTemporaryFile(dir=target.parent, prefix=".timetable-office.") as file:
             file.write(data)
             file.flush()
             os.fsync(file.fileno())
