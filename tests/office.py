@@ -367,6 +367,7 @@ class Binding(Office):
         shutil.copytree(OFFICE, self.path("office"), ignore=shutil.ignore_patterns("*.so"))
         nowhere = {"TIMETABLE_LIBRARY": None, "PYTHONPATH": self.path("office")}
         self.office("new", "b", environment=nowhere, status=3, says="was not found")
+        self.office("new", "c", environment={**nowhere, "LD_LIBRARY_PATH": os.path.dirname(library_file)}, says="empty")
         shutil.copy(library_file, self.path("office/timetable_office/liblouvretansy.so"))
         self.office("new", "b", environment=nowhere, says="an empty store")
 

@@ -66,13 +66,21 @@ def find_library(given: str | os.PathLike[str] | None = None) -> str:
     beside = Path(__file__).absolute().with_name(LIBRARY_FILE)
     if beside.is_file():
         return str(beside)
-    system = ctypes.util.find_library(LIBRARY_NAME)
+    system = _in_the_system(LIBRARY_FILE) or _in_the_system(ctypes.util.find_library(LIBRARY_NAME))
     if system:
         return system
     raise LibraryError(
         f"the library {LIBRARY_FILE} was not found: name it with --library FILE or in {LIBRARY_VARIABLE}, "
         f"put it into {beside.parent}, or install it in the system"
     )
+
+
+def _in_the_system(name: str | None) -> str | None:
+    """The name, if the system finds a library by it."""
+    try:
+        return name if name and ctypes.CDLL(name) else None
+    except OSError:
+        return None
 
 
 class Library:
