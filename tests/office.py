@@ -33,12 +33,16 @@ ROOT = timetable.ROOT
 OFFICE = os.path.join(ROOT, "office")
 sys.path.insert(0, OFFICE)
 from timetable_office import __version__, cli, refusals  # noqa: E402
-from timetable_office.export import export_lines  # noqa: E402
+from timetable_office.errors import InputError  # noqa: E402
+from timetable_office.export import export_lines, policy_lines  # noqa: E402
 from timetable_office.library import LINE_MAXIMUM, Library, Refused, Session  # noqa: E402
 from timetable_office.lines import split_lines  # noqa: E402
+from timetable_office.replace import replace_policy  # noqa: E402
 from timetable_office.runs import run_lines  # noqa: E402
+from timetable_office.state import read_policy  # noqa: E402
 from timetable_office.store import Store  # noqa: E402
 from timetable_office.tree import Node, read_table, read_view, tree_text  # noqa: E402
+from timetable_office.views import log_in, view_of  # noqa: E402
 
 ARCHIVE = os.path.join(ROOT, "target", "staticlib", "liblouvretansy.a")
 SECONDS = 60
@@ -70,6 +74,10 @@ def text_of(lines):
 def read_page(name):
     with open(os.path.join(ROOT, name), encoding="utf-8") as file:
         return file.read()
+
+
+def listed(lines):
+    return split_lines("lines", b"".join(line + b"\n" for line in lines))
 
 
 def make_library(folder, archive):
@@ -313,17 +321,42 @@ class Binding(Office):
         self.assertEqual(read_table(other.table), [Node(0, "school")])
 
     def test_every_list_of_the_program(self):
-        """The lists of tests/vectors are answered as the program answers them."""
+        """The lists of tests/vectors are answered as the program answers them, and what they leave is a store."""
         folder = os.path.join(ROOT, "tests", "vectors")
         names = sorted(name[:-3] for name in os.listdir(folder) if name.endswith(".in"))
-        self.assertTrue(names)
+        exported = 0
         for name in names:
-            given = split_lines(name, self.read(os.path.join(folder, name + ".in")))
-            run = run_lines(library.session(records=1024), given, keep_going=True)
-            printed = b"".join(map(cli.answer_text, run.answered))
-            self.assertEqual(printed, self.read(os.path.join(folder, name + ".out")), name)
-            self.assertTrue(Session(library, run.state, run.table).is_store(), name)
-            self.assertEqual(sum(lines for _, lines in run.log), len(given.lines), name)
+            with self.subTest(name):
+                given = split_lines(name, self.read(os.path.join(folder, name + ".in")))
+                run = run_lines(library.session(records=1024), given, keep_going=True)
+                printed = b"".join(map(cli.answer_text, run.answered))
+                self.assertEqual(printed, self.read(os.path.join(folder, name + ".out")))
+                self.assertEqual(sum(lines for _, lines in run.log), len(given.lines))
+                session = Session(library, run.state, run.table)
+                self.check_store(session)
+                exported += self.is_exported(session)
+        self.assertGreater(exported, len(names) * 9 // 10)
+
+    def check_store(self, session):
+        """The library takes it, its policy can be replaced by itself, and a view has the nodes that a query lists."""
+        self.assertTrue(session.is_store())
+        same = replace_policy(session, listed(policy_lines(session)))
+        self.assertEqual((same.state, same.table), (session.state, session.table))
+        for subject in read_policy(session.state).subjects if read_table(session.table) else ():
+            hits = re.findall(rb"\(hit ([0-9]+) (.*)\)\n", log_in(session, subject).line(b"(query //*)"))
+            nodes = [Node(int(level), label.decode()) for level, label in hits]
+            self.assertEqual(read_view(view_of(session, subject)), nodes)
+
+    def is_exported(self, session):
+        """Whether there are lines for it; they give it again. One part that is too large may keep it from being so."""
+        try:
+            lines = export_lines(session)
+        except InputError as error:
+            self.assertIn("does not fit a child line", str(error))
+            return False
+        again = run_lines(library.session(records=session.records), listed(lines))
+        self.assertEqual((again.state[1:], again.table), (session.state[1:], session.table))
+        return True
 
     def test_no_library(self):
         self.office("new", "store", "--library", "none.so", process=True, status=3, says="there is no library at")
@@ -711,19 +744,28 @@ class Export(Office):
         self.assertLessEqual(max(map(len, lines)), LINE_MAXIMUM)
         self.assertIn(b"(user editor)", lines)
         again = library.session(records=2000)
-        run = run_lines(again, split_lines("export", b"".join(line + b"\n" for line in lines)))
+        run = run_lines(again, listed(lines))
+        self.assertEqual((run.state, run.table), (session.state, session.table))
+
+    def test_two_who_each_may_add_to_a_day(self):
+        read = [f"(rule accept read //* {name})" for name in ("a", "b", "c")]
+        places = (("//tue", "b"), ("//tue//*", "b"), ("//wed", "a"), ("//wed//*", "a"))
+        rules = [f"(rule accept insert {path} {name})" for path, name in places]
+        session = self.large(["(subject a)", "(subject b)", "(subject c)", *read, *rules])
+        lines = export_lines(session)
+        self.assertEqual([line for line in lines if line.startswith(b"(user ")], [b"(user b)", b"(user a)"])
+        run = run_lines(library.session(records=2000), listed(lines))
         self.assertEqual((run.state, run.table), (session.state, session.table))
 
     def test_days_that_no_lines_give(self):
-        for policy in (
-            ["(subject a)", "(rule accept read //* a)"],
-            [*EDITOR, "(rule deny insert //tue editor)"],
-            [*EDITOR, "(rule deny read //mon editor)"],
+        for policy, says in (
+            (["(subject a)", "(rule accept read //* a)"], "tue, number 2 below the root, does not fit"),
+            ([*EDITOR, "(rule deny insert //wed editor)"], "wed, number 3 below the root, does not fit"),
+            ([*EDITOR, "(rule deny read //mon editor)"], "tue, number 2 below the root, does not fit"),
         ):
-            with self.assertRaises(Exception) as caught:
+            with self.assertRaises(InputError) as caught:
                 export_lines(self.large(policy))
-            self.assertIn("lines cannot give this tree", str(caught.exception))
-            self.assertIn("tue (number 2), wed (number 3)", str(caught.exception))
+            self.assertIn("the tree is not exported: " + says, str(caught.exception))
 
     def test_random_trees(self):
         rand = random.Random(20261116)
@@ -751,9 +793,7 @@ class Export(Office):
                 above.append(above[-1] + b"/*[%d]" % last[node.level])
             self.assertEqual(read_table(session.table), nodes)
             lines = export_lines(Session(library, state, session.table))
-            again = run_lines(
-                library.session(records=500), split_lines("again", b"".join(line + b"\n" for line in lines))
-            )
+            again = run_lines(library.session(records=500), listed(lines))
             self.assertEqual(again.table, session.table)
 
 

@@ -2,8 +2,8 @@
 
 A `child` line gives a whole tree below the root, so by child lines alone a tree below the root has to fit 1,024 bytes.
 A larger one is given with its first nodes, in document order, and the others are added by `append` lines. Those need a
-login: a subject of this very policy who sees the whole tree and has insert where nodes are added. Without one, lines
-cannot give such a tree.
+login: a subject of this very policy who sees all that stands before and has insert where nodes are added. Without one
+nothing is exported, and the part that is too large is told.
 
 The lines are given to an empty store before they are shown, and have to leave the same policy and the same table.
 """
@@ -89,56 +89,61 @@ def _positions(nodes: Sequence[Node]) -> list[bytes]:
     return paths
 
 
-def _appends(nodes: Sequence[Node], left: Sequence[range]) -> Iterator[bytes]:
-    """Append lines for the nodes that are left, in document order: each parent and all before it are there by then."""
-    paths = _positions(nodes)
-    for places in left:
-        start = places.start
-        while start < places.stop:
-            parent = next(place for place in reversed(range(start)) if nodes[place].level < nodes[start].level)
-            head = b"(append " + paths[parent] + b" "
-            end = _fitting_end(nodes, start, LINE_MAXIMUM - len(head) - len(b")"))
-            yield head + tree_text(nodes[start:end]) + b")"
-            start = end
+def _appends(nodes: Sequence[Node], paths: Sequence[bytes], places: range) -> Iterator[bytes]:
+    """Append lines for the nodes of these places, in document order: all before each is there by then."""
+    start = places.start
+    while start < places.stop:
+        parent = next(place for place in reversed(range(start)) if nodes[place].level < nodes[start].level)
+        head = b"(append " + paths[parent] + b" "
+        end = _fitting_end(nodes, start, LINE_MAXIMUM - len(head) - len(b")"))
+        yield head + tree_text(nodes[start:end]) + b")"
+        start = end
 
 
 def _append_lines(
     session: Session, before: Sequence[bytes], nodes: Sequence[Node], left: Sequence[range]
 ) -> list[bytes]:
-    """A login and append lines that complete the tree, for the first subject who may give them."""
-    appends = list(_appends(nodes, left))
+    """Logins and append lines that complete the tree, each part by the first subject who may give it."""
     made = session.library.session(records=session.records)
     run_lines(made, _listed(before))
-    for name in read_policy(session.state).subjects:
-        lines = [f"(user {name})".encode("ascii"), *appends]
-        if _complete(made.copy(), lines, session.table):
-            return lines
-    large = [f"{nodes[_top(nodes, places.start)].label} (number {_number(nodes, places.start)})" for places in left]
-    raise InputError(
-        "lines cannot give this tree. Below the root, these have more than one child line of 1,024 bytes holds: "
-        f"{', '.join(large)}. The rest of them could be added by append lines, but no subject of this policy sees the "
-        "whole tree and has insert wherever nodes are to be added. `export --policy` gives the policy alone; "
-        "a copy of the store's file keeps both."
-    )
+    paths = _positions(nodes)
+    names = list(read_policy(session.state).subjects)
+    lines: list[bytes] = []
+    for places in left:
+        appends = list(_appends(nodes, paths, places))
+        for name in names:
+            login = f"(user {name})".encode("ascii")
+            tried = made.copy()
+            if _adds(tried, [login, *appends]) and read_table(tried.table)[: places.stop] == nodes[: places.stop]:
+                break
+        else:
+            raise InputError(_too_large(nodes, places))
+        made = tried
+        # whoever is logged in is tried first for the next part, and need not log in again
+        lines += appends if lines and names[0] == name else [login, *appends]
+        names.remove(name)
+        names.insert(0, name)
+    return lines
 
 
-def _complete(session: Session, lines: Sequence[bytes], table: bytes) -> bool:
-    """Whether a login and append lines that each add one tree lead to this table."""
+def _adds(session: Session, lines: Sequence[bytes]) -> bool:
+    """Whether the first line logs in, and each of the others adds one tree."""
     try:
         session.line(lines[0])
-        return all(session.line(line) == _ONE_DONE for line in lines[1:]) and session.table == table
+        return all(session.line(line) == _ONE_DONE for line in lines[1:])
     except Refused:
         return False
 
 
-def _top(nodes: Sequence[Node], place: int) -> int:
-    """The place of the child of the root above a node."""
-    return next(top for top in reversed(range(place + 1)) if nodes[top].level == 1)
-
-
-def _number(nodes: Sequence[Node], place: int) -> int:
-    """Which child of the root is above a node, from 1."""
-    return sum(1 for node in nodes[: _top(nodes, place) + 1] if node.level == 1)
+def _too_large(nodes: Sequence[Node], places: range) -> str:
+    """Why a tree is not exported: the part below the root to which these places belong is too large for a line."""
+    parts = [node.label for node in nodes[: places.start] if node.level == 1]
+    return (
+        f"the tree is not exported: {parts[-1]}, number {len(parts)} below the root, does not fit a child line of "
+        f"{LINE_MAXIMUM:,} bytes. The rest of it would be added by append lines, but no subject of this policy sees "
+        "all that stands before it and has insert where nodes are to be added. `export --policy` gives the policy "
+        "alone; a copy of the store's file keeps both."
+    )
 
 
 def _check(session: Session, lines: Sequence[bytes]) -> None:
