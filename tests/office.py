@@ -903,6 +903,16 @@ class NoTrace(Office):
         self.assertEqual(os.listdir(self.folder), ["store"])
         self.assertGreater(len(gone), 100)
 
+    def test_a_store_that_another_program_gave_a_write_ahead_log(self):
+        self.school([f"(child (note ({NOTE})))"])
+        with contextlib.closing(sqlite3.connect(self.store)) as connection:
+            self.assertEqual(connection.execute("PRAGMA journal_mode = WAL").fetchone(), ("wal",))
+            connection.execute("UPDATE contents SET one = one")
+        self.office("policy", "store", given=EDITOR, says="store: 1 subject")
+        self.office("run", "store", "-q", given=["(user editor)", "(remove //note)"])
+        self.assertEqual(os.listdir(self.folder), ["store"])
+        self.assertFalse(self.holds(NOTE.encode()))
+
     def test_a_note_of_a_run_that_failed(self):
         self.school()
         self.office("run", "store", "-q", given=[f"(child (note ({NOTE})))", "oops"], status=1, says="refused 2")
@@ -1114,18 +1124,15 @@ class Faults(Office):
 
     def test_interrupted(self):
         self.school()
-        with self.unchanged():
-            run = subprocess.Popen(
-                self.command(["run", "store"]),
-                stdin=subprocess.PIPE,
-                stderr=subprocess.PIPE,
-                cwd=self.folder,
-                env=self.environment(),
-            )
-            time.sleep(0.5)
+        os.mkfifo(self.path("lines"))
+        before = self.read()
+        words = self.command(["run", "store", "lines"])
+        run = subprocess.Popen(words, stderr=subprocess.PIPE, cwd=self.folder, env=self.environment())
+        # it is open as soon as the command reads it
+        with open(self.path("lines"), "wb"):
             run.send_signal(signal.SIGINT)
             self.assertIn(b"interrupted; store is as it was", run.communicate(timeout=SECONDS)[1])
-            self.assertEqual(run.returncode, 130)
+        self.assertEqual((run.returncode, self.read()), (130, before))
 
 
 def main():
