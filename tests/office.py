@@ -28,6 +28,7 @@ import unittest
 
 sys.path.insert(0, os.path.dirname(os.path.abspath(__file__)))
 import timetable  # noqa: E402
+import vectors  # noqa: E402
 
 ROOT = timetable.ROOT
 OFFICE = os.path.join(ROOT, "office")
@@ -322,15 +323,14 @@ class Binding(Office):
 
     def test_every_list_of_the_program(self):
         """The lists of tests/vectors are answered as the program answers them, and what they leave is a store."""
-        folder = os.path.join(ROOT, "tests", "vectors")
-        names = sorted(name[:-3] for name in os.listdir(folder) if name.endswith(".in"))
+        names = vectors.lists(".in")
         exported = 0
         for name in names:
             with self.subTest(name):
-                given = split_lines(name, self.read(os.path.join(folder, name + ".in")))
+                given = split_lines(name, vectors.read(name + ".in"))
                 run = run_lines(library.session(records=1024), given, keep_going=True)
                 printed = b"".join(map(cli.answer_text, run.answered))
-                self.assertEqual(printed, self.read(os.path.join(folder, name + ".out")))
+                self.assertEqual(printed, vectors.read(name + ".out"))
                 self.assertEqual(sum(lines for _, lines in run.log), len(given.lines))
                 session = Session(library, run.state, run.table)
                 self.check_store(session)
