@@ -1027,6 +1027,13 @@ class Faults(Office):
             self.assertEqual(self.office("show", "store", "--as", "SHA", before=before), OUTLINE)
             os.chmod(self.store, 0o600)
 
+    def test_the_store_of_another_account(self):
+        self.school()
+        os.chmod(self.store, 0)
+        before = ["setpriv", "--bounding-set", "-dac_override,-dac_read_search"] if os.getuid() == 0 else []
+        says = "store cannot be read by this account"
+        self.office("show", "store", "--as", "SHA", process=True, before=before, status=3, says=says)
+
     def test_no_room_on_the_disk(self):
         """Files may not grow beyond 40,000 bytes: SQLite's journal does not fit, nor does a new store."""
         self.school(records=3000)
@@ -1036,7 +1043,7 @@ class Faults(Office):
 
         tree = ["(child (day" + " (lesson (room (R12)))" * 40 + "))"] * 10
         before = self.read()
-        self.office("run", "store", "-q", given=tree, preexec_fn=small_files, status=3, says="store")
+        self.office("run", "store", "-q", given=tree, preexec_fn=small_files, status=3, says="the store is as it was")
         self.office("log", "store")
         self.assertEqual(self.read(), before)
         self.assertEqual(os.listdir(self.folder), ["store"])

@@ -171,6 +171,8 @@ class Store:
             raise StoreError(f"{self.path} cannot be opened: {error.strerror}") from error
         if not stat.S_ISREG(mode):
             raise StoreError(f"{self.path} is not a file")
+        if not os.access(self.path, os.R_OK):
+            raise StoreError(f"{self.path} cannot be read by this account")
         if mode & (stat.S_IRWXG | stat.S_IRWXO):
             raise StoreError(f"{self.path} is open to other accounts; `chmod 600 {self.path}` closes it to them")
 
@@ -210,6 +212,8 @@ class Store:
             return f"{self.path}: the disk is full; the store is as it was"
         if code in (sqlite3.SQLITE_READONLY, sqlite3.SQLITE_CANTOPEN, sqlite3.SQLITE_PERM):
             return f"{self.path} cannot be written here: the file or its folder is read-only; the store is as it was"
+        if code == sqlite3.SQLITE_IOERR:
+            return f"{self.path} could not be read or written ({error}); the store is as it was"
         return f"{self.path}: {error}"
 
     @contextmanager
