@@ -1,0 +1,2 @@
+-- How a document is read, token by token. Nothing that `Document` says lies here.
+pub mod Tokens

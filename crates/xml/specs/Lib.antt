@@ -1,0 +1,2 @@
+pub mod Document
+pub mod How

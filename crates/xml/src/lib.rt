@@ -1,0 +1,1 @@
+// The solver's file (document 02, card 2): XML of a narrow kind.
