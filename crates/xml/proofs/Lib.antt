@@ -1,1 +1,3 @@
 pub mod Examples
+pub mod LexLaws
+pub mod TokenLaws
