@@ -1,3 +1,4 @@
 pub mod Examples
 pub mod LexLaws
 pub mod TokenLaws
+pub mod DocumentComplete
