@@ -2,3 +2,4 @@ pub mod Examples
 pub mod LexLaws
 pub mod TokenLaws
 pub mod DocumentComplete
+pub mod DocumentSound
