@@ -116,13 +116,16 @@ unfolding piecesOf nested nestedIn
 root-nested b (bare n) = refl
 root-nested b (full n c) = content-nested c n [] 0
 
+pub document-tokens : (d : Document) → GoodDocument d → tokens (writeDocument d) ≡ got (tokensOf (piecesOf (blank (d .before)) (d .root) []))
+document-tokens d g =
+    let b : Text = blank (d .before) in
+    rw (← (element-written (d .root) b [] (d .after))) (tokens-pieces (piecesOf b (d .root) []) (d .after) (element-good (d .root) b [] (g .before) (g .root) tt) (g .after))
+
 pub document-read : (s : List ℕ) (u : Tree) → DocumentOf s u → (isDocument s ≡ true) × (documentNodes s ≡ nodesOf 0 u)
 unfolding isDocument documentNodes matchedIn tokenNodes nodesIn
 document-read s u (d, g, e, q) =
     let b : Text = blank (d .before) in
-    let ps : List Piece = piecesOf b (d .root) [] in
-    let w = e ∙ sym (element-written (d .root) b [] (d .after)) in
-    let t : tokens s ≡ got (tokensOf ps) = rw w (tokens-pieces ps (d .after) (element-good (d .root) b [] (g .before) (g .root) tt) (g .after)) in (
-      rw (t, root-nested (d .before) (d .root)) (element-matched (d .root) b [] []),
-      rw (t, q) (element-nodes (d .root) b [] 0 ∙ append-nil (nodesOf 0 (elementTree (d .root)))),
+    let t = document-tokens d g in (
+      rw (e, t, root-nested (d .before) (d .root)) (element-matched (d .root) b [] []),
+      rw (e, t, q) (element-nodes (d .root) b [] 0 ∙ append-nil (nodesOf 0 (elementTree (d .root)))),
     )

@@ -3,3 +3,4 @@ pub mod LexLaws
 pub mod TokenLaws
 pub mod DocumentComplete
 pub mod DocumentSound
+pub mod DocumentLaws
