@@ -1,15 +1,14 @@
 -- What is written as a document is read as one, with the nodes of its tree. Assumes nothing.
 use Prim.Native.Nat.{ℕ, suc, _-_}
-use mathlib.Core.Path.{_≡_, refl, sym, ap, _∙_}
+use mathlib.Core.Path.{_≡_, refl, ap, _∙_}
 use mathlib.Core.List.{List, [], _∷_, _++_, append-assoc, append-nil}
-use mathlib.Core.Bool.{true, false}
+use mathlib.Core.Bool.{true}
 use native.Mathlib.Omega.{arith}
 use borrow.Author.Tests.{eq-eqb}
-use Rattle.rights.specs.Nodes.{Node, node}
-use Rattle.rights.specs.Tree.{Tree, tree, Trees, none, more, nodesOf, nodesIn}
+use Rattle.rights.specs.Tree.{Tree, Trees, none, more, nodesOf, nodesIn}
 use Rattle.xml.specs.Document.{Text, blank, said, Element, empty as bare, full, Content, ends, goes, Document, writeText, writeElement, writeContent, writeDocument}
-use Rattle.xml.specs.Document.{withText, elementTree, contentTrees, documentTree, GoodName, GoodText, GoodElement, GoodContent, GoodDocument, DocumentOf}
-use Rattle.xml.specs.How.Tokens.{Token, opens, closes, empty, text, got, tokens, nestedIn, nested, sameBytes, matchedIn, tokenNodes, isDocument, documentNodes}
+use Rattle.xml.specs.Document.{withText, elementTree, contentTrees, GoodName, GoodText, GoodElement, GoodContent, GoodDocument, DocumentOf}
+use Rattle.xml.specs.How.Tokens.{Token, opens, closes, empty, got, tokens, nestedIn, nested, sameBytes, matchedIn, tokenNodes, isDocument, documentNodes}
 use Rattle.xml.proofs.TokenLaws.{Piece, piece, writePieces, textTokens, tokensOf, GoodPieces, tokens-pieces}
 
 -- the pieces of an element after a text, and of what stands between two tags of this name, before further ones

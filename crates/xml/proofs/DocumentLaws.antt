@@ -1,15 +1,14 @@
 -- What a reader of documents may rely on: which bytes are a document is decided, a document is of one tree, and the tree's labels are good. Assumes nothing.
 use Prim.Native.Nat.{ℕ}
-use mathlib.Core.Path.{_≡_, refl, sym, ap, _∙_}
+use mathlib.Core.Path.{_≡_, refl}
 use mathlib.Core.List.{List, [], _∷_}
-use mathlib.Core.Bool.{true, false}
 use mathlib.Core.Logic.{_⊎_, inl, inr}
 use native.Mathlib.Omega.{arith}
 use Rattle.rights.specs.Tree.{Tree, tree, Trees, none, more}
 use Rattle.rights.proofs.ListLaws.{byCase}
 use Rattle.forms.specs.TreeText.{GoodTree, GoodTrees}
-use Rattle.xml.specs.Document.{Text, blank, said, Element, empty as bare, full, Content, ends, goes, writeDocument}
-use Rattle.xml.specs.Document.{withText, elementTree, contentTrees, documentTree, GoodName, GoodText, GoodElement, GoodContent, DocumentOf}
+use Rattle.xml.specs.Document.{Text, blank, said, Element, empty as bare, full, Content, ends, goes}
+use Rattle.xml.specs.Document.{withText, elementTree, contentTrees, GoodName, GoodText, GoodElement, GoodContent, DocumentOf}
 use Rattle.xml.specs.How.Tokens.{Token, opens, closes, empty, text, got, tokens, isDocument}
 use Rattle.xml.proofs.TokenLaws.{Piece, textTokens, tokensOf}
 use Rattle.xml.proofs.DocumentComplete.{piecesOf, piecesIn, document-tokens, document-read}

@@ -1,20 +1,20 @@
 -- What is read as a document was written as one. Assumes nothing.
-use Prim.Native.Nat.{ℕ, zero, suc, _-_}
-use mathlib.Core.Path.{_≡_, refl, sym, ap, ap₂, _∙_}
+use Prim.Native.Nat.{ℕ, suc, _-_}
+use mathlib.Core.Path.{_≡_, refl, ap, ap₂, _∙_}
 use mathlib.Core.List.{List, [], _∷_, _++_, append-assoc, append-nil}
-use mathlib.Core.Bool.{Bool, true, false, _&&_}
+use mathlib.Core.Bool.{true, _&&_}
 use native.Mathlib.Omega.{arith}
 use lib.Dec.{eqb}
 use lib.ListN.{length}
 use borrow.Author.Tests.{eqb-true}
-use Rattle.rights.specs.Nodes.{Node, node}
-use Rattle.rights.specs.Tree.{Tree, tree, Trees, none, more, nodesOf, nodesIn}
+use Rattle.rights.specs.Nodes.{Node}
+use Rattle.rights.specs.Tree.{Tree, tree, none, more, nodesOf, nodesIn}
 use Rattle.rights.proofs.PathTexts.{and-left, and-right}
-use Rattle.xml.specs.Document.{Text, blank, said, Element, empty as bare, full, Content, ends, goes, Document, writeText, writeElement, writeContent, writeDocument}
+use Rattle.xml.specs.Document.{Text, blank, said, empty as bare, full, Content, ends, goes, Document, writeElement, writeContent, writeDocument}
 use Rattle.xml.specs.Document.{withText, elementTree, contentTrees, documentTree, Blanks, GoodName, GoodText, GoodElement, GoodContent, GoodDocument, DocumentOf}
 use Rattle.xml.specs.How.Tokens.{Token, opens, closes, empty, text, Tokens, got, bad, tokens, nestedIn, nested, sameBytes, matchedIn, tokenNodes, goodTokens, nodesOfTokens, isDocument, documentNodes}
-use Rattle.xml.proofs.LexLaws.{writeTag, GoodTag}
-use Rattle.xml.proofs.TokenLaws.{Piece, piece, writePieces, textTokens, tokensOf, GoodPieces, Pieces, pieces-there}
+use Rattle.xml.proofs.LexLaws.{writeTag}
+use Rattle.xml.proofs.TokenLaws.{Piece, piece, writePieces, textTokens, tokensOf, GoodPieces, pieces-there}
 use Rattle.xml.proofs.DocumentComplete.{text-nested, text-matched, text-nodes, with-nodes}
 
 -- What is still to stand in each open element, the innermost first, where these are their names

@@ -1,15 +1,14 @@
 -- One token at the front of the bytes: what stands there where one is read, and that it is read where it stands. Assumes nothing.
-use Prim.Native.Nat.{ℕ, zero, suc, _+_, _-_, _≤_, _<_}
+use Prim.Native.Nat.{ℕ, _+_, _-_, _≤_, _<_}
 use mathlib.Core.Path.{_≡_, refl, sym, ap, _∙_}
-use mathlib.Core.List.{List, [], _∷_, _++_, append-assoc, append-nil}
-use mathlib.Core.Bool.{Bool, true, false, cond, _&&_, _||_, not}
+use mathlib.Core.List.{List, [], _∷_, _++_}
+use mathlib.Core.Bool.{Bool, true, false, cond, _&&_}
 use native.Mathlib.Omega.{arith}
-use native.Mathlib.Numerals.{add-one}
 use native.Mathlib.Nat.{zero-add}
 use lib.Dec.{eqb, leb}
-use lib.ListN.{length, getD, take, drop, length-append, length-drop, take-append-drop}
-use lib.Seq.{drop-drop, drop-append-seam, take-append-seam, drop-append-add}
-use borrow.Author.Tests.{ne-eqb, eqb-true, eqb-false, leb-true}
+use lib.ListN.{length, take, drop}
+use lib.Seq.{take-append-seam}
+use borrow.Author.Tests.{ne-eqb, eqb-true, leb-true}
 use Rattle.rights.specs.Bytes.{byteAt, all, run}
 use Rattle.rights.specs.Labels.{labelByte}
 use Rattle.rights.specs.PathReader.{runAt}
@@ -23,7 +22,7 @@ use Rattle.forms.specs.Tree.{_andThen_}
 use Rattle.forms.specs.TreeText.{GoodLabel}
 use Rattle.forms.proofs.TreeTextLaws.{drop-over, label-reads}
 use Rattle.xml.specs.Document.{blankByte, nameStart, Blanks, GoodName}
-use Rattle.xml.specs.How.Tokens.{Token, opens, closes, empty, text, Lexed, token, end, bad, closing, opening, texting, lexAfter, lex}
+use Rattle.xml.specs.How.Tokens.{Token, opens, closes, empty, text, Lexed, token, end, bad, closing, opening, texting, lexAfter}
 
 -- What stands at the front
 
@@ -64,7 +63,6 @@ TokenAt w (text l) j = TextAt w l j
 record LabelAt (s : List ℕ) (at e : ℕ) : Type 0 where
   label : List ℕ
   good : GoodLabel label
-  size : e ≡ at + length label
   there : Reads s at label e
   named : drop at (take e s) ≡ label
 
@@ -78,26 +76,26 @@ label-there s at e =
     let q = run-length labelByte (drop at s) in
     record {
       label = take n (drop at s);
-      size = rw (q, z);
       good = (rw q (leb-true 1 n (and-left (leb 1 n) (leb n 24) w)), rw q (leb-true n 24 (and-right (leb 1 n) (leb n 24) w)), run-all labelByte (drop at s));
       there = rw (← z) (reads-take s at n);
       named = rw (← z) (drop-take at n s);
     })
     (λ w p. absurd (let z : _≡_ {A = ℕ} 0 1 = cc in omega arith))
 
-after-elim : {A C : Type 0} {b z : A} (r : Read) (f : ℕ → A) → ((e : ℕ) → r ≡ At e → f e ≡ z → C) → (b ≡ z → C) → (r andThen (b, f)) ≡ z → C
-after-elim (At e) f h g q = h e refl q
-after-elim Bad f h g q = g q
+-- what holds in each case of a test, and of a label that is read or not
+cond-is : {A : Type 0} (P : A → Type 0) {x y : A} (b : Bool) → (b ≡ true → P x) → (b ≡ false → P y) → P (cond b x y)
+cond-is P true f g = f refl
+cond-is P false f g = g refl
 
-never : {C : Type 0} {x : Token} {m : ℕ} → bad ≡ token x m → C
-never e = absurd (let z : _≡_ {A = ℕ} 0 1 = cc in omega arith)
+after-is : {A : Type 0} (P : A → Type 0) {b : A} (f : ℕ → A) (r : Read) → ((e : ℕ) → r ≡ At e → P (f e)) → P b → P (r andThen (b, f))
+after-is P f (At e) h g = h e refl
+after-is P f Bad h g = g
 
--- k blanks and then a token, m bytes in all
-abbrev pub LexedAt : ℕ → List ℕ → Token → ℕ → Type 0
-LexedAt k w x m = (j : ℕ) × (m ≡ k + j) × TokenAt w x j
-
-same : (k : ℕ) (w : List ℕ) (x y : Token) (j m : ℕ) → token x (k + j) ≡ token y m → TokenAt w x j → LexedAt k w y m
-same k w x y j m e t = let q : x ≡ y = cc in let i : k + j ≡ m = cc in (j, sym i, rw q at t)
+-- What is read says of the bytes after k blanks: a token stands there, m bytes with the blanks, or no byte is left
+abbrev pub Says : ℕ → List ℕ → Lexed → Type 0
+Says k w (token x m) = (j : ℕ) × (m ≡ k + j) × TokenAt w x j
+Says k w end = w ≡ []
+Says k w bad = Unit {0}
 
 -- a byte, and then what stands after it
 byte-then : (w v : List ℕ) (i b : ℕ) → 0 < b → byteAt w i ≡ b → drop (i + 1) w ≡ v → drop i w ≡ b ∷ v
@@ -106,12 +104,9 @@ byte-then w v i b p e q = reads-byte w i b p e ∙ ap (λ (u : List ℕ). b ∷ 
 label-then : {w : List ℕ} {i e : ℕ} (v : List ℕ) (y : LabelAt w i e) → drop e w ≡ v → drop i w ≡ y .label ++ v
 label-then v y q = y .there ∙ ap (λ (u : List ℕ). y .label ++ u) q
 
-module _ (k : ℕ) (w : List ℕ) (x : Token) (m : ℕ) where
-  closing-there : byteAt w 0 ≡ 60 → byteAt w 1 ≡ 47 → closing k w ≡ token x m → LexedAt k w x m
-  closing-there a b =
-      after-elim (labelEnd w 2) (λ e. cond (eqb (byteAt w e) 62) (token (closes (drop 2 (take e w))) (k + (e + 1))) bad)
-      (λ e l. cond-elim (eqb (byteAt w e) 62) (λ c q. same k w _ x (e + 1) m q (found e (label-there w 2 e l) (eqb-true _ _ c))) (λ _. never))
-      never
+module _ (k : ℕ) (w : List ℕ) where
+  closing-there : byteAt w 0 ≡ 60 → byteAt w 1 ≡ 47 → Says k w (closing k w)
+  closing-there a b = after-is (Says k w) _ (labelEnd w 2) (λ e l. cond-is (Says k w) (eqb (byteAt w e) 62) (λ c. (e + 1, refl, found e (label-there w 2 e l) (eqb-true _ _ c))) (λ _. tt)) tt
     where
       found : (e : ℕ) → LabelAt w 2 e → byteAt w e ≡ 62 → TagAt w (closes (drop 2 (take e w))) (e + 1)
       found e y c = rw (y .named) record {
@@ -119,21 +114,17 @@ module _ (k : ℕ) (w : List ℕ) (x : Token) (m : ℕ) where
         there = byte-then w _ 0 60 (omega arith) a (byte-then w _ 1 47 (omega arith) b (label-then _ y (byte-then w _ e 62 (omega arith) c refl)));
       }
 
-  opening-there : byteAt w 0 ≡ 60 → opening k w ≡ token x m → LexedAt k w x m
+  opening-there : byteAt w 0 ≡ 60 → Says k w (opening k w)
   opening-there a =
-      after-elim (labelEnd w 1) (λ e. cond (nameStart (byteAt w 1))
-      (cond (eqb (byteAt w e) 62)
-      (token (opens (drop 1 (take e w))) (k + (e + 1)))
-      (cond (eqb (byteAt w e) 47 && eqb (byteAt w (e + 1)) 62) (token (empty (drop 1 (take e w))) (k + (e + 2))) bad))
-      bad)
-      (λ e l. cond-elim (nameStart (byteAt w 1))
-      (λ s. cond-elim (eqb (byteAt w e) 62)
-      (λ c q. same k w _ x (e + 1) m q (opened e (label-there w 1 e l) s (eqb-true _ _ c)))
-      (λ _. cond-elim (eqb (byteAt w e) 47 && eqb (byteAt w (e + 1)) 62)
-      (λ c q. same k w _ x (e + 2) m q (emptied e (label-there w 1 e l) s (eqb-true _ _ (and-left _ (eqb (byteAt w (e + 1)) 62) c)) (eqb-true _ _ (and-right (eqb (byteAt w e) 47) _ c))))
-      (λ _. never)))
-      (λ _. never))
-      never
+      after-is (Says k w) _ (labelEnd w 1)
+      (λ e l. cond-is (Says k w) (nameStart (byteAt w 1))
+      (λ s. cond-is (Says k w) (eqb (byteAt w e) 62)
+      (λ c. (e + 1, refl, opened e (label-there w 1 e l) s (eqb-true _ _ c)))
+      (λ _. cond-is (Says k w) (eqb (byteAt w e) 47 && eqb (byteAt w (e + 1)) 62)
+      (λ c. (e + 2, refl, emptied e (label-there w 1 e l) s (eqb-true _ _ (and-left _ (eqb (byteAt w (e + 1)) 62) c)) (eqb-true _ _ (and-right (eqb (byteAt w e) 47) _ c))))
+      (λ _. tt)))
+      (λ _. tt))
+      tt
     where
       good : (e : ℕ) (y : LabelAt w 1 e) → nameStart (byteAt w 1) ≡ true → GoodName (y .label)
       good e y s = (y .good, start (y .label) (y .good .0) (y .there))
@@ -154,12 +145,13 @@ module _ (k : ℕ) (w : List ℕ) (x : Token) (m : ℕ) where
         there = byte-then w _ 0 60 (omega arith) a (label-then _ y (byte-then w _ e 47 (omega arith) c (rw z at (byte-then w _ (e + 1) 62 (omega arith) d refl))));
       }
 
-  texting-there : texting k w ≡ token x m → LexedAt k w x m
+  texting-there : Says k w (texting k w)
   texting-there =
-      after-elim (labelEnd w 0)
-      (λ e. cond (eqb (byteAt w (e + run blankByte (drop e w))) 60) (token (text (take e w)) (k + (e + run blankByte (drop e w)))) bad)
-      (λ e l. cond-elim (eqb (byteAt w (e + run blankByte (drop e w))) 60) (λ c q. same k w _ x (e + run blankByte (drop e w)) m q (found e (label-there w 0 e l) (eqb-true _ _ c))) (λ _. never))
-      never
+      after-is (Says k w) _ (labelEnd w 0)
+      (λ e l. cond-is (Says k w) (eqb (byteAt w (e + run blankByte (drop e w))) 60)
+      (λ c. (e + run blankByte (drop e w), refl, found e (label-there w 0 e l) (eqb-true _ _ c)))
+      (λ _. tt))
+      tt
     where
       found : (e : ℕ) → LabelAt w 0 e → byteAt w (e + run blankByte (drop e w)) ≡ 60 → TextAt w (take e w) (e + run blankByte (drop e w))
       found e y c = rw (y .named) record {
@@ -170,36 +162,13 @@ module _ (k : ℕ) (w : List ℕ) (x : Token) (m : ℕ) where
         there = label-then _ y (reads-take w e (run blankByte (drop e w)));
       }
 
-pub lexed-there : (k : ℕ) (w : List ℕ) (x : Token) (m : ℕ) → lexAfter k w ≡ token x m → LexedAt k w x m
+pub lexed-there : (k : ℕ) (w : List ℕ) → Says k w (lexAfter k w)
 unfolding lexAfter
-lexed-there k [] x m = λ e. absurd (let z : _≡_ {A = ℕ} 0 1 = cc in omega arith)
-lexed-there k (b ∷ s) x m =
-    cond-elim (eqb b 60)
-    (λ a. cond-elim (eqb (byteAt s 0) 47) (λ c. closing-there k (b ∷ s) x m (eqb-true b 60 a) (eqb-true _ _ c)) (λ _. opening-there k (b ∷ s) x m (eqb-true b 60 a)))
-    (λ _. texting-there k (b ∷ s) x m)
-
--- only where no byte is left is the end
-token-end : {C : Type 0} {x : Token} {m : ℕ} → token x m ≡ end → C
-token-end e = absurd (let z : _≡_ {A = ℕ} 0 1 = cc in omega arith)
-
-bad-end : {C : Type 0} → _≡_ {A = Lexed} bad end → C
-bad-end e = absurd (let z : _≡_ {A = ℕ} 0 1 = cc in omega arith)
-
-pub not-end : {C : Type 0} (k b : ℕ) (s : List ℕ) → lexAfter k (b ∷ s) ≡ end → C
-unfolding lexAfter
-not-end k b s =
-    let w : List ℕ = b ∷ s in
-    cond-elim (eqb b 60)
-    (λ _. cond-elim (eqb (byteAt s 0) 47)
-    (λ _. after-elim (labelEnd w 2) (λ e. cond (eqb (byteAt w e) 62) (token (closes (drop 2 (take e w))) (k + (e + 1))) bad) (λ e _. cond-elim (eqb (byteAt w e) 62) (λ _. token-end) (λ _. bad-end)) bad-end)
-    (λ _. after-elim (labelEnd w 1) (λ e. cond (nameStart (byteAt w 1))
-    (cond (eqb (byteAt w e) 62)
-    (token (opens (drop 1 (take e w))) (k + (e + 1)))
-    (cond (eqb (byteAt w e) 47 && eqb (byteAt w (e + 1)) 62) (token (empty (drop 1 (take e w))) (k + (e + 2))) bad))
-    bad) (λ e _. cond-elim (nameStart (byteAt w 1))
-    (λ _. cond-elim (eqb (byteAt w e) 62) (λ _. token-end) (λ _. cond-elim (eqb (byteAt w e) 47 && eqb (byteAt w (e + 1)) 62) (λ _. token-end) (λ _. bad-end)))
-    (λ _. bad-end)) bad-end))
-    (λ _. after-elim (labelEnd w 0) (λ e. cond (eqb (byteAt w (e + run blankByte (drop e w))) 60) (token (text (take e w)) (k + (e + run blankByte (drop e w)))) bad) (λ e _. cond-elim (eqb (byteAt w (e + run blankByte (drop e w))) 60) (λ _. token-end) (λ _. bad-end)) bad-end)
+lexed-there k [] = refl
+lexed-there k (b ∷ s) =
+    cond-is (Says k (b ∷ s)) (eqb b 60)
+    (λ a. cond-is (Says k (b ∷ s)) (eqb (byteAt s 0) 47) (λ c. closing-there k (b ∷ s) (eqb-true b 60 a) (eqb-true _ _ c)) (λ _. opening-there k (b ∷ s) (eqb-true b 60 a)))
+    (λ _. texting-there k (b ∷ s))
 
 -- What stands there is read
 

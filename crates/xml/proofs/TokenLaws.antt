@@ -1,18 +1,18 @@
 -- The tokens of bytes, one after the other: they are those of the tags and texts that are written. Assumes nothing.
-use Prim.Native.Nat.{ℕ, zero, suc, _+_, _≤_, _<_}
+use Prim.Native.Nat.{ℕ, zero, suc, _+_, _<_}
 use mathlib.Core.Path.{_≡_, refl, sym, ap, _∙_}
 use mathlib.Core.List.{List, [], _∷_, _++_, append-assoc, append-nil}
-use mathlib.Core.Bool.{true, false}
+use mathlib.Core.Bool.{false}
 use native.Mathlib.Omega.{arith}
 use lib.ListN.{length, take, drop, take-append-drop, length-append, length-drop}
 use lib.Seq.{drop-drop, drop-append-seam, drop-append-add, drop-length}
 use Rattle.rights.specs.Bytes.{byteAt, all, run}
 use Rattle.rights.specs.Labels.{labelByte}
-use Rattle.rights.proofs.PathTexts.{and-left, reads-take, run-all, run-over}
+use Rattle.rights.proofs.PathTexts.{and-left, run-all, run-over}
 use Rattle.forms.specs.TreeText.{GoodLabel}
 use Rattle.xml.specs.Document.{blankByte, Text, blank, said, writeText, Blanks, GoodText}
 use Rattle.xml.specs.How.Tokens.{Token, opens, closes, empty, text, Lexed, token, end, bad, lexAfter, lex, Tokens, got, bad as none-got, withToken, onLexed, tokensFrom, tokens}
-use Rattle.xml.proofs.LexLaws.{writeTag, GoodTag, TextAt, TagAt, TokenAt, LexedAt, lexed-there, not-end, Lexes, tag-lexes, text-lexes, front-label, label-not-blank}
+use Rattle.xml.proofs.LexLaws.{writeTag, GoodTag, TagAt, TokenAt, Says, lexed-there, Lexes, tag-lexes, text-lexes, front-label, label-not-blank}
 
 -- How many tokens may be read does not matter, where it is more than the bytes
 
@@ -31,14 +31,14 @@ token-short w (closes n) j t = at-short w (closes n) j t
 token-short w (empty n) j t = at-short w (empty n) j t
 token-short w (text l) j t = omega (arith, t .good .0, simp length-append at (ap length (t .there)))
 
-lex-there : (s : List ℕ) (x : Token) (n : ℕ) → lex s ≡ token x n → LexedAt (run blankByte s) (drop (run blankByte s) s) x n
+lex-there : (s : List ℕ) → Says (run blankByte s) (drop (run blankByte s) s) (lex s)
 unfolding lex
-lex-there s x n e = lexed-there (run blankByte s) (drop (run blankByte s) s) x n e
+lex-there s = lexed-there (run blankByte s) (drop (run blankByte s) s)
 
 lex-short : (s : List ℕ) (x : Token) (n : ℕ) → lex s ≡ token x n → length (drop n s) < length s
 lex-short s x n e =
     let k : ℕ = run blankByte s in
-    let t = lex-there s x n e in
+    let t = rw e at (lex-there s) in
     let q : drop (t .0) (drop k s) ≡ drop n s = drop-drop (t .0) k s ∙ ap (λ (i : ℕ). drop i s) (sym (t .1)) in
     omega (arith, token-short (drop k s) x (t .0) (t .2), length-drop k s, ap length q)
 
@@ -86,6 +86,7 @@ abbrev pub writePieces : List Piece → List ℕ → List ℕ
 writePieces [] z = z
 writePieces (piece x t ∷ ps) z = writeText x ++ writeTag t (writePieces ps z)
 
+-- a text is a token if it is not blank
 abbrev pub textTokens : Text → List Token → List Token
 textTokens (blank b) xs = xs
 textTokens (said b l c) xs = text l ∷ xs
@@ -118,6 +119,7 @@ tokens-pieces (piece x t ∷ ps) z g h = tokens-piece x t (writePieces ps z) (to
 
 -- What has tokens was written
 
+-- the pieces that bytes are written with, and blanks after them, where the bytes have these tokens
 pub record Pieces (s : List ℕ) (xs : List Token) : Type 0 where
   pub pieces : List Piece
   pub after : List ℕ
@@ -142,15 +144,11 @@ tokens-elim {C} s xs f g e = go (lex s) refl
     go bad q = absurd (let t = rw q at e in let z : _≡_ {A = ℕ} 0 1 = cc in omega arith)
 
 all-end : (s : List ℕ) → lex s ≡ end → Blanks s
-unfolding lex lexAfter
-all-end s e = go (drop (run blankByte s) s) refl
-  where
-    go : (w : List ℕ) → drop (run blankByte s) s ≡ w → Blanks s
-    go [] q =
-        let k : ℕ = run blankByte s in
-        let t : take k s ≡ s = sym (append-nil (take k s)) ∙ ap (λ (v : List ℕ). take k s ++ v) (sym q) ∙ take-append-drop k s in
-        rw t at (run-all blankByte s)
-    go (b ∷ w) q = not-end (run blankByte s) b w (rw q at e)
+all-end s e =
+    let k : ℕ = run blankByte s in
+    let q : drop k s ≡ [] = rw e at (lex-there s) in
+    let t : take k s ≡ s = sym (append-nil (take k s)) ∙ ap (λ (v : List ℕ). take k s ++ v) (sym q) ∙ take-append-drop k s in
+    rw t at (run-all blankByte s)
 
 -- no tag begins with a blank or a label byte
 blank-first : (z : List ℕ) → Blanks z → byteAt z 0 ≡ 60 → ⊥
@@ -203,8 +201,8 @@ token-before s x n xs q y = rw (take-append-drop k s) at (go x (t .2) (rw r at y
     w : List ℕ
     w = drop k s
 
-    t : LexedAt k w x n
-    t = lex-there s x n q
+    t : Says k w (token x n)
+    t = rw q at (lex-there s)
 
     j : ℕ
     j = t .0
