@@ -2,3 +2,4 @@ pub mod FormParts
 pub mod LineLaws
 pub mod ClauseLaws
 pub mod RefusalsLaws
+pub mod LoadLaws
