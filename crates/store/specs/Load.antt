@@ -1,4 +1,5 @@
--- Loading a tree in place of its lines (document 02, card 2): "Table and state must equal those that the matching lines would leave if lines had no length limit."
+-- Loading a tree in place of its lines (document 02, card 2): "Table and state must equal those that the matching lines would leave if lines had no
+-- length limit." A tree is taken exactly if all these lines would be answered `(ok)` (law load-exactly), and leaves what they would (law lines-load).
 use Prim.Native.Nat.{ℕ, _≤_}
 use mathlib.Core.Path.{_≡_}
 use mathlib.Core.Bool.{not}
@@ -26,7 +27,8 @@ childCommands (more u us) = command.child u ∷ childCommands us
 abbrev pub matchingLines : Tree → List Command
 matchingLines (tree l us) = command.root l ∷ childCommands us
 
--- What the line of a command would answer and leave "if lines had no length limit": as its line does (law step-written), without 1.
+-- What the line of a command would answer and leave "if lines had no length limit": 13 and 3, the form's own checks and 12. A line within the limit
+-- does just this (law step-unlimited).
 abbrev pub unlimitedChecks : Command → List ℕ → List ℕ → List Check
 unlimitedChecks c s t = check badStore (not (storeOk s t)) ∷ check wrongStage (not (inStage (stageFor c) (stage s))) ∷ []
 
