@@ -3,16 +3,16 @@ use Prim.Native.Nat.{ℕ, suc, _≤_, _<_}
 use mathlib.Core.Path.{_≡_, refl, sym, ap, _∙_}
 use mathlib.Core.Bool.{Bool, true, false, _&&_, and-eq-true-iff, false≢true}
 use mathlib.Core.List.{List, [], _∷_}
-use mathlib.Core.Logic.{_⊎_, inl, inr, ⊎-elim, _↔_}
+use mathlib.Core.Logic.{inl, inr, _↔_}
 use native.Mathlib.Omega.{arith}
-use borrow.Author.Tests.{leb-true, le-leb, ltb-true, ltb-false, eqb-true, eqb-false}
+use borrow.Author.Tests.{leb-true, le-leb, ltb-true, ltb-false, eqb-true}
 use lib.Dec.{leb, ltb, eqb}
 use lib.ListN.{length}
 use Rattle.rights.specs.Bytes.{within}
 use Rattle.rights.proofs.ListLaws.{byCase}
 use Rattle.lines.specs.Outcome.{Reply, says, refuses, Outcome}
 use Rattle.lines.specs.Refusal.{Check, checked, order, indexIn, rank, rising}
-use Rattle.lines.proofs.RefusalLaws.{rank-is}
+use Rattle.lines.proofs.RefusalLaws.{rank-small}
 use Rattle.lines.specs.Conditions.{Conditions, Holds, Before, First}
 
 -- each check has the number of its row, a known one
@@ -20,7 +20,7 @@ abbrev pub numbered : Conditions → List Check → Bool
 numbered [] [] = true
 numbered [] (c ∷ cs) = false
 numbered (r ∷ rs) [] = false
-numbered (r ∷ rs) (c ∷ cs) = (eqb (r .0) (c .number) && within 1 13 (r .0)) && numbered rs cs
+numbered (r ∷ rs) (c ∷ cs) = (eqb (r .0) (c .number) && within 1 14 (r .0)) && numbered rs cs
 
 -- each check fails exactly if the condition of its row holds, where the checks before it passed
 abbrev pub Tells : Conditions → List Check → Type 0
@@ -53,50 +53,19 @@ said-refused e = absurd (let y : _≡_ {A = ℕ} 0 1 = cc in omega arith)
 
 -- a number of the paper's
 abbrev Known : ℕ → Type 0
-Known n = (1 ≤ n) × (n ≤ 13)
+Known n = (1 ≤ n) × (n ≤ 14)
 
 record Row (m n k : ℕ) : Type 0 where
   number : m ≡ n
   known : Known n
   late : k ≤ rank n
 
-row : (m n k : ℕ) (x y : Bool) → (eqb m n && within 1 13 m) && x ≡ true → leb k (rank n) && y ≡ true → Row m n k
+row : (m n k : ℕ) (x y : Bool) → (eqb m n && within 1 14 m) && x ≡ true → leb k (rank n) && y ≡ true → Row m n k
 row m n k x y e h =
     let f = simp and-eq-true-iff at e in
     let g = simp and-eq-true-iff at h in
     let q = eqb-true m n (f .0 .0) in
-    record { number = q; known = (omega (arith, q, leb-true 1 m (f .0 .1 .0)), omega (arith, q, leb-true m 13 (f .0 .1 .1))); late = leb-true k (rank n) (g .0) }
-
--- the rank of a known number is its place in the paper's order
-rank-known : (n : ℕ) → Known n → ((n ≡ 13) × (rank n ≡ 0)) ⊎ ((n < 13) × (rank n ≡ n))
-rank-known n k =
-    let e = rank-is n (k .0) (k .1) in
-    byCase (eqb n 13)
-    (λ b. inl (eqb-true n 13 b, rw b at e))
-    (λ b. let ne = eqb-false n 13 b in inr (omega (arith, k .1, ne), rw b at e))
-
-rank-before : (m n : ℕ) → Known m → Known n → (Before m n ↔ (rank m < rank n))
-rank-before m n a b = go (rank-known m a) (rank-known n b)
-  where
-    go : ((m ≡ 13) × (rank m ≡ 0)) ⊎ ((m < 13) × (rank m ≡ m)) → ((n ≡ 13) × (rank n ≡ 0)) ⊎ ((n < 13) × (rank n ≡ n)) → (Before m n ↔ (rank m < rank n))
-    go x (inl (q, f)) = (λ h. absurd (omega (arith, h .0, q)), λ h. absurd (omega (arith, h, f)))
-    go (inl (p, e)) (inr (q, f)) = (λ h. omega (arith, e, f, b .0), λ h. (q, inl p))
-    go (inr (p, e)) (inr (q, f)) = (
-      λ h. ⊎-elim (λ z. absurd (omega (arith, z, p))) (λ z. omega (arith, z, e, f)) (h .1),
-      λ h. (q, inr (omega (arith, h, e, f))),
-    )
-
-rank-small : (n : ℕ) → Known n → rank n < 13
-rank-small n k = ⊎-elim (λ (p, e). omega (arith, e)) (λ (p, e). omega (arith, p, e)) (rank-known n k)
-
--- a condition that holds has a known number
-holds-known : (rs : Conditions) (cs : List Check) (m : ℕ) → numbered rs cs ≡ true → Holds m rs → Known m
-holds-known [] cs m e x = absurd x
-holds-known (r ∷ rs) [] m e x = absurd (false≢true e)
-holds-known (r ∷ rs) (c ∷ cs) m e (inl x) =
-    let f = simp and-eq-true-iff at e in
-    (omega (arith, x .0, leb-true 1 (r .0) (f .0 .1 .0)), omega (arith, x .0, leb-true (r .0) 13 (f .0 .1 .1)))
-holds-known (r ∷ rs) (c ∷ cs) m e (inr x) = let f = simp and-eq-true-iff at e in holds-known rs cs m (f .1) x
+    record { number = q; known = (omega (arith, q, leb-true 1 m (f .0 .1 .0)), omega (arith, q, leb-true m 14 (f .0 .1 .1))); late = leb-true k (rank n) (g .0) }
 
 -- no condition that holds has a number before the first check's
 holds-late : (rs : Conditions) (cs : List Check) (k m : ℕ) → numbered rs cs ≡ true → rising k cs ≡ true → Holds m rs → k ≤ rank m
@@ -131,7 +100,7 @@ module _ (s t : List ℕ) (o : Outcome) {text : List ℕ} (said : o .reply ≡ s
       (λ b.
       let same : c .number ≡ n = (let y : refuses (c .number) ≡ refuses n = rw b at q in cc) in (
         inl (z .number ∙ same, w .0 .1 b),
-        λ m b x. let l = rank-before m (c .number) (holds-known (r ∷ rs) (c ∷ cs) m e x) (z .known) .0 (rw same b) in let y = holds-late (r ∷ rs) (c ∷ cs) (rank (c .number)) m e (rw (le-leb (rank (c .number)) (rank (c .number)) (omega arith)) (g .1)) x in absurd (omega (arith, y, l)),
+        λ m b x. let l : rank m < rank (c .number) = rw same b in let y = holds-late (r ∷ rs) (c ∷ cs) (rank (c .number)) m e (rw (le-leb (rank (c .number)) (rank (c .number)) (omega arith)) (g .1)) x in absurd (omega (arith, y, l)),
       ))
       (λ b.
       let y = first-left rs cs (rank (c .number)) n (f .1) (w .1 b) (g .1) (rw b at q) in
@@ -153,8 +122,8 @@ module _ (s t : List ℕ) (o : Outcome) {text : List ℕ} (said : o .reply ≡ s
       (λ b.
       let l = holds-late (r ∷ rs) (c ∷ cs) (rank (c .number)) n e (rw (le-leb (rank (c .number)) (rank (c .number)) (omega arith)) (g .1)) q in
       byCase (ltb (rank (c .number)) (rank n))
-      (λ a. absurd (none (c .number) (rank-before (c .number) n (z .known) (holds-known (r ∷ rs) (c ∷ cs) n e q) .1 (ltb-true (rank (c .number)) (rank n) a)) (inl (z .number, w .0 .1 b))))
-      (λ a. rw b (ap refuses (index-same order (c .number) n (omega (arith, l, ltb-false (rank (c .number)) (rank n) a)) (rank-small (c .number) (z .known))))))
+      (λ a. absurd (none (c .number) (ltb-true (rank (c .number)) (rank n) a) (inl (z .number, w .0 .1 b))))
+      (λ a. rw b (ap refuses (index-same order (c .number) n (omega (arith, l, ltb-false (rank (c .number)) (rank n) a)) (rank-small (c .number) (z .known .0) (z .known .1))))))
       (λ b. rw b (later (first-right rs cs (rank (c .number)) n (f .1) (w .1 b) (g .1)) b q))
     where
       later : (First n rs → reply cs ≡ refuses n) → c .fails ≡ false → Holds n (r ∷ rs) → reply cs ≡ refuses n

@@ -1,25 +1,43 @@
 -- Checks, and a work that is carried out: what a check that fails refuses, what passed checks let follow. Assumes nothing.
-use Prim.Native.Nat.{ℕ, _≤_}
-use mathlib.Core.Bool.{Bool, true, false, cond, and-eq-true-iff}
-use mathlib.Core.Path.{_≡_, refl, sym, ap, _∙_}
+use Prim.Native.Nat.{ℕ, _+_, _≤_, _<_}
+use mathlib.Core.Bool.{Bool, true, false, cond, Bool·beq, and-eq-true-iff}
+use mathlib.Core.Path.{_≡_, refl, sym, ap, subst, _∙_}
 use mathlib.Core.List.{List, [], _∷_, _++_, append-assoc}
 use native.Mathlib.Omega.{arith}
 use borrow.Author.Tests.{leb-true, ltb-true, ltb-false, le-leb, lt-leb, eqb-true}
-use lib.Dec.{leb, ltb, eqb}
+use lib.Dec.{T, leb, ltb, eqb}
 use lib.ListN.{length, drop, length-append, length-drop}
 use Rattle.rights.proofs.ListLaws.{byCase}
-use Rattle.rights.proofs.RangeLaws.{on-range}
+use Rattle.rights.proofs.RangeLaws.{flat, beq-eq, on-range}
 use Rattle.answers.specs.How.AnswerArea.{Answered, written}
 use Rattle.lines.specs.Outcome.{Outcome, says, refusal}
-use Rattle.lines.specs.Refusal.{Check, rank, indexIn, areaShort, areaCheck, checked, firstRefusal, Passed, allNumbered}
+use Rattle.lines.specs.Refusal.{Check, order, rank, indexIn, areaShort, areaCheck, checked, firstRefusal, Passed, allNumbered}
 use Rattle.lines.specs.Effect.{Work, stateAfter, tableAfter, guarded, checksIn, performed, Performs}
 use Rattle.lines.specs.declared.line.Answer.the-variants.{Accepted, Refused}
 use Rattle.lines.proofs.OutcomeLaws.{made-at}
 
--- "13 is tested first, then 1 to 12 rising."
-pub rank-is : (n : ℕ) → 1 ≤ n → n ≤ 13 → rank n ≡ cond (eqb n 13) 0 n
+-- "13 is tested first, then 1 to 12 rising.", and "14, after 4"
+abbrev pub placed : ℕ → ℕ
+placed n = cond (eqb n 13) 0 (cond (eqb n 14) 5 (cond (leb n 4) n (n + 1)))
+
+pub rank-is : (n : ℕ) → 1 ≤ n → n ≤ 14 → rank n ≡ placed n
 unfolding indexIn
-rank-is n h k = eqb-true (rank n) (cond (eqb n 13) 0 n) (sym (on-range (λ m. eqb (rank m) (cond (eqb m 13) 0 m)) true 1 13 tt n h (omega arith)))
+rank-is n h k = eqb-true (rank n) (placed n) (sym (on-range (λ m. eqb (rank m) (placed m)) true 1 14 tt n h (omega arith)))
+
+-- so 1 to 12 rise
+abbrev same : ℕ → ℕ → Bool
+same j k = Bool·beq (ltb (rank j) (rank k)) (ltb j k)
+
+pub rank-rises : (m n : ℕ) → 1 ≤ m → m ≤ 12 → 1 ≤ n → n ≤ 12 → ltb (rank m) (rank n) ≡ ltb m n
+unfolding indexIn
+rank-rises m n a b c d =
+    let row : true ≡ flat (same m) true 1 12 = on-range (λ k. flat (same k) true 1 12) true 1 12 tt m a (omega arith) in
+    let all : T (flat (same m) true 1 12) = subst T row tt in
+    beq-eq (ltb (rank m) (rank n)) (ltb m n) (subst T (on-range (same m) true 1 12 all n c (omega arith)) tt)
+
+pub rank-small : (n : ℕ) → 1 ≤ n → n ≤ 14 → rank n < length order
+unfolding indexIn
+rank-small n h k = ltb-true (rank n) 14 (sym (on-range (λ m. ltb (rank m) 14) true 1 14 tt n h (omega arith)))
 
 -- the first check that fails
 

@@ -20,6 +20,7 @@ use Rattle.views.specs.declared.insert.Place.the-variants as place
 use Rattle.forms.specs.Command.{Command}
 use Rattle.forms.specs.Command as command
 use Rattle.lines.specs.PolicyEdit.{isaHeld, bracketed, stepList}
+use Rattle.lines.specs.Refusal.{rank}
 use Rattle.lines.specs.State.{userByte, policyIn}
 use Rattle.lines.specs.UserView.{doneIn}
 use Rattle.lines.specs.Work.{changeAt}
@@ -124,9 +125,9 @@ abbrev pub Holds : ℕ → Conditions → Type 0
 Holds n [] = ⊥
 Holds n (r ∷ rs) = ((r .0 ≡ n) × r .1) ⊎ Holds n rs
 
--- "13 is tested first, then 1 to 12 rising": m is tested before n
+-- m is tested before n: "13 is tested first, then 1 to 12 rising" (law rank-is)
 abbrev pub Before : ℕ → ℕ → Type 0
-Before m n = (n < 13) × ((m ≡ 13) ⊎ (m < n))
+Before m n = rank m < rank n
 
 -- it holds, and that of no number before it does
 abbrev pub First : ℕ → Conditions → Type 0

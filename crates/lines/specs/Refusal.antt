@@ -1,4 +1,4 @@
--- The refusals (document 01, "Who can be turned down, and for what"): their numbers, their order, and a line's tests.
+-- The refusals (document 01, "Who can be turned down, and for what", and what the cards of document 02 add): their numbers, their order, and a line's tests.
 use Prim.Native.Nat.{ℕ, suc}
 use mathlib.Core.Bool.{Bool, true, false, cond, _&&_}
 use mathlib.Core.Path.{_≡_}
@@ -59,10 +59,29 @@ areaShort = 12
 abbrev pub badStore : ℕ
 badStore = 13
 
--- "13 is tested first, then 1 to 12 rising."
+-- "14 .. for attributes, comments, declarations, entities, CDATA, mismatched tags or anything else outside this kind" (document 02, card 2); no line is refused
+-- with it
+abbrev pub noDocument : ℕ
+noDocument = 14
+
+-- "13 is tested first, then 1 to 12 rising."; "14, after 4"
 abbrev pub order : List ℕ
 order =
-    badStore ∷ badLine ∷ noForm ∷ wrongStage ∷ badPath ∷ badName ∷ ruleBracket ∷ policyFull ∷ noUserYet ∷ bannedLabel ∷ levelTooDeep ∷ tableFull ∷ areaShort ∷ []
+    badStore
+    ∷ badLine
+    ∷ noForm
+    ∷ wrongStage
+    ∷ badPath
+    ∷ noDocument
+    ∷ badName
+    ∷ ruleBracket
+    ∷ policyFull
+    ∷ noUserYet
+    ∷ bannedLabel
+    ∷ levelTooDeep
+    ∷ tableFull
+    ∷ areaShort
+    ∷ []
 
 -- the place of a number in that order
 unfoldable pub indexIn : List ℕ → ℕ → ℕ

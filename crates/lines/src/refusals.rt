@@ -1,4 +1,4 @@
-// The numbers of the refusals (document 01, "Who can be turned down, and for what"), and the last test of every line.
+// The numbers of the refusals (document 01, "Who can be turned down, and for what", and the cards of document 02), and the last test of every line.
 //
 // A group of tests is a function that returns the number of the first one that fails, and 0 if none does.
 ghost use mathlib.Core.Path.{_≡_};
@@ -44,8 +44,11 @@ pub const AREA_SHORT: u8 = 12;
 // "a table .. against "Tree and table"; a state against the limits, names, paths or stages above; a root in the table without the root line taken, or the reverse"
 pub const BAD_STORE: u8 = 13;
 
+// "attributes, comments, declarations, entities, CDATA, mismatched tags or anything else outside this kind" (document 02, card 2)
+pub const NO_DOCUMENT: u8 = 14;
+
 // The refusal of an answer of `need` bytes in an area of `room`.
-pub(crate) fn area_refusal(need: usize, room: usize) -> u8
+pub fn area_refusal(need: usize, room: usize) -> u8
     ensures { λ r. ⌜ r ≡ firstRefusal (areaCheck room need ∷ []) ⌝ }
 {
     if room < need {
