@@ -5,3 +5,4 @@ pub mod RefusalsLaws
 pub mod UnlimitedLaws
 pub mod TreeNodesLaws
 pub mod LoadLaws
+pub mod LoadXmlLaws

@@ -97,7 +97,7 @@ root-there s t k ok l h =
     yes false e = e
 
 -- 13, of a table of bytes
-store-told : (s t : List ℕ) → ((i : ℕ) → getD t i 0 < 256) → NoStore s t ↔ (not (storeOk s t) ≡ true)
+pub store-told : (s t : List ℕ) → ((i : ℕ) → getD t i 0 < 256) → NoStore s t ↔ (not (storeOk s t) ≡ true)
 store-told s t lent = (
   λ h. byCase (storeOk s t) (λ e. absurd (h (sessionIn s) (storedNodes t) (store-allowed s t lent e))) (λ e. rw e),
   λ e session nodes k. clash (allowed-store s t session nodes k .0) (not-true (storeOk s t) e),
