@@ -114,7 +114,7 @@ module _ (n : ℕ) (head : 4 ≤ n) (xs : Nodes) (allowed : AllowedNodes xs) (fi
 abbrev checksOf : List ℕ → List ℕ → Command → ℕ → List Check
 checksOf s t c room = checksIn room (guarded (unlimitedChecks c s t) (clause c s t))
 
-says-passed : (cs : List Check) (s t : List ℕ) (o : Outcome) (text : List ℕ) → checked cs s t o .reply ≡ says text → Passed cs
+pub says-passed : (cs : List Check) (s t : List ℕ) (o : Outcome) (text : List ℕ) → checked cs s t o .reply ≡ says text → Passed cs
 unfolding checked
 says-passed [] s t o text e = tt
 says-passed (c ∷ cs) s t o text e =
