@@ -4,3 +4,4 @@ pub mod TokenLaws
 pub mod DocumentComplete
 pub mod DocumentSound
 pub mod DocumentLaws
+pub mod LexerLaws

@@ -1,2 +1,3 @@
 -- How a document is read, token by token. Nothing that `Document` says lies here.
+pub mod Lexer
 pub mod Tokens

@@ -1,1 +1,2 @@
 // The solver's file (document 02, card 2): XML of a narrow kind.
+mod lexer;
