@@ -5,3 +5,5 @@ pub mod DocumentComplete
 pub mod DocumentSound
 pub mod DocumentLaws
 pub mod LexerLaws
+pub mod NameLaws
+pub mod ScanLaws

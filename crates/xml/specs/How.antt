@@ -1,3 +1,4 @@
 -- How a document is read, token by token. Nothing that `Document` says lies here.
 pub mod Lexer
+pub mod Scan
 pub mod Tokens
