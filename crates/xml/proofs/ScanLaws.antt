@@ -205,3 +205,31 @@ module _ (s : List ℕ) (low : ℕ) (places : List ℕ) (p : Pass) (g : Ready s 
 
     pub steps-label : seen ≡ Label a e t → (r : Step) → r ≡ leafStep (p .depth) (tallied (p .tally) (node (p .depth) name)) t → Steps s low places places p r
     steps-label q = let l' = rw q at l in leaf-on (l' .on) (text name) (l' .is) (told-text low (map (nameAt s) places) (p .tally) name)
+
+-- A pass: what is told from the place on is what is told in the end
+
+abbrev pub Passing : List ℕ → ℕ → List ℕ → Pass → List ℕ → Pass → Type 0
+Passing s low places₀ p₀ places p = (f : ℕ) → length s - p₀ .at < f → (g : ℕ) × (length s - p .at < g) × (toldAt s low places₀ f p₀ ≡ toldAt s low places g p)
+
+module _ (s : List ℕ) (low : ℕ) (places : List ℕ) (p : Pass) where
+  pub passing-starts : Passing s low places p places p
+  passing-starts f h = (f, h, refl)
+
+  module _ (after : List ℕ) (r : Step) (places₀ : List ℕ) (p₀ : Pass) (x : Steps s low places after p r) (c : Passing s low places₀ p₀ places p) where
+    pub passing-on : (q : Pass) → r ≡ On q → (p .at < q .at) × Ready s after q
+    passing-on q e = let x' = rw e at x in x' .on
+
+    pub passing-goes-on : (q : Pass) → r ≡ On q → Passing s low places₀ p₀ after q
+    passing-goes-on q e f h = let w = c f h in go (w .0) (w .1) (w .2)
+      where
+        go : (g : ℕ) → length s - p .at < g → toldAt s low places₀ f p₀ ≡ toldAt s low places g p
+            → (g : ℕ) × (length s - q .at < g) × (toldAt s low places₀ f p₀ ≡ toldAt s low after g q)
+        go zero l d = absurd (omega arith)
+        go (suc g) l d = let o = passing-on q e in let b = o .1 .within in let x' = rw e at x in (g, omega arith, d ∙ x' .is g)
+
+    pub passing-ends : (k : Kind) → r ≡ Done k → (f : ℕ) → length s - p₀ .at < f → k ≡ toldAt s low places₀ f p₀
+    passing-ends k e f h = let w = c f h in go (w .0) (w .1) (w .2)
+      where
+        go : (g : ℕ) → length s - p .at < g → toldAt s low places₀ f p₀ ≡ toldAt s low places g p → k ≡ toldAt s low places₀ f p₀
+        go zero l d = absurd (omega arith)
+        go (suc g) l d = let x' = rw e at x in sym (d ∙ x' .is g)

@@ -14,7 +14,7 @@ ghost use Rattle.rights.specs.Nodes.{node};
 ghost use Rattle.rights.specs.PathReader.{runAt};
 ghost use Rattle.xml.specs.How.Tokens.{sameBytes};
 ghost use Rattle.xml.specs.How.Lexer.{between, Spot};
-ghost use Rattle.xml.specs.How.Scan.{nameAt, tallied, placed, closesIt, leafStep, Ready, Steps};
+ghost use Rattle.xml.specs.How.Scan.{nameAt, tallied, placed, closesIt, leafStep, toldAt, Ready, Steps};
 
 // How many nodes there are, the deepest level, and whether some label is RESTRICTED.
 pub struct Tally {
@@ -185,6 +185,25 @@ fn scan_step(xml: &[u8], low: usize, p: Pass, places: &mut [usize]) -> Step
         }
         Lexeme::Label(a, e, next) => {
             return leaf(xml, d, tally, a, e, next);
+        }
+    }
+}
+
+// The rest of a pass.
+fn scan_rest(xml: &[u8], low: usize, first: Pass, places: &mut [usize]) -> Kind
+    requires { ⌜ Ready (now xml) (now places) first ⌝ }
+    ensures { λ r. ⌜ ((f : ℕ) → length (now (xml .entry)) - first .at < f → r ≡ toldAt (now (xml .entry)) low (now (places .entry)) f first) ⌝ }
+{
+    let mut p = first;
+    loop {
+        let step = scan_step(xml, low, p, places);
+        match step {
+            Step::On(q) => {
+                p = q;
+            }
+            Step::Done(kind) => {
+                return kind;
+            }
         }
     }
 }
