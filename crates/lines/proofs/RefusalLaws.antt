@@ -10,7 +10,7 @@ use lib.ListN.{length, drop, length-append, length-drop}
 use Rattle.rights.proofs.ListLaws.{byCase}
 use Rattle.rights.proofs.RangeLaws.{flat, beq-eq, on-range}
 use Rattle.answers.specs.How.AnswerArea.{Answered, written}
-use Rattle.lines.specs.Outcome.{Outcome, says, refusal}
+use Rattle.lines.specs.Outcome.{Outcome, says, refusal, Made}
 use Rattle.lines.specs.Refusal.{Check, order, rank, indexIn, areaShort, areaCheck, checked, firstRefusal, Passed, allNumbered}
 use Rattle.lines.specs.Effect.{Work, stateAfter, tableAfter, guarded, checksIn, performed, Performs}
 use Rattle.lines.specs.declared.line.Answer.the-variants.{Accepted, Refused}
@@ -91,43 +91,59 @@ length-written text area = go (leb (length text) (length area)) refl
     go true q = omega (arith, length-append text (drop (length text) area), length-drop (length text) area, leb-true (length text) (length area) q)
     go false q = refl
 
--- A work that is carried out
+-- Checks, behind them that of the area for an answer, and what follows: the text, the state s' and the table t'
 
-module _ (w : Work) (s t : List ℕ) where
-  -- refused by one of its own checks
-  pub performs-refused : {area : List ℕ} {n : ℕ} → n ≡ firstRefusal (w .checks) → (n ≡ 0 → ⊥) → Performs w s t area (Refused n) s t area
-  unfolding performed
-  performs-refused {area} {n} e h =
-      made-at (checked-refused (checksIn (length area) w) s t _ n (first-front (w .checks) _ n e h) h)
+module _ (cs : List Check) (text s t s' t' : List ℕ) where
+  abbrev pub answering : ℕ → Outcome
+  answering room = checked (cs ++ (areaCheck room (length text) ∷ [])) s t (record { reply = says text; state = s'; table = t' })
+
+  -- refused by one of the checks
+  pub answering-refused : {area : List ℕ} {n : ℕ} → n ≡ firstRefusal cs → (n ≡ 0 → ⊥) → Made (answering (length area)) area (Refused n) s t area
+  answering-refused {area} {n} e h =
+      made-at (checked-refused (cs ++ (areaCheck (length area) (length text) ∷ [])) s t _ n (first-front cs _ n e h) h)
       (record { answer = refl; state = refl; table = refl; area = refl })
 
-  -- where they passed, and its answer was put if it fits
-  module _ {before area : List ℕ} {need d : ℕ} (p : Passed (w .checks)) (a : Answered (w .text) before area need) (e : d ≡ firstRefusal (areaCheck (length area) need ∷ [])) where
-    last : d ≡ firstRefusal (areaCheck (length before) (length (w .text)) ∷ [])
+  -- where they passed, and the answer was put if it fits
+  module _ {before area : List ℕ} {need d : ℕ} (p : Passed cs) (a : Answered text before area need) (e : d ≡ firstRefusal (areaCheck (length area) need ∷ [])) where
+    last : d ≡ firstRefusal (areaCheck (length before) (length text) ∷ [])
     last =
         e
-        ∙ ap (λ k. firstRefusal (areaCheck k need ∷ [])) (ap length (a .area) ∙ length-written (w .text) before)
+        ∙ ap (λ k. firstRefusal (areaCheck k need ∷ [])) (ap length (a .area) ∙ length-written text before)
         ∙ ap (λ k. firstRefusal (areaCheck (length before) k ∷ [])) (a .size)
 
-    pub performs-short : (d ≡ 0 → ⊥) → Performs w s t before (Refused d) s t area
-    unfolding performed
-    performs-short h =
-        byCase (ltb (length before) (length (w .text)))
+    pub answering-short : (d ≡ 0 → ⊥) → Made (answering (length before)) before (Refused d) s t area
+    answering-short h =
+        byCase (ltb (length before) (length text))
         (λ z.
-        let q : leb (length (w .text)) (length before) ≡ false = lt-leb (length (w .text)) (length before) (ltb-true (length before) (length (w .text)) z) in
-        made-at (checked-behind (w .checks) _ s t _ p ∙ checked-refused (areaCheck (length before) (length (w .text)) ∷ []) s t _ d last h)
+        let q : leb (length text) (length before) ≡ false = lt-leb (length text) (length before) (ltb-true (length before) (length text) z) in
+        made-at (checked-behind cs _ s t _ p ∙ checked-refused (areaCheck (length before) (length text) ∷ []) s t _ d last h)
         (record { answer = refl; state = refl; table = refl; area = rw q at (a .area) }))
         (λ z. absurd (h (rw z at last)))
 
-    pub performs-done : {s' t' : List ℕ} → d ≡ 0 → s' ≡ stateAfter (w .effect) s → t' ≡ tableAfter (w .effect) t → Performs w s t before (Accepted need) s' t' area
-    unfolding performed
-    performs-done k es et =
-        byCase (ltb (length before) (length (w .text)))
+    pub answering-done : {s'' t'' : List ℕ} → d ≡ 0 → s'' ≡ s' → t'' ≡ t' → Made (answering (length before)) before (Accepted need) s'' t'' area
+    answering-done k es et =
+        byCase (ltb (length before) (length text))
         (λ z. let m : d ≡ areaShort = rw z at last in absurd (omega (arith, m, k)))
         (λ z.
-        let q : leb (length (w .text)) (length before) ≡ true = le-leb (length (w .text)) (length before) (ltb-false (length before) (length (w .text)) z) in
-        made-at (checked-behind (w .checks) _ s t _ p ∙ checked-passed (areaCheck (length before) (length (w .text)) ∷ []) s t _ (z, tt))
+        let q : leb (length text) (length before) ≡ true = le-leb (length text) (length before) (ltb-false (length before) (length text) z) in
+        made-at (checked-behind cs _ s t _ p ∙ checked-passed (areaCheck (length before) (length text) ∷ []) s t _ (z, tt))
         (record { answer = ap Accepted (a .size); state = es; table = et; area = rw q at (a .area) }))
+
+-- So with a work that is carried out
+
+module _ (w : Work) (s t : List ℕ) where
+  pub performs-refused : {area : List ℕ} {n : ℕ} → n ≡ firstRefusal (w .checks) → (n ≡ 0 → ⊥) → Performs w s t area (Refused n) s t area
+  unfolding performed
+  performs-refused e h = answering-refused (w .checks) (w .text) s t _ _ e h
+
+  module _ {before area : List ℕ} {need d : ℕ} (p : Passed (w .checks)) (a : Answered (w .text) before area need) (e : d ≡ firstRefusal (areaCheck (length area) need ∷ [])) where
+    pub performs-short : (d ≡ 0 → ⊥) → Performs w s t before (Refused d) s t area
+    unfolding performed
+    performs-short h = answering-short (w .checks) (w .text) s t _ _ p a e h
+
+    pub performs-done : {s' t' : List ℕ} → d ≡ 0 → s' ≡ stateAfter (w .effect) s → t' ≡ tableAfter (w .effect) t → Performs w s t before (Accepted need) s' t' area
+    unfolding performed
+    performs-done k es et = answering-done (w .checks) (w .text) s t _ _ p a e k es et
 
 -- checks in front that passed
 pub performed-guarded : (cs : List Check) (w : Work) (room : ℕ) (s t : List ℕ) → Passed cs → performed (guarded cs w) room s t ≡ performed w room s t
