@@ -7,4 +7,5 @@ pub mod DocumentLaws
 pub mod KindLaws
 pub mod LexerLaws
 pub mod NameLaws
+pub mod PassLaws
 pub mod ScanLaws

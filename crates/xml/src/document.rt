@@ -8,13 +8,16 @@ ghost use mathlib.Core.Bool.{cond, _||_};
 ghost use mathlib.Core.List.{map};
 ghost use Prim.Native.Nat.{ℕ, max, _+_, _-_, _≤_, _<_, _^_};
 ghost use lib.Dec.{eqb};
-ghost use lib.ListN.{length, getD};
+ghost use lib.ListN.{length, getD, replicate};
 ghost use Rattle.rights.specs.Labels.{labelByte};
 ghost use Rattle.rights.specs.Nodes.{node};
 ghost use Rattle.rights.specs.PathReader.{runAt};
-ghost use Rattle.xml.specs.How.Tokens.{sameBytes};
+ghost use Rattle.xml.specs.How.Tokens.{sameBytes, tokens};
 ghost use Rattle.xml.specs.How.Lexer.{between, Spot};
-ghost use Rattle.xml.specs.How.Scan.{nameAt, tallied, placed, closesIt, leafStep, toldAt, Ready, Steps};
+ghost use Rattle.xml.specs.How.Scan.{nameAt, tallied, placed, closesIt, leafStep, toldAt, kindWithin, window, Ready, Steps};
+
+// A pass compares the closing tags of so many levels.
+const WINDOW: usize = 16384;
 
 // How many nodes there are, the deepest level, and whether some label is RESTRICTED.
 pub struct Tally {
@@ -204,6 +207,67 @@ fn scan_rest(xml: &[u8], low: usize, first: Pass, places: &mut [usize]) -> Kind
             Step::Done(kind) => {
                 return kind;
             }
+        }
+    }
+}
+
+// The rest of a pass behind a tag whose name stands at `root`.
+fn scan_from(xml: &[u8], low: usize, root: usize, first: Pass) -> Kind
+    requires { ⌜ Ready (now xml) (replicate window root) first ⌝ }
+    ensures { λ r. ⌜ ((f : ℕ) → length (now (xml .entry)) - first .at < f → r ≡ toldAt (now (xml .entry)) low (replicate window root) f first) ⌝ }
+{
+    let mut places = [root; WINDOW];
+    scan_rest(xml, low, first, &mut places)
+}
+
+// One pass, which compares the closing tags of the levels from low on.
+fn scan(xml: &[u8], low: usize) -> Kind
+    ensures { λ r. ⌜ r ≡ kindWithin low window (tokens (now (xml .entry))) ⌝ }
+{
+    let none = Tally {
+        nodes: 0,
+        deepest: 0,
+        restricted: false,
+    };
+    let seen = next_token(xml, 0);
+    match seen {
+        Lexeme::Opens(a, e, next) => {
+            let tally = counted(none, 0, xml, a, e);
+            return scan_from(
+                xml,
+                low,
+                a,
+                Pass {
+                    at: next,
+                    depth: 1,
+                    tally,
+                },
+            );
+        }
+        Lexeme::Empty(a, e, next) => {
+            let tally = counted(none, 0, xml, a, e);
+            return scan_from(
+                xml,
+                low,
+                a,
+                Pass {
+                    at: next,
+                    depth: 0,
+                    tally,
+                },
+            );
+        }
+        Lexeme::Closes(_, _, _) => {
+            return Kind::NoDocument;
+        }
+        Lexeme::Label(_, _, _) => {
+            return Kind::NoDocument;
+        }
+        Lexeme::End => {
+            return Kind::NoDocument;
+        }
+        Lexeme::Bad => {
+            return Kind::NoDocument;
         }
     }
 }

@@ -57,6 +57,10 @@ matchedWithin low w (m ∷ ns) (closes n ∷ xs) = cond (inWindow low w (length 
 matchedWithin low w ns (empty n ∷ xs) = matchedWithin low w ns xs
 matchedWithin low w ns (text l ∷ xs) = matchedWithin low w ns xs
 
+-- as many levels as one pass compares
+abbrev pub window : ℕ
+window = 16384
+
 -- what a pass tells that compares the closing tags of a window
 abbrev pub kindWithin : ℕ → ℕ → Tokens → Kind
 kindWithin low w (got xs) = cond (nested xs && matchedWithin low w [] xs) (Document (tallyAll noNodes (tokenNodes 0 xs))) NoDocument
