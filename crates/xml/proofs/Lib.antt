@@ -9,3 +9,4 @@ pub mod LexerLaws
 pub mod NameLaws
 pub mod PassLaws
 pub mod ScanLaws
+pub mod WindowLaws

@@ -5,16 +5,16 @@ use rights::labels::is_restricted;
 use rights::labels::label_byte;
 ghost use mathlib.Core.Path.{_≡_};
 ghost use mathlib.Core.Bool.{cond, _||_};
-ghost use mathlib.Core.List.{map};
+ghost use mathlib.Core.List.{List, [], map};
 ghost use Prim.Native.Nat.{ℕ, max, _+_, _-_, _≤_, _<_, _^_};
 ghost use lib.Dec.{eqb};
 ghost use lib.ListN.{length, getD, replicate};
 ghost use Rattle.rights.specs.Labels.{labelByte};
 ghost use Rattle.rights.specs.Nodes.{node};
 ghost use Rattle.rights.specs.PathReader.{runAt};
-ghost use Rattle.xml.specs.How.Tokens.{sameBytes, tokens};
+ghost use Rattle.xml.specs.How.Tokens.{Token, sameBytes, matchedIn, tokens};
 ghost use Rattle.xml.specs.How.Lexer.{between, Spot};
-ghost use Rattle.xml.specs.How.Scan.{nameAt, tallied, placed, closesIt, leafStep, toldAt, kindWithin, window, Ready, Steps};
+ghost use Rattle.xml.specs.How.Scan.{nameAt, tallied, placed, closesIt, leafStep, toldAt, kindWithin, documentKind, window, Ready, Steps, FirstWindow};
 
 // A pass compares the closing tags of so many levels.
 const WINDOW: usize = 16384;
@@ -270,4 +270,33 @@ fn scan(xml: &[u8], low: usize) -> Kind
             return Kind::NoDocument;
         }
     }
+}
+
+// Whether the closing tags match of a document whose first window does: one more pass for every further window.
+fn matches_below(xml: &[u8], deepest: usize) -> bool
+    ensures { λ r. ⌜ ((xs : List Token) → FirstWindow (now (xml .entry)) deepest xs → r ≡ matchedIn [] xs) ⌝ }
+{
+    let mut low = 0;
+    while WINDOW <= deepest - low {
+        low += WINDOW;
+        let kind = scan(xml, low);
+        let Kind::Document(_) = kind else {
+            return false;
+        };
+    }
+    true
+}
+
+// Whether the bytes are a document, and what its nodes are like.
+pub fn check_document(xml: &[u8]) -> Kind
+    ensures { λ r. ⌜ r ≡ documentKind (now (xml .entry)) ⌝ }
+{
+    let kind = scan(xml, 0);
+    let Kind::Document(tally) = kind else {
+        return Kind::NoDocument;
+    };
+    if matches_below(xml, tally.deepest) {
+        return Kind::Document(tally);
+    }
+    Kind::NoDocument
 }

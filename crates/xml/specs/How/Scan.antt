@@ -9,7 +9,7 @@ use Rattle.rights.specs.Labels.{labelByte, sameLabel, restricted}
 use Rattle.rights.specs.Nodes.{Node, node, levelOf, labelOf}
 use Rattle.rights.specs.PathReader.{runAt}
 use Rattle.rights.specs.Policy.{some}
-use Rattle.xml.specs.How.Tokens.{Token, opens, closes, empty, text, Tokens, got, bad, tokensFrom, nested, sameBytes, tokenNodes, isDocument, documentNodes}
+use Rattle.xml.specs.How.Tokens.{Token, opens, closes, empty, text, Tokens, got, bad, tokensFrom, tokens, nested, sameBytes, tokenNodes, isDocument, documentNodes}
 use Rattle.xml.specs.declared.document.Kind.{Kind}
 use Rattle.xml.specs.declared.document.Kind.the-variants.{NoDocument, Document}
 use Rattle.xml.specs.declared.document.Tally.{Tally}
@@ -121,3 +121,10 @@ Onwards s places p (Done k) = Unit {0}
 pub record Steps (s : List ℕ) (low : ℕ) (before after : List ℕ) (p : Pass) (r : Step) : Type 0 where
   pub is : (f : ℕ) → toldAt s low before (suc f) p ≡ toldAfter s low after f r
   pub on : Onwards s after p r
+
+-- a document's tokens, of which the first window matches
+pub record FirstWindow (s : List ℕ) (deep : ℕ) (xs : List Token) : Type 0 where
+  pub read : tokens s ≡ got xs
+  pub nests : nested xs ≡ true
+  pub matches : matchedWithin 0 window [] xs ≡ true
+  pub deep-is : deepest (tokenNodes 0 xs) ≡ deep
