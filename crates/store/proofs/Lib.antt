@@ -6,3 +6,4 @@ pub mod UnlimitedLaws
 pub mod TreeNodesLaws
 pub mod LoadLaws
 pub mod LoadXmlLaws
+pub mod LoadCallLaws
