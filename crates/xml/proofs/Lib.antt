@@ -10,3 +10,4 @@ pub mod NameLaws
 pub mod PassLaws
 pub mod ScanLaws
 pub mod WindowLaws
+pub mod WriterLaws

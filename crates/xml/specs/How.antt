@@ -2,3 +2,4 @@
 pub mod Lexer
 pub mod Scan
 pub mod Tokens
+pub mod Writer
