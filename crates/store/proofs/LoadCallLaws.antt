@@ -6,10 +6,8 @@ use mathlib.Core.List.{List, [], _∷_, _++_, map}
 use native.Mathlib.Omega.{arith}
 use borrow.Author.Tests.{leb-false, le-leb, lt-leb, lt-ltb, le-ltb, ltb-true, ltb-false, not-false}
 use lib.Dec.{ltb}
-use lib.ListN.{length, drop}
-use Rattle.rights.specs.Bytes.{all, isZero}
+use lib.ListN.{length}
 use Rattle.rights.specs.Held.{nodeBytes, tableBytes}
-use Rattle.rights.specs.Limits.{recordsMax}
 use Rattle.rights.specs.Nodes.{Nodes, levelOf}
 use Rattle.rights.specs.Policy.{some}
 use Rattle.rights.specs.Table.{count, capacity}
@@ -19,6 +17,7 @@ use Rattle.answers.specs.Answer.{okText}
 use Rattle.answers.specs.How.AnswerArea.{Answered}
 use Rattle.xml.specs.How.Scan.{deepest, tallyOf, documentKind}
 use Rattle.xml.specs.How.Tokens.{isDocument, documentNodes}
+use Rattle.xml.specs.How.Writer as writer
 use Rattle.xml.specs.declared.document.Kind.the-variants.{NoDocument, Document}
 use Rattle.xml.specs.declared.document.Tally.{Tally}
 use Rattle.lines.specs.Outcome.{Made}
@@ -57,6 +56,23 @@ module _ (s t : List ℕ) where
   pub at-none : storeOk s t ≡ true → stage s < 2 → 0 ≡ firstRefusal (storeChecks s t)
   at-none e h = rw (e, lt-leb 2 (stage s) h)
 
+  pub store-passed : {d : ℕ} → d ≡ firstRefusal (storeChecks s t) → d ≡ 0 → (storeOk s t ≡ true) × (stage s < 2)
+  store-passed e z = let p = passed (storeChecks s t) _ refl e z in (not-false (storeOk s t) (p .0), leb-false 2 (stage s) (p .1 .0))
+
+-- what the check of the document told
+
+module _ (xml : List ℕ) where
+  pub no-document : documentKind xml ≡ NoDocument → isDocument xml ≡ false
+  unfolding documentKind
+  no-document e = byCase (isDocument xml) (λ q. let z : Document (tallyOf (documentNodes xml)) ≡ NoDocument = rw q at e in let y : _≡_ {A = ℕ} 0 1 = cc in absurd (omega arith)) (λ q. q)
+
+  pub a-document : {n : Tally} → Document n ≡ documentKind xml → (isDocument xml ≡ true) × (n ≡ tallyOf (documentNodes xml))
+  unfolding documentKind
+  a-document {n} e =
+      byCase (isDocument xml)
+      (λ q. (q, (let z : Document n ≡ Document (tallyOf (documentNodes xml)) = rw q at e in cc)))
+      (λ q. let z : Document n ≡ NoDocument = rw q at e in let y : _≡_ {A = ℕ} 0 1 = cc in absurd (omega arith))
+
 module _ (s t xml : List ℕ) where
   -- all checks but 12, and what the call leaves where none of them fails
   abbrev ownChecks : List Check
@@ -76,21 +92,6 @@ module _ (s t xml : List ℕ) where
   pub store-refused : {area : List ℕ} {d : ℕ} → d ≡ firstRefusal (storeChecks s t) → (d ≡ 0 → ⊥) → Made (loadXml s t xml (length area)) area (Refused d) s t area
   store-refused e h = turned (first-front (storeChecks s t) (documentChecks (length t) xml) _ e h) h
 
-  pub store-passed : {d : ℕ} → d ≡ firstRefusal (storeChecks s t) → d ≡ 0 → (storeOk s t ≡ true) × (stage s < 2)
-  store-passed e z = let p = passed (storeChecks s t) _ refl e z in (not-false (storeOk s t) (p .0), leb-false 2 (stage s) (p .1 .0))
-
-  -- what the check of the document told
-  pub no-document : documentKind xml ≡ NoDocument → isDocument xml ≡ false
-  unfolding documentKind
-  no-document e = byCase (isDocument xml) (λ q. let z : Document (tallyOf (documentNodes xml)) ≡ NoDocument = rw q at e in let y : _≡_ {A = ℕ} 0 1 = cc in absurd (omega arith)) (λ q. q)
-
-  pub a-document : {n : Tally} → Document n ≡ documentKind xml → (isDocument xml ≡ true) × (n ≡ tallyOf (documentNodes xml))
-  unfolding documentKind
-  a-document {n} e =
-      byCase (isDocument xml)
-      (λ q. (q, (let z : Document n ≡ Document (tallyOf (documentNodes xml)) = rw q at e in cc)))
-      (λ q. let z : Document n ≡ NoDocument = rw q at e in let y : _≡_ {A = ℕ} 0 1 = cc in absurd (omega arith))
-
   module _ (ok : storeOk s t ≡ true) (early : stage s < 2) where
     -- 14
     pub document-refused : {area : List ℕ} → isDocument xml ≡ false → Made (loadXml s t xml (length area)) area (Refused 14) s t area
@@ -109,15 +110,14 @@ module _ (s t xml : List ℕ) where
         own-passed = passed ownChecks _ refl (e ∙ own-checks) z
 
         -- what the writer of the document asks
-        pub document-fits : (deepest (documentNodes xml) ≤ 11) × (length (documentNodes xml) ≤ recordsMax) × (4 + length (documentNodes xml) * 32 ≤ length t)
-            × (all isZero (drop 4 t) ≡ true)
+        pub document-fits : writer.Loadable xml t
         document-fits =
             let p = own-passed in
             let low = ltb-false 11 (deepest (documentNodes xml)) (deepest-told (documentNodes xml) ∙ p .1 .1 .1 .1 .0) in
             let few : length (documentNodes xml) ≤ min ((length t - 4) / 32) 16384 = ltb-false (capacity (length t)) (length (documentNodes xml)) (p .1 .1 .1 .1 .1 .0) in
             let h = facts t (store-held s t ok .table) in
             let e : 4 + count t * 32 ≡ 4 = omega (arith, no-records s t ok early) in
-            (low, omega (arith, few), omega (arith, few, h .head), rw e at (h .clear))
+            record { document = document; levels = low; few = omega (arith, few); room = omega (arith, few, h .head); clear = rw e at (h .clear) }
 
         -- 12, and nothing
         module _ {before area : List ℕ} {need k : ℕ} (a : Answered okText before area need) (q : k ≡ firstRefusal (areaCheck (length area) need ∷ [])) where

@@ -1,2 +1,3 @@
-// The store (document 01): one call for every line.
+// The store: one call for every line (document 01), and one that loads the solver's file (document 02, card 2).
 pub mod line;
+pub mod load;
