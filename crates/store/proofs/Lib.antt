@@ -7,3 +7,4 @@ pub mod TreeNodesLaws
 pub mod LoadLaws
 pub mod LoadXmlLaws
 pub mod LoadCallLaws
+pub mod LoadExamples

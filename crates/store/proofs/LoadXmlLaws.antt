@@ -173,6 +173,14 @@ module _ (s t xml : List ℕ) (room : ℕ) where
       ) in
       checked-passed (loadChecks s t xml room) s t answer p ∙ answer-is u d ∙ rw (es, et)
 
+  -- So the bytes are accepted exactly if they are a document whose matching lines would all be.
+  pub load-as-lines : ((text : List ℕ) × (loadXml s t xml room .reply ≡ says text))
+      ↔ ((u : Tree) × DocumentOf xml u × ((s' : List ℕ) × (t' : List ℕ) × LinesLeave room (matchingLines u) s t s' t'))
+  load-as-lines = (
+    λ (text, e). let (u, h, z) = load-accepted e in (u, h .document, (_, _, h .lines)),
+    λ (u, d, (s', t', x)). (okText, ap (λ (o : Outcome). o .reply) (lines-accepted u d s' t' x)),
+  )
+
   -- "The number is returned; state, tables and answer area keep their bytes."
   pub load-refused : {n : ℕ} → loadXml s t xml room .reply ≡ refuses n → loadXml s t xml room ≡ refusal n s t
   unfolding loadXml
