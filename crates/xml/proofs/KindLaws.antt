@@ -1,19 +1,18 @@
 -- What a pass tells: whether the tokens nest and the closing tags of the window match, and what the nodes are like. Assumes nothing.
-use Prim.Native.Nat.{ℕ, zero, suc, _+_, _-_, _≤_, _<_, max}
-use mathlib.Core.Path.{_≡_, refl, sym, ap, _∙_}
-use mathlib.Core.List.{List, [], _∷_, map}
-use mathlib.Core.Bool.{Bool, true, false, cond, _&&_, _||_, and-false}
+use Prim.Native.Nat.{ℕ, suc, _+_, _-_, _<_}
+use mathlib.Core.Path.{_≡_, refl, sym, _∙_}
+use mathlib.Core.List.{List, [], _∷_}
+use mathlib.Core.Bool.{true, false, cond, _&&_, and-false}
 use native.Mathlib.Omega.{arith}
-use lib.Dec.{eqb, ltb, leb}
-use lib.ListN.{length, getD, set, length-set, replicate, length-replicate, getD-replicate}
+use lib.Dec.{eqb, leb}
+use lib.ListN.{length, getD, length-set, replicate, length-replicate, getD-replicate}
 use lib.Seq.{getD-set-same, getD-set-other}
-use borrow.Author.Tests.{leb-true, leb-false, ltb-true, ltb-false, le-leb, lt-leb, lt-ltb, le-ltb, eqb-true, eqb-false, eq-eqb, ne-eqb}
-use Rattle.rights.specs.Nodes.{Node, node, levelOf}
-use Rattle.rights.specs.Policy.{some}
+use borrow.Author.Tests.{leb-true, ltb-true, le-leb, lt-ltb, eqb-true, eqb-false, eq-eqb, ne-eqb}
+use Rattle.rights.specs.Nodes.{node}
 use Rattle.rights.proofs.ListLaws.{byCase}
 use Rattle.rights.proofs.TableLaws.{both}
-use Rattle.xml.specs.How.Tokens.{Token, opens, closes, empty, text, Tokens, got, bad, withToken, nestedIn, nested, sameBytes, matchedIn, tokenNodes}
-use Rattle.xml.specs.How.Scan.{deepest, isRestricted, tallyOf, tallied, tallyAll, noNodes, inWindow, matchedWithin, kindWithin, opened, closesIt, told, toldBy}
+use Rattle.xml.specs.How.Tokens.{Token, opens, closes, empty, text, Tokens, got, bad, withToken, nestedIn, nested, sameBytes, tokenNodes}
+use Rattle.xml.specs.How.Scan.{tallied, tallyAll, noNodes, inWindow, matchedWithin, kindWithin, opened, closesIt, told, toldBy}
 use Rattle.xml.specs.declared.document.Kind.{Kind}
 use Rattle.xml.specs.declared.document.Kind.the-variants.{NoDocument, Document}
 use Rattle.xml.specs.declared.document.Tally.{Tally}

@@ -1,19 +1,17 @@
 -- Tokens by their places in the bytes, case by case, as the code goes through them. Assumes nothing.
-use Prim.Native.Nat.{ℕ, zero, suc, _+_, _-_, _≤_, _<_}
-use mathlib.Core.Path.{_≡_, refl, sym, ap, _∙_}
-use mathlib.Core.List.{List, [], _∷_}
-use mathlib.Core.Bool.{Bool, true, false, _&&_, cond}
+use Prim.Native.Nat.{ℕ, suc, _+_, _-_, _≤_, _<_}
+use mathlib.Core.Path.{_≡_, sym, ap, _∙_}
+use mathlib.Core.List.{List}
+use mathlib.Core.Bool.{Bool, true, false, _&&_}
 use native.Mathlib.Omega.{arith}
-use native.Mathlib.Numerals.{add-one}
 use lib.Dec.{leb, eqb}
 use lib.ListN.{length, take, drop, drop-of-length-le}
-use lib.Seq.{drop-cons, drop-drop, getD-drop, drop-nil}
+use lib.Seq.{drop-cons, drop-drop, getD-drop}
 use borrow.Author.Tests.{leb-true, eqb-true, eq-eqb, ne-eqb}
 use Rattle.rights.specs.Bytes.{run, byteAt}
 use Rattle.rights.specs.Labels.{labelByte}
 use Rattle.rights.specs.PathReader.{runAt}
-use Rattle.rights.specs.How.Reading.{Onward, Ends}
-use Rattle.rights.specs.declared.path.Read.{Read}
+use Rattle.rights.specs.How.Reading.{Ends}
 use Rattle.rights.specs.declared.path.Read.the-variants.{At, Bad as Unread}
 use Rattle.rights.proofs.ListLaws.{byCase}
 use Rattle.rights.proofs.TableLaws.{both}
@@ -21,8 +19,8 @@ use Rattle.rights.proofs.PathLaws.{inside}
 use Rattle.rights.proofs.TextLaws.{drop-take}
 use Rattle.forms.specs.Part.{labelEnd}
 use Rattle.xml.specs.Document.{blankByte, nameStart}
-use Rattle.xml.specs.How.Tokens.{Token, opens, closes, empty, text, Lexed, token, end, bad, closing, opening, texting, lexAfter, lex}
-use Rattle.xml.specs.How.Lexer.{between, said, Spot, Placed, LexedAs, LexedAt}
+use Rattle.xml.specs.How.Tokens.{Lexed, bad, closing, opening, texting, lexAfter, lex}
+use Rattle.xml.specs.How.Lexer.{between, Placed, LexedAs, LexedAt}
 use Rattle.xml.specs.declared.lexer.Lexeme.{Lexeme}
 use Rattle.xml.specs.declared.lexer.Lexeme.the-variants.{Opens, Closes, Empty, Label, End, Bad}
 

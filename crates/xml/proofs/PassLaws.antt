@@ -1,19 +1,18 @@
 -- A whole pass, by the first token. Assumes nothing.
-use Prim.Native.Nat.{ℕ, zero, suc, _+_, _-_, _≤_, _<_}
+use Prim.Native.Nat.{ℕ, zero, suc, _-_, _≤_, _<_}
 use mathlib.Core.Path.{_≡_, refl, sym, ap, _∙_}
-use mathlib.Core.List.{List, [], _∷_, map}
+use mathlib.Core.List.{List, _∷_, map}
 use native.Mathlib.Omega.{arith}
 use lib.ListN.{length, getD, drop, replicate, length-replicate}
 use Rattle.rights.specs.Nodes.{node}
-use Rattle.xml.specs.How.Tokens.{Token, opens, closes, empty, text, Lexed, token, end, bad, lex, Tokens, got, withToken, tokensFrom, tokens}
+use Rattle.xml.specs.How.Tokens.{Token, opens, closes, empty, text, token, lex, Tokens, withToken, tokensFrom, tokens}
 use Rattle.xml.specs.How.Lexer.{between, Spot, LexedAt}
-use Rattle.xml.specs.How.Scan.{tallied, noNodes, kindWithin, nameAt, toldAt, toldBy, Ready}
+use Rattle.xml.specs.How.Scan.{tallied, noNodes, kindWithin, nameAt, toldAt, Ready}
 use Rattle.xml.specs.declared.lexer.Lexeme.{Lexeme}
 use Rattle.xml.specs.declared.lexer.Lexeme.the-variants.{Opens, Closes, Empty, Label, End, Bad}
 use Rattle.xml.specs.declared.document.Kind.{Kind}
-use Rattle.xml.specs.declared.document.Kind.the-variants.{NoDocument, Document}
+use Rattle.xml.specs.declared.document.Kind.the-variants.{NoDocument}
 use Rattle.xml.specs.declared.document.Tally.{Tally}
-use Rattle.xml.specs.declared.document.Pass.{Pass}
 use Rattle.xml.proofs.ScanLaws.{named}
 use Rattle.xml.proofs.KindLaws.{kind-opens, kind-empty, kind-closes, kind-text, kind-none, root-open}
 

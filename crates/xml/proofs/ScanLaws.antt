@@ -2,20 +2,21 @@
 use Prim.Native.Nat.{ℕ, zero, suc, _+_, _-_, _≤_, _<_}
 use mathlib.Core.Path.{_≡_, refl, sym, ap, _∙_}
 use mathlib.Core.List.{List, [], _∷_, map}
-use mathlib.Core.Bool.{Bool, true, false, cond}
+use mathlib.Core.Bool.{true, false, cond}
 use native.Mathlib.Omega.{arith}
 use native.Mathlib.Numerals.{add-one}
-use lib.Dec.{eqb, ltb, leb}
-use lib.ListN.{length, getD, set, take, drop, length-map}
+use lib.Dec.{eqb}
+use lib.ListN.{length, getD, set, drop, length-map}
 use lib.Seq.{drop-drop}
 use borrow.Author.Tests.{le-leb, lt-leb, lt-ltb, le-ltb, eqb-true, eqb-false}
 use Rattle.rights.specs.Nodes.{node}
 use Rattle.rights.specs.Labels.{labelByte}
 use Rattle.rights.specs.PathReader.{runAt}
 use Rattle.rights.proofs.ListLaws.{byCase}
-use Rattle.xml.specs.How.Tokens.{Token, opens, closes, empty, text, Lexed, token, end, bad, lex, Tokens, got, bad as none, withToken, tokensFrom, sameBytes}
+use Rattle.rights.proofs.PassLaws.{map-at}
+use Rattle.xml.specs.How.Tokens.{Token, opens, closes, empty, text, token, lex, Tokens, got, bad as none, withToken, tokensFrom, sameBytes}
 use Rattle.xml.specs.How.Lexer.{between, Spot, LexedAt}
-use Rattle.xml.specs.How.Scan.{tallied, inWindow, opened, closesIt, told, toldBy, nameAt, placed, leafStep, toldAt, toldAfter, Ready, Onwards, Steps}
+use Rattle.xml.specs.How.Scan.{tallied, inWindow, opened, closesIt, told, toldBy, nameAt, placed, leafStep, toldAt, Ready, Onwards, Steps}
 use Rattle.xml.specs.declared.lexer.Lexeme.{Lexeme}
 use Rattle.xml.specs.declared.lexer.Lexeme.the-variants.{Opens, Closes, Empty, Label, End, Bad}
 use Rattle.xml.specs.declared.document.Kind.{Kind}
@@ -26,11 +27,6 @@ use Rattle.xml.specs.declared.document.Step.{Step}
 use Rattle.xml.specs.declared.document.Step.the-variants.{On, Done}
 
 -- Places and the names that stand there
-
-map-at : {A : Type 0} {B : Type 0} (f : A → B) (l : List A) (k : ℕ) (d : A) (e : B) → k < length l → getD (map f l) k e ≡ f (getD l k d)
-map-at f [] k d e h = absurd (omega arith)
-map-at f (x ∷ l) zero d e h = refl
-map-at f (x ∷ l) (suc k) d e h = map-at f l k d e (omega arith)
 
 map-set : {A : Type 0} {B : Type 0} (f : A → B) (l : List A) (i : ℕ) (x : A) → map f (set l i x) ≡ set (map f l) i (f x)
 map-set f [] i x = refl

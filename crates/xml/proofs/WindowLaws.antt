@@ -1,19 +1,20 @@
 -- Nested tokens match exactly if they match in each window up to the deepest level; what the tally of the nodes is. Assumes nothing.
-use Prim.Native.Nat.{ℕ, zero, suc, _+_, _-_, _≤_, _<_, max}
+use Prim.Native.Nat.{ℕ, suc, _+_, _-_, _≤_, _<_, max}
 use mathlib.Core.Path.{_≡_, refl, sym, ap, _∙_}
 use mathlib.Core.List.{List, [], _∷_}
 use mathlib.Core.Bool.{Bool, true, false, cond, _&&_, _||_, and-true, and-false, or-false, or-assoc}
 use native.Mathlib.Omega.{arith}
 use native.Mathlib.Nat.{le-max-left, le-max-right, max-zero, add-zero, zero-add, max-comm}
-use lib.Dec.{ltb, leb}
+use lib.Dec.{ltb}
 use lib.ListN.{length}
-use borrow.Author.Tests.{leb-true, leb-false, ltb-true, ltb-false, le-leb, lt-leb, lt-ltb, le-ltb}
-use Rattle.rights.specs.Nodes.{Node, node, levelOf}
+use borrow.Author.Tests.{ltb-true, ltb-false, le-leb, lt-leb, lt-ltb, le-ltb}
+use Rattle.rights.specs.Nodes.{Node, levelOf}
 use Rattle.rights.specs.Policy.{some}
 use Rattle.rights.proofs.ListLaws.{byCase}
 use Rattle.rights.proofs.TableLaws.{both}
 use Rattle.xml.specs.How.Tokens.{Token, opens, closes, empty, text, Tokens, got, bad, tokens, nested, sameBytes, matchedIn, tokenNodes, goodTokens, nodesOfTokens, isDocument, documentNodes}
-use Rattle.xml.specs.How.Scan.{deepest, isRestricted, tallyOf, documentKind, tallied, tallyAll, noNodes, inWindow, matchedWithin, window, kindWithin, FirstWindow}
+use Rattle.xml.specs.How.Loading.{deepest, isRestricted, tallyOf, documentKind}
+use Rattle.xml.specs.How.Scan.{tallied, tallyAll, noNodes, inWindow, matchedWithin, window, kindWithin, FirstWindow}
 use Rattle.xml.specs.declared.document.Kind.{Kind}
 use Rattle.xml.specs.declared.document.Kind.the-variants.{NoDocument, Document}
 use Rattle.xml.specs.declared.document.Tally.{Tally}
@@ -161,3 +162,20 @@ module _ (s : List ℕ) (kind : Kind) (k : kind ≡ kindWithin 0 window (tokens 
     pub document-is : (b : Bool) → ((xs : List Token) → FirstWindow s (t .deepest) xs → b ≡ matchedIn [] xs) → documentKind s ≡ cond b (Document t) NoDocument
     unfolding documentKind isDocument documentNodes
     document-is b h = let w = first-window in let f = w .1 in rw (f .read, f .nests, ← h (w .0) f, ← w .2)
+
+-- What an answer says
+
+pub record Told (s : List ℕ) (t : Tally) : Type 0 where
+  pub document : isDocument s ≡ true
+  pub tally : t ≡ tallyOf (documentNodes s)
+
+pub told-document : (s : List ℕ) (t : Tally) → Document t ≡ documentKind s → Told s t
+unfolding documentKind
+told-document s t e =
+    byCase (isDocument s)
+    (λ b. let q = rw b at e in record { document = b; tally = cc })
+    (λ b. absurd (let q = rw b at e in let z : _≡_ {A = ℕ} 0 1 = cc in omega arith))
+
+pub told-no-document : (s : List ℕ) → NoDocument ≡ documentKind s → isDocument s ≡ false
+unfolding documentKind
+told-no-document s e = byCase (isDocument s) (λ b. absurd (let q = rw b at e in let z : _≡_ {A = ℕ} 0 1 = cc in omega arith)) (λ b. b)

@@ -1,7 +1,7 @@
 -- One token after the other, each with the records of its nodes, and the table in the end. Assumes nothing.
-use Prim.Native.Nat.{ℕ, zero, suc, _+_, _-_, _*_, _^_, _≤_, _<_, max}
+use Prim.Native.Nat.{ℕ, zero, suc, _+_, _-_, _*_, _^_, _≤_, _<_}
 use mathlib.Core.Path.{_≡_, refl, sym, ap, _∙_}
-use mathlib.Core.Bool.{Bool, true, false, _&&_}
+use mathlib.Core.Bool.{true}
 use mathlib.Core.List.{List, [], _∷_, _++_, map, map-append, append-nil, append-assoc}
 use native.Mathlib.Omega.{arith}
 use native.Mathlib.Nat.{le-max-left, le-max-right}
@@ -14,18 +14,17 @@ use Rattle.rights.specs.Nodes.{Node, node, levelOf}
 use Rattle.rights.specs.Record.{pasted, nodeRecord}
 use Rattle.rights.proofs.ListLaws.{all-split}
 use Rattle.rights.proofs.PlaceLaws.{zero-replicate}
-use Rattle.rights.proofs.RecordLaws.{pasted-pasted, pasted-none, length-pasted}
+use Rattle.rights.proofs.RecordLaws.{pasted-pasted, pasted-none}
 use Rattle.rights.proofs.RecordOfLaws.{length-node}
 use Rattle.rights.proofs.TableLaws.{both}
 use Rattle.xml.specs.How.Tokens.{Token, opens, closes, empty, text, Lexed, token, end, bad, lex, Tokens, got, withToken, onLexed, tokensFrom, tokens, tokenNodes, goodTokens, nodesOfTokens, isDocument, documentNodes}
 use Rattle.xml.specs.How.Lexer.{between, Spot, LexedAt}
-use Rattle.xml.specs.How.Scan.{deepest}
-use Rattle.xml.specs.How.Writer.{Loadable, ownNodes, depthAfter, onToken, nodesFrom, allNodes, nodesAt, recordsOf, Counted, Roomy, Put, PutNext, PutAll}
+use Rattle.xml.specs.How.Loading.{deepest, Loadable}
+use Rattle.xml.specs.How.Writer.{ownNodes, depthAfter, onToken, nodesFrom, allNodes, nodesAt, recordsOf, Counted, Roomy, Put, PutNext, PutAll}
 use Rattle.xml.specs.declared.lexer.Lexeme.{Lexeme}
 use Rattle.xml.specs.declared.lexer.Lexeme.the-variants.{Opens, Closes, Empty, Label, End, Bad}
 use Rattle.xml.specs.declared.writer.Cursor.{Cursor}
-use Rattle.xml.specs.declared.writer.Next.{Next}
-use Rattle.xml.specs.declared.writer.Next.the-variants.{On, Over}
+use Rattle.xml.specs.declared.writer.Next.the-variants.{Over}
 
 -- One token
 

@@ -14,7 +14,8 @@ ghost use Rattle.rights.specs.Nodes.{node};
 ghost use Rattle.rights.specs.PathReader.{runAt};
 ghost use Rattle.xml.specs.How.Tokens.{Token, sameBytes, matchedIn, tokens};
 ghost use Rattle.xml.specs.How.Lexer.{between, Spot};
-ghost use Rattle.xml.specs.How.Scan.{nameAt, tallied, placed, closesIt, leafStep, toldAt, kindWithin, documentKind, window, Ready, Steps, FirstWindow};
+ghost use Rattle.xml.specs.How.Loading.{documentKind};
+ghost use Rattle.xml.specs.How.Scan.{nameAt, tallied, placed, closesIt, leafStep, toldAt, kindWithin, window, Ready, Steps, FirstWindow};
 
 // A pass compares the closing tags of so many levels.
 const WINDOW: usize = 16384;

@@ -4,7 +4,7 @@ use rights::path::Read;
 use rights::path::byte_is;
 ghost use mathlib.Core.Path.{_≡_};
 ghost use Prim.Native.Nat.{_+_, _≤_, _<_};
-ghost use lib.ListN.{length, drop};
+ghost use lib.ListN.{length};
 ghost use Rattle.rights.specs.How.Reading.{Ends};
 ghost use Rattle.xml.specs.Document.{blankByte, nameStart};
 ghost use Rattle.xml.specs.How.Tokens.{opening, closing, texting};

@@ -12,8 +12,8 @@ ghost use Rattle.rights.specs.Held.{le4, tableBytes, nodeBytes};
 ghost use Rattle.rights.specs.Record.{pasted, nodeRecord};
 ghost use Rattle.xml.specs.How.Lexer.{between};
 ghost use Rattle.xml.specs.How.Tokens.{documentNodes};
-ghost use Rattle.xml.specs.How.Scan.{deepest};
-ghost use Rattle.xml.specs.How.Writer.{allNodes, Loadable, Roomy, PutNext, PutAll};
+ghost use Rattle.xml.specs.How.Loading.{deepest, Loadable};
+ghost use Rattle.xml.specs.How.Writer.{allNodes, Roomy, PutNext, PutAll};
 
 // How far the pass has come: the place, how many elements are open there, and how many records stand.
 pub(crate) struct Cursor {

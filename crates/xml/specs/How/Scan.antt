@@ -5,33 +5,17 @@ use mathlib.Core.Bool.{Bool, true, false, cond, _&&_, _||_}
 use mathlib.Core.List.{List, [], _∷_, map}
 use lib.Dec.{eqb, leb, ltb}
 use lib.ListN.{length, getD, set, take, drop}
-use Rattle.rights.specs.Labels.{labelByte, sameLabel, restricted}
-use Rattle.rights.specs.Nodes.{Node, node, levelOf, labelOf}
+use Rattle.rights.specs.Labels.{labelByte}
+use Rattle.rights.specs.Nodes.{Node, node, levelOf}
 use Rattle.rights.specs.PathReader.{runAt}
-use Rattle.rights.specs.Policy.{some}
-use Rattle.xml.specs.How.Tokens.{Token, opens, closes, empty, text, Tokens, got, bad, tokensFrom, tokens, nested, sameBytes, tokenNodes, isDocument, documentNodes}
+use Rattle.xml.specs.How.Tokens.{Token, opens, closes, empty, text, Tokens, got, bad, tokensFrom, tokens, nested, sameBytes, tokenNodes}
+use Rattle.xml.specs.How.Loading.{deepest, isRestricted}
 use Rattle.xml.specs.declared.document.Kind.{Kind}
 use Rattle.xml.specs.declared.document.Kind.the-variants.{NoDocument, Document}
 use Rattle.xml.specs.declared.document.Tally.{Tally}
 use Rattle.xml.specs.declared.document.Pass.{Pass}
 use Rattle.xml.specs.declared.document.Step.{Step}
 use Rattle.xml.specs.declared.document.Step.the-variants.{On, Done}
-
--- the level of the deepest node
-unfoldable pub deepest : List Node → ℕ
-deepest [] = 0
-deepest (x ∷ xs) = max (levelOf x) (deepest xs)
-
--- a node carries RESTRICTED
-abbrev pub isRestricted : Node → Bool
-isRestricted x = sameLabel (labelOf x) restricted
-
--- the answer on a document: what its nodes are like
-abbrev pub tallyOf : List Node → Tally
-tallyOf xs = record { nodes = length xs; deepest = deepest xs; restricted = some isRestricted xs }
-
-unfoldable pub documentKind : List ℕ → Kind
-documentKind s = cond (isDocument s) (Document (tallyOf (documentNodes s))) NoDocument
 
 -- The nodes are told one by one.
 abbrev pub tallied : Tally → Node → Tally

@@ -1,27 +1,15 @@
 -- One pass over the tokens of a document that puts a record for each node.
 use Prim.Native.Nat.{ℕ, zero, suc, _+_, _-_, _*_, _≤_, _<_}
 use mathlib.Core.Path.{_≡_}
-use mathlib.Core.Bool.{true}
 use mathlib.Core.List.{List, [], _∷_, _++_, map}
 use lib.ListN.{length, drop}
-use Rattle.rights.specs.Bytes.{all, isZero}
 use Rattle.rights.specs.Held.{join, nodeBytes}
-use Rattle.rights.specs.Limits.{recordsMax}
 use Rattle.rights.specs.Nodes.{Node, node, levelOf}
 use Rattle.rights.specs.Record.{pasted}
-use Rattle.xml.specs.How.Tokens.{Token, opens, closes, empty, text, Lexed, token, end, bad, lex, isDocument, documentNodes}
-use Rattle.xml.specs.How.Scan.{deepest}
+use Rattle.xml.specs.How.Tokens.{Token, opens, closes, empty, text, Lexed, token, end, bad, lex}
 use Rattle.xml.specs.declared.writer.Cursor.{Cursor}
 use Rattle.xml.specs.declared.writer.Next.{Next}
 use Rattle.xml.specs.declared.writer.Next.the-variants.{On, Over}
-
--- A document that may be loaded into the bytes of a table: its levels run to 11, all its nodes have room, and behind the count every byte is zero.
-pub record Loadable (s table : List ℕ) : Type 0 where
-  pub document : isDocument s ≡ true
-  pub levels : deepest (documentNodes s) ≤ 11
-  pub few : length (documentNodes s) ≤ recordsMax
-  pub room : 4 + length (documentNodes s) * 32 ≤ length table
-  pub clear : all isZero (drop 4 table) ≡ true
 
 -- the node of a token where d elements are open, and how many are open behind it
 abbrev pub ownNodes : ℕ → Token → List Node

@@ -1,10 +1,8 @@
-use mathlib.Core.Path.{_≡_, sym, _∙_}
-use mathlib.Core.Bool.{Bool, cond}
+use mathlib.Core.Path.{_≡_, sym}
+use mathlib.Core.Bool.{cond}
 use borrow.Author.Needs.{needs}
-use Rattle.xml.specs.How.Scan.{documentKind}
-use Rattle.xml.specs.declared.document.Kind.{Kind}
+use Rattle.xml.specs.How.Loading.{documentKind}
 use Rattle.xml.specs.declared.document.Kind.the-variants.{NoDocument, Document}
-use Rattle.xml.specs.declared.document.Tally.{Tally}
 use Rattle.xml.proofs.WindowLaws.{no-document, document-is}
 use Rattle.xml.proofs.document.check_document.Statement.{statement}
 use Rattle.xml.proofs.document.check_document.Tie as tie

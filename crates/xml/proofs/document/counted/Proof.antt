@@ -1,4 +1,3 @@
-use mathlib.Core.Path.{ap, _∙_}
 use borrow.Author.Needs.{needs}
 use Rattle.xml.proofs.document.counted.Statement.{statement}
 use Rattle.xml.proofs.document.counted.Tie as tie

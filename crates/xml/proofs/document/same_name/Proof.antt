@@ -1,9 +1,7 @@
 -- What is left of the two labels from k on is compared.
 use Prim.Native.Nat.{ℕ, _+_, _-_, _≤_}
-use mathlib.Core.Path.{_≡_, _∙_, sym, ap}
-use mathlib.Core.List.{List}
+use mathlib.Core.Path.{_≡_, _∙_, sym}
 use native.Mathlib.Omega.{arith}
-use borrow.Author.Needs.{needs}
 use Rattle.rights.specs.Labels.{labelByte}
 use Rattle.rights.specs.PathReader.{runAt}
 use Rattle.xml.specs.How.Tokens.{sameBytes}

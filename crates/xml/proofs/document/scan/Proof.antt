@@ -3,7 +3,6 @@ use Prim.Native.Nat.{ℕ}
 use native.Mathlib.Omega.{arith}
 use borrow.Author.Needs.{needs}
 use Rattle.xml.specs.How.Scan.{window}
-use Rattle.xml.specs.How.Lexer.{LexedAt}
 use Rattle.xml.specs.declared.lexer.Lexeme.{Lexeme}
 use Rattle.xml.proofs.PassLaws.{pass-end, pass-bad, pass-closes, pass-label, root-spot-opens, root-spot-empty, root-ready, pass-opens, pass-empty}
 use Rattle.xml.proofs.document.scan.Statement.{statement}

@@ -1,7 +1,6 @@
 -- What is told from the place on is what is told in the end.
-use Prim.Native.Nat.{ℕ, _-_}
-use mathlib.Core.Path.{_≡_, sym, _∙_}
-use mathlib.Core.List.{List}
+use Prim.Native.Nat.{_-_}
+use mathlib.Core.Path.{_≡_, _∙_}
 use native.Mathlib.Omega.{arith}
 use borrow.Author.Needs.{needs}
 use lib.ListN.{length}
@@ -9,9 +8,6 @@ use Rattle.xml.specs.How.Scan.{Ready}
 use Rattle.xml.proofs.ScanLaws.{Passing, passing-starts, passing-on, passing-goes-on, passing-ends}
 use Rattle.xml.proofs.document.scan_rest.Statement.{statement}
 use Rattle.xml.proofs.document.scan_rest.Tie as tie
-use Rattle.xml.proofs.document.scan_rest.Reads as reads
-use Rattle.xml.proofs.document.scan_rest.Lts as lts
-use Rattle.xml.proofs.document.scan_step.Reads as scan-step-reads
 
 abbrev Inv-loop : tie.InvT-loop
 Inv-loop xml low places₀ p₀ places p = Ready xml places p × (length places ≡ length places₀) × Passing xml low places₀ p₀ places p

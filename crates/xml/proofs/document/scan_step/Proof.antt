@@ -1,11 +1,9 @@
 use Prim.Native.Nat.{ℕ, _-_}
-use mathlib.Core.Path.{_≡_, sym, ap, _∙_}
+use mathlib.Core.Path.{sym, _∙_}
 use mathlib.Core.List.{List}
 use native.Mathlib.Omega.{arith}
 use borrow.Author.Needs.{needs}
-use Rattle.xml.specs.How.Lexer.{LexedAt, Spot}
 use Rattle.xml.specs.declared.lexer.Lexeme.{Lexeme}
-use Rattle.xml.specs.declared.lexer.Lexeme.the-variants.{Opens, Closes, Empty, Label}
 use Rattle.xml.specs.declared.document.Pass.{Pass}
 use Rattle.xml.proofs.ScanLaws.{steps-end, steps-bad, opens-outside, closes-outside, spot-opens, spot-closes, spot-empty, spot-label, steps-opens, steps-closes, steps-unclosed, steps-empty, steps-label}
 use Rattle.xml.proofs.document.scan_step.Statement.{statement}

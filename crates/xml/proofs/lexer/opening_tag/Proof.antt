@@ -1,10 +1,8 @@
-use Prim.Native.Nat.{ℕ, _+_, _<_}
+use Prim.Native.Nat.{ℕ, _+_}
 use mathlib.Core.Path.{_≡_, sym, _∙_}
-use mathlib.Core.List.{List}
 use native.Mathlib.Omega.{arith}
 use borrow.Author.Needs.{needs}
 use borrow.Author.Tests.{eqb-true}
-use lib.ListN.{length}
 use Rattle.rights.specs.declared.path.Read.the-variants.{At}
 use Rattle.rights.proofs.PathLaws.{inside}
 use Rattle.forms.specs.Part.{labelEnd}

@@ -1,6 +1,6 @@
 -- The records of the nodes so far are put, and the nodes from the place on are the rest.
 use Prim.Native.Nat.{ℕ, _-_}
-use mathlib.Core.Path.{_≡_, sym, ap, _∙_}
+use mathlib.Core.Path.{_≡_, _∙_}
 use mathlib.Core.List.{List}
 use native.Mathlib.Omega.{arith}
 use borrow.Author.Needs.{needs}
@@ -12,9 +12,6 @@ use Rattle.xml.specs.declared.writer.Next.the-variants.{On, Over}
 use Rattle.xml.proofs.WriterLaws.{Written, written-none, written-roomy, written-on, written-all}
 use Rattle.xml.proofs.writer.put_nodes.Statement.{statement}
 use Rattle.xml.proofs.writer.put_nodes.Tie as tie
-use Rattle.xml.proofs.writer.put_nodes.Reads as reads
-use Rattle.xml.proofs.writer.put_nodes.Lts as lts
-use Rattle.xml.proofs.writer.put_token.Reads as put-token-reads
 
 abbrev Inv-loop : tie.InvT-loop
 Inv-loop xml table₀ p₀ table p = Written xml table₀ table p

@@ -1,7 +1,5 @@
 use Prim.Native.Nat.{ℕ}
-use mathlib.Core.Path.{_≡_}
 use mathlib.Core.List.{List}
-use native.Mathlib.Omega.{arith}
 use borrow.Author.Needs.{needs}
 use Rattle.xml.specs.declared.lexer.Lexeme.{Lexeme}
 use Rattle.xml.specs.declared.writer.Cursor.{Cursor}
