@@ -1,19 +1,21 @@
 -- Nested tokens match exactly if they match in each window up to the deepest level; what the tally of the nodes is. Assumes nothing.
-use Prim.Native.Nat.{ℕ, suc, _+_, _-_, _≤_, _<_, max}
+use Prim.Native.Nat.{_*_, ℕ, suc, _+_, _-_, _≤_, _<_, max}
 use mathlib.Core.Path.{_≡_, refl, sym, ap, _∙_}
 use mathlib.Core.List.{List, [], _∷_}
 use mathlib.Core.Bool.{Bool, true, false, cond, _&&_, _||_, and-true, and-false, or-false, or-assoc}
 use native.Mathlib.Omega.{arith}
 use native.Mathlib.Nat.{le-max-left, le-max-right, max-zero, add-zero, zero-add, max-comm}
 use lib.Dec.{ltb}
-use lib.ListN.{length}
+use lib.ListN.{length, drop}
 use borrow.Author.Tests.{ltb-true, ltb-false, le-leb, lt-leb, lt-ltb, le-ltb}
+use Rattle.rights.specs.Bytes.{all, isZero}
+use Rattle.rights.specs.Limits.{recordsMax}
 use Rattle.rights.specs.Nodes.{Node, levelOf}
 use Rattle.rights.specs.Policy.{some}
 use Rattle.rights.proofs.ListLaws.{byCase}
 use Rattle.rights.proofs.TableLaws.{both}
 use Rattle.xml.specs.How.Tokens.{Token, opens, closes, empty, text, Tokens, got, bad, tokens, nested, sameBytes, matchedIn, tokenNodes, goodTokens, nodesOfTokens, isDocument, documentNodes}
-use Rattle.xml.specs.How.Loading.{deepest, isRestricted, tallyOf, documentKind}
+use Rattle.xml.specs.How.Loading.{deepest, isRestricted, tallyOf, documentKind, Loadable}
 use Rattle.xml.specs.How.Scan.{tallied, tallyAll, noNodes, inWindow, matchedWithin, window, kindWithin, FirstWindow}
 use Rattle.xml.specs.declared.document.Kind.{Kind}
 use Rattle.xml.specs.declared.document.Kind.the-variants.{NoDocument, Document}
@@ -179,3 +181,7 @@ told-document s t e =
 pub told-no-document : (s : List ℕ) → NoDocument ≡ documentKind s → isDocument s ≡ false
 unfolding documentKind
 told-no-document s e = byCase (isDocument s) (λ b. absurd (let q = rw b at e in let z : _≡_ {A = ℕ} 0 1 = cc in omega arith)) (λ b. b)
+
+-- and when the document may be loaded
+pub told-loadable : (s table : List ℕ) (t : Tally) → Told s t → t .deepest ≤ 11 → t .nodes ≤ recordsMax → 4 + t .nodes * 32 ≤ length table → all isZero (drop 4 table) ≡ true → Loadable s table
+told-loadable s table t w d n r z = record { document = w .document; levels = rw (w .tally) at d; few = rw (w .tally) at n; room = rw (w .tally) at r; clear = z }
