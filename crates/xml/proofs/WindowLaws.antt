@@ -1,10 +1,10 @@
 -- Nested tokens match exactly if they match in each window up to the deepest level; what the tally of the nodes is. Assumes nothing.
-use Prim.Native.Nat.{_*_, ℕ, suc, _+_, _-_, _≤_, _<_, max}
+use Prim.Native.Nat.{zero, _*_, ℕ, suc, _+_, _-_, _≤_, _<_, max}
 use mathlib.Core.Path.{_≡_, refl, sym, ap, _∙_}
 use mathlib.Core.List.{List, [], _∷_}
 use mathlib.Core.Bool.{Bool, true, false, cond, _&&_, _||_, and-true, and-false, or-false, or-assoc}
 use native.Mathlib.Omega.{arith}
-use native.Mathlib.Nat.{le-max-left, le-max-right, max-zero, add-zero, zero-add, max-comm}
+use native.Mathlib.Nat.{le-max-left, le-max-right, max-zero, zero-mul, suc-mul, add-zero, zero-add, max-comm}
 use lib.Dec.{ltb}
 use lib.ListN.{length, drop}
 use borrow.Author.Tests.{ltb-true, ltb-false, le-leb, lt-leb, lt-ltb, le-ltb}
@@ -79,6 +79,24 @@ matched-whole w (m ∷ ns) (closes n ∷ xs) h d =
     rw (le-leb 0 (length ns) (omega arith), y, lt-ltb (length ns) w (omega arith), matched-whole w ns xs (omega arith) d')
 matched-whole w ns (empty n ∷ xs) h d = matched-whole w ns xs h (omega (arith, le-max-right (length ns) (deepest (tokenNodes (length ns) xs)), d))
 matched-whole w ns (text l ∷ xs) h d = matched-whole w ns xs h (omega (arith, le-max-right (length ns) (deepest (tokenNodes (length ns) xs)), d))
+
+-- The tags match exactly if they do in each of n windows of w levels that have all levels: this way, and `matched-every`.
+
+matched-none-there : (ns : List (List ℕ)) (xs : List Token) → matchedWithin 0 0 ns xs ≡ true
+unfolding matchedWithin
+matched-none-there ns [] = refl
+matched-none-there ns (opens n ∷ xs) = matched-none-there (n ∷ ns) xs
+matched-none-there [] (closes n ∷ xs) = refl
+matched-none-there (m ∷ ns) (closes n ∷ xs) = rw (le-leb 0 (length ns) (omega arith), le-ltb (length ns - 0) 0 (omega arith), matched-none-there ns xs)
+matched-none-there ns (empty n ∷ xs) = matched-none-there ns xs
+matched-none-there ns (text l ∷ xs) = matched-none-there ns xs
+
+pub matched-windows : (w n : ℕ) (xs : List Token) → deepest (tokenNodes 0 xs) < n * w → ((k : ℕ) → k < n → matchedWithin (k * w) w [] xs ≡ true) → matchedIn [] xs ≡ true
+matched-windows w n xs d h = sym (matched-whole (n * w) [] xs (omega arith) d) ∙ first n h
+  where
+    first : (n : ℕ) → ((k : ℕ) → k < n → matchedWithin (k * w) w [] xs ≡ true) → matchedWithin 0 (n * w) [] xs ≡ true
+    first zero h = rw (zero-mul w) (matched-none-there [] xs)
+    first (suc n) h = rw (suc-mul n w) (matched-split (n * w) w [] xs ∙ rw (first n (λ k l. h k (omega arith)), h n (omega arith)))
 
 -- The tally
 
