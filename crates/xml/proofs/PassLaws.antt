@@ -25,19 +25,23 @@ below zero a t k h = omega arith
 below (suc w) a t zero h = h
 below (suc w) a t (suc k) h = below w a t k h
 
-module _ (s : List ℕ) (low w : ℕ) (seen : Lexeme) (l : LexedAt s 0 seen) where
+pub record First (s : List ℕ) : Type 0 where
+  pub seen : Lexeme
+  pub lexed : LexedAt s 0 seen
+
+module _ {s : List ℕ} (low w : ℕ) (here : First s) where
   -- the tokens, by the first
   first : (x : Token) (t : ℕ) → lex s ≡ token x (t - 0) → tokens s ≡ withToken x (tokensFrom (length s) (drop t s))
   unfolding tokensFrom
   first x t e = let z : t - 0 ≡ t = omega arith in rw (e, z)
 
-  pub pass-end : seen ≡ End → NoDocument ≡ kindWithin low w (tokens s)
+  pub pass-end : here .seen ≡ End → NoDocument ≡ kindWithin low w (tokens s)
   unfolding tokensFrom
-  pass-end q = let l' = rw q at l in rw (l' .is) (sym (kind-none low w))
+  pass-end q = let l' = rw q at (here .lexed) in rw (l' .is) (sym (kind-none low w))
 
-  pub pass-bad : seen ≡ Bad → NoDocument ≡ kindWithin low w (tokens s)
+  pub pass-bad : here .seen ≡ Bad → NoDocument ≡ kindWithin low w (tokens s)
   unfolding tokensFrom
-  pass-bad q = let l' = rw q at l in rw (l' .is)
+  pass-bad q = let l' = rw q at (here .lexed) in rw (l' .is)
 
   module _ (a e t : ℕ) where
     abbrev name : List ℕ
@@ -46,17 +50,17 @@ module _ (s : List ℕ) (low w : ℕ) (seen : Lexeme) (l : LexedAt s 0 seen) whe
     abbrev rest : Tokens
     rest = tokensFrom (length s) (drop t s)
 
-    pub pass-closes : seen ≡ Closes a e t → NoDocument ≡ kindWithin low w (tokens s)
-    pass-closes q = let l' = rw q at l in rw (first (closes name) t (l' .is)) (sym (kind-closes low w name rest))
+    pub pass-closes : here .seen ≡ Closes a e t → NoDocument ≡ kindWithin low w (tokens s)
+    pass-closes q = let l' = rw q at (here .lexed) in rw (first (closes name) t (l' .is)) (sym (kind-closes low w name rest))
 
-    pub pass-label : seen ≡ Label a e t → NoDocument ≡ kindWithin low w (tokens s)
-    pass-label q = let l' = rw q at l in rw (first (text name) t (l' .is)) (sym (kind-text low w name rest))
+    pub pass-label : here .seen ≡ Label a e t → NoDocument ≡ kindWithin low w (tokens s)
+    pass-label q = let l' = rw q at (here .lexed) in rw (first (text name) t (l' .is)) (sym (kind-text low w name rest))
 
-    pub root-spot-opens : seen ≡ Opens a e t → Spot s 0 a e t
-    root-spot-opens q = let l' = rw q at l in l' .on
+    pub root-spot-opens : here .seen ≡ Opens a e t → Spot s 0 a e t
+    root-spot-opens q = let l' = rw q at (here .lexed) in l' .on
 
-    pub root-spot-empty : seen ≡ Empty a e t → Spot s 0 a e t
-    root-spot-empty q = let l' = rw q at l in l' .on
+    pub root-spot-empty : here .seen ≡ Empty a e t → Spot s 0 a e t
+    root-spot-empty q = let l' = rw q at (here .lexed) in l' .on
 
     module _ (tally : Tally) (c : tally ≡ tallied noNodes (node 0 name)) where
       pub root-ready : Spot s 0 a e t → (d : ℕ) → d ≤ 1 → Ready s (replicate w a) (record { at = t; depth = d; tally = tally })
@@ -65,17 +69,17 @@ module _ (s : List ℕ) (low w : ℕ) (seen : Lexeme) (l : LexedAt s 0 seen) whe
       names : Spot s 0 a e t → map (nameAt s) (replicate w a) ≡ replicate w name
       names p = map-replicate (nameAt s) w a ∙ ap (replicate w) (sym (named s a e (p .run)))
 
-      pub pass-opens : seen ≡ Opens a e t → (r : Kind) → ((f : ℕ) → length s - t < f → r ≡ toldAt s low (replicate w a) f (record { at = t; depth = 1; tally = tally })) → r ≡ kindWithin low w (tokens s)
+      pub pass-opens : here .seen ≡ Opens a e t → (r : Kind) → ((f : ℕ) → length s - t < f → r ≡ toldAt s low (replicate w a) f (record { at = t; depth = 1; tally = tally })) → r ≡ kindWithin low w (tokens s)
       pass-opens q r h =
-          let l' = rw q at l in
+          let l' = rw q at (here .lexed) in
           let p = l' .on in
           let k = kind-opens low (replicate w name) name rest (root-open low w name) in
           h (length s) (omega arith)
           ∙ rw (names p, c, first (opens name) t (l' .is)) (sym (rw (length-replicate {A = List ℕ} w name) at k))
 
-      pub pass-empty : seen ≡ Empty a e t → (r : Kind) → ((f : ℕ) → length s - t < f → r ≡ toldAt s low (replicate w a) f (record { at = t; depth = 0; tally = tally })) → r ≡ kindWithin low w (tokens s)
+      pub pass-empty : here .seen ≡ Empty a e t → (r : Kind) → ((f : ℕ) → length s - t < f → r ≡ toldAt s low (replicate w a) f (record { at = t; depth = 0; tally = tally })) → r ≡ kindWithin low w (tokens s)
       pass-empty q r h =
-          let l' = rw q at l in
+          let l' = rw q at (here .lexed) in
           let p = l' .on in
           let k = kind-empty low (replicate w name) name rest in
           h (length s) (omega arith)

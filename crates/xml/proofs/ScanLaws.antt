@@ -103,7 +103,12 @@ module _ (low : ℕ) (names : List (List ℕ)) (t : Tally) (n : List ℕ) where
 
 -- The step of the code at a place
 
-module _ (s : List ℕ) (low : ℕ) (places : List ℕ) (p : Pass) (g : Ready s places p) (seen : Lexeme) (l : LexedAt s (p .at) seen) where
+pub record Seen (s places : List ℕ) (p : Pass) : Type 0 where
+  pub ready : Ready s places p
+  pub seen : Lexeme
+  pub lexed : LexedAt s (p .at) seen
+
+module _ {s places : List ℕ} {p : Pass} (low : ℕ) (here : Seen s places p) where
   -- the tokens from the place on, by the first
   tokens-from : (x : Token) (n f : ℕ) → lex (drop (p .at) s) ≡ token x n → tokensFrom (suc f) (drop (p .at) s) ≡ withToken x (tokensFrom f (drop (p .at + n) s))
   unfolding tokensFrom
@@ -112,13 +117,13 @@ module _ (s : List ℕ) (low : ℕ) (places : List ℕ) (p : Pass) (g : Ready s 
   next-from : (x : Token) (t f : ℕ) → p .at ≤ t → lex (drop (p .at) s) ≡ token x (t - p .at) → tokensFrom (suc f) (drop (p .at) s) ≡ withToken x (tokensFrom f (drop t s))
   next-from x t f h e = let z : p .at + (t - p .at) ≡ t = omega arith in tokens-from x (t - p .at) f e ∙ rw z
 
-  pub steps-end : seen ≡ End → (k : Kind) → k ≡ cond (eqb (p .depth) 0) (Document (p .tally)) NoDocument → Steps s low places places p (Done k)
+  pub steps-end : here .seen ≡ End → (k : Kind) → k ≡ cond (eqb (p .depth) 0) (Document (p .tally)) NoDocument → Steps s low places places p (Done k)
   unfolding tokensFrom told
-  steps-end q k e = let l' = rw q at l in record { is = λ f. rw (l' .is) (sym e); on = tt }
+  steps-end q k e = let l' = rw q at (here .lexed) in record { is = λ f. rw (l' .is) (sym e); on = tt }
 
-  pub steps-bad : seen ≡ Bad → Steps s low places places p (Done NoDocument)
+  pub steps-bad : here .seen ≡ Bad → Steps s low places places p (Done NoDocument)
   unfolding tokensFrom
-  steps-bad q = let l' = rw q at l in record { is = λ f. rw (l' .is); on = tt }
+  steps-bad q = let l' = rw q at (here .lexed) in record { is = λ f. rw (l' .is); on = tt }
 
   outside : (x : Token) (n : ℕ) → lex (drop (p .at) s) ≡ token x n → p .depth ≡ 0 → Steps s low places places p (Done NoDocument)
   outside x n e z = record { is = λ f. rw (tokens-from x n f e, z) (told-outside low (map (nameAt s) places) (p .tally) [] x (tokensFrom f (drop (p .at + n) s))); on = tt }
@@ -127,39 +132,39 @@ module _ (s : List ℕ) (low : ℕ) (places : List ℕ) (p : Pass) (g : Ready s 
     abbrev name : List ℕ
     name = between s a e
 
-    pub spot-opens : seen ≡ Opens a e t → Spot s (p .at) a e t
-    spot-opens q = let l' = rw q at l in l' .on
+    pub spot-opens : here .seen ≡ Opens a e t → Spot s (p .at) a e t
+    spot-opens q = let l' = rw q at (here .lexed) in l' .on
 
-    pub spot-closes : seen ≡ Closes a e t → Spot s (p .at) a e t
-    spot-closes q = let l' = rw q at l in l' .on
+    pub spot-closes : here .seen ≡ Closes a e t → Spot s (p .at) a e t
+    spot-closes q = let l' = rw q at (here .lexed) in l' .on
 
-    pub spot-empty : seen ≡ Empty a e t → Spot s (p .at) a e t
-    spot-empty q = let l' = rw q at l in l' .on
+    pub spot-empty : here .seen ≡ Empty a e t → Spot s (p .at) a e t
+    spot-empty q = let l' = rw q at (here .lexed) in l' .on
 
-    pub spot-label : seen ≡ Label a e t → Spot s (p .at) a e t
-    spot-label q = let l' = rw q at l in l' .on
+    pub spot-label : here .seen ≡ Label a e t → Spot s (p .at) a e t
+    spot-label q = let l' = rw q at (here .lexed) in l' .on
 
-    pub opens-outside : seen ≡ Opens a e t → p .depth ≡ 0 → Steps s low places places p (Done NoDocument)
-    opens-outside q = let l' = rw q at l in outside (opens name) (t - p .at) (l' .is)
+    pub opens-outside : here .seen ≡ Opens a e t → p .depth ≡ 0 → Steps s low places places p (Done NoDocument)
+    opens-outside q = let l' = rw q at (here .lexed) in outside (opens name) (t - p .at) (l' .is)
 
-    pub closes-outside : seen ≡ Closes a e t → p .depth ≡ 0 → Steps s low places places p (Done NoDocument)
-    closes-outside q = let l' = rw q at l in outside (closes name) (t - p .at) (l' .is)
+    pub closes-outside : here .seen ≡ Closes a e t → p .depth ≡ 0 → Steps s low places places p (Done NoDocument)
+    closes-outside q = let l' = rw q at (here .lexed) in outside (closes name) (t - p .at) (l' .is)
 
     -- what is counted lies before the next place
     ready : (after : List ℕ) (d : ℕ) (tally : Tally) → Spot s (p .at) a e t → ((k : ℕ) → getD after k 0 < t) → d ≤ p .depth + 1 → tally .nodes ≤ p .tally .nodes + 1
         → Onwards s after p (On (record { at = t; depth = d; tally = tally }))
     ready after d tally w b h n =
-        let r = g .depth in
-        let m = g .nodes in
+        let r = here .ready .depth in
+        let m = here .ready .nodes in
         (omega arith, record { within = w .within; depth = omega arith; nodes = omega arith; before = b })
 
     behind : Spot s (p .at) a e t → (k : ℕ) → getD places k 0 < t
-    behind w k = omega (arith, g .before k)
+    behind w k = omega (arith, here .ready .before k)
 
-    pub steps-opens : seen ≡ Opens a e t → (p .depth ≡ 0 → ⊥) → (after : List ℕ) → after ≡ placed low places (p .depth) a → (tally : Tally) → tally ≡ tallied (p .tally) (node (p .depth) name)
+    pub steps-opens : here .seen ≡ Opens a e t → (p .depth ≡ 0 → ⊥) → (after : List ℕ) → after ≡ placed low places (p .depth) a → (tally : Tally) → tally ≡ tallied (p .tally) (node (p .depth) name)
         → Steps s low places after p (On (record { at = t; depth = p .depth + 1; tally = tally }))
     steps-opens q h after o tally c =
-        let l' = rw q at l in
+        let l' = rw q at (here .lexed) in
         let w = l' .on in
         record {
           is = λ f.
@@ -168,19 +173,19 @@ module _ (s : List ℕ) (low : ℕ) (places : List ℕ) (p : Pass) (g : Ready s 
           on = ready after (p .depth + 1) tally w (rw o (placed-below low places (p .depth) a t (behind w) (omega arith))) (omega arith) (rw c (omega arith));
         }
 
-    pub steps-closes : seen ≡ Closes a e t → (p .depth ≡ 0 → ⊥) → closesIt low (map (nameAt s) places) (p .depth - 1) name ≡ true
+    pub steps-closes : here .seen ≡ Closes a e t → (p .depth ≡ 0 → ⊥) → closesIt low (map (nameAt s) places) (p .depth - 1) name ≡ true
         → Steps s low places places p (On (record { at = t; depth = p .depth - 1; tally = p .tally }))
     steps-closes q h c =
-        let l' = rw q at l in
+        let l' = rw q at (here .lexed) in
         let w = l' .on in
         record {
           is = λ f. rw (next-from (closes name) t f (omega arith) (l' .is)) (told-closes low (map (nameAt s) places) (p .tally) name (tokensFrom f (drop t s)) (p .depth) h c);
           on = ready places (p .depth - 1) (p .tally) w (behind w) (omega arith) (omega arith);
         }
 
-    pub steps-unclosed : seen ≡ Closes a e t → (p .depth ≡ 0 → ⊥) → closesIt low (map (nameAt s) places) (p .depth - 1) name ≡ false → Steps s low places places p (Done NoDocument)
+    pub steps-unclosed : here .seen ≡ Closes a e t → (p .depth ≡ 0 → ⊥) → closesIt low (map (nameAt s) places) (p .depth - 1) name ≡ false → Steps s low places places p (Done NoDocument)
     steps-unclosed q h c =
-        let l' = rw q at l in
+        let l' = rw q at (here .lexed) in
         let w = l' .on in
         record { is = λ f. rw (next-from (closes name) t f (omega arith) (l' .is)) (told-unclosed low (map (nameAt s) places) (p .tally) name (tokensFrom f (drop t s)) (p .depth) h c); on = tt }
 
@@ -196,11 +201,11 @@ module _ (s : List ℕ) (low : ℕ) (places : List ℕ) (p : Pass) (g : Ready s 
           on = ready places (p .depth) (tallied (p .tally) (node (p .depth) name)) w (behind w) (omega arith) (omega arith);
         }))
 
-    pub steps-empty : seen ≡ Empty a e t → (r : Step) → r ≡ leafStep (p .depth) (tallied (p .tally) (node (p .depth) name)) t → Steps s low places places p r
-    steps-empty q = let l' = rw q at l in leaf-on (l' .on) (empty name) (l' .is) (told-empty low (map (nameAt s) places) (p .tally) name)
+    pub steps-empty : here .seen ≡ Empty a e t → (r : Step) → r ≡ leafStep (p .depth) (tallied (p .tally) (node (p .depth) name)) t → Steps s low places places p r
+    steps-empty q = let l' = rw q at (here .lexed) in leaf-on (l' .on) (empty name) (l' .is) (told-empty low (map (nameAt s) places) (p .tally) name)
 
-    pub steps-label : seen ≡ Label a e t → (r : Step) → r ≡ leafStep (p .depth) (tallied (p .tally) (node (p .depth) name)) t → Steps s low places places p r
-    steps-label q = let l' = rw q at l in leaf-on (l' .on) (text name) (l' .is) (told-text low (map (nameAt s) places) (p .tally) name)
+    pub steps-label : here .seen ≡ Label a e t → (r : Step) → r ≡ leafStep (p .depth) (tallied (p .tally) (node (p .depth) name)) t → Steps s low places places p r
+    steps-label q = let l' = rw q at (here .lexed) in leaf-on (l' .on) (text name) (l' .is) (told-text low (map (nameAt s) places) (p .tally) name)
 
 -- A pass: what is told from the place on is what is told in the end
 

@@ -1,5 +1,5 @@
 -- Nested tokens match exactly if they match in each window up to the deepest level; what the tally of the nodes is. Assumes nothing.
-use Prim.Native.Nat.{zero, _*_, ℕ, suc, _+_, _-_, _≤_, _<_, max}
+use Prim.Native.Nat.{ℕ, zero, suc, _+_, _-_, _*_, _≤_, _<_, max}
 use mathlib.Core.Path.{_≡_, refl, sym, ap, _∙_}
 use mathlib.Core.List.{List, [], _∷_}
 use mathlib.Core.Bool.{Bool, true, false, cond, _&&_, _||_, and-true, and-false, or-false, or-assoc}

@@ -28,7 +28,12 @@ use Rattle.xml.specs.declared.writer.Next.the-variants.{Over}
 
 -- One token
 
-module _ (s table : List ℕ) (p : Cursor) (g : Roomy s table p) (seen : Lexeme) (l : LexedAt s (p .at) seen) where
+pub record Seen (s table : List ℕ) (p : Cursor) : Type 0 where
+  pub roomy : Roomy s table p
+  pub seen : Lexeme
+  pub lexed : LexedAt s (p .at) seen
+
+module _ {s table : List ℕ} {p : Cursor} (here : Seen s table p) where
   read-token : (x : Token) (t f : ℕ) → p .at ≤ t → lex (drop (p .at) s) ≡ token x (t - p .at)
       → nodesAt s (suc f) p ≡ ownNodes (p .depth) x ++ nodesFrom f (depthAfter (p .depth) x) (drop t s)
   unfolding nodesFrom
@@ -39,11 +44,11 @@ module _ (s table : List ℕ) (p : Cursor) (g : Roomy s table p) (seen : Lexeme)
   none-left x e o zero = refl
   none-left x e o (suc f) = rw e (o (λ y n. ownNodes (p .depth) y ++ nodesFrom f (depthAfter (p .depth) y) (drop n (drop (p .at) s))))
 
-  pub put-end : seen ≡ End → PutNext s table table p Over
-  put-end q = let l' = rw q at l in (refl, none-left end (l' .is) (λ h. refl))
+  pub put-end : here .seen ≡ End → PutNext s table table p Over
+  put-end q = let l' = rw q at (here .lexed) in (refl, none-left end (l' .is) (λ h. refl))
 
-  pub put-bad : seen ≡ Bad → PutNext s table table p Over
-  put-bad q = let l' = rw q at l in (refl, none-left bad (l' .is) (λ h. refl))
+  pub put-bad : here .seen ≡ Bad → PutNext s table table p Over
+  put-bad q = let l' = rw q at (here .lexed) in (refl, none-left bad (l' .is) (λ h. refl))
 
   module _ (a e t : ℕ) where
     abbrev name : List ℕ
@@ -61,17 +66,17 @@ module _ (s table : List ℕ) (p : Cursor) (g : Roomy s table p) (seen : Lexeme)
 
     room-for : (x : Token) → lex (drop (p .at) s) ≡ token x (t - p .at) → ownNodes (p .depth) x ≡ own → Spot s (p .at) a e t → Room
     room-for x i o w =
-        let r = g .room (node (p .depth) name) (nodesFrom (g .fuel) (depthAfter (p .depth) x) (drop t s)) (read-token x t (g .fuel) (omega arith) i ∙ rw o) in
+        let r = here .roomy .room (node (p .depth) name) (nodesFrom (here .roomy .fuel) (depthAfter (p .depth) x) (drop t s)) (read-token x t (here .roomy .fuel) (omega arith) i ∙ rw o) in
         record { room = r .0; level = r .1; some = omega arith; most = omega arith; within = omega arith }
 
-    pub room-opens : seen ≡ Opens a e t → Room
-    room-opens q = let l' = rw q at l in room-for (opens name) (l' .is) refl (l' .on)
+    pub room-opens : here .seen ≡ Opens a e t → Room
+    room-opens q = let l' = rw q at (here .lexed) in room-for (opens name) (l' .is) refl (l' .on)
 
-    pub room-empty : seen ≡ Empty a e t → Room
-    room-empty q = let l' = rw q at l in room-for (empty name) (l' .is) refl (l' .on)
+    pub room-empty : here .seen ≡ Empty a e t → Room
+    room-empty q = let l' = rw q at (here .lexed) in room-for (empty name) (l' .is) refl (l' .on)
 
-    pub room-label : seen ≡ Label a e t → Room
-    room-label q = let l' = rw q at l in room-for (text name) (l' .is) refl (l' .on)
+    pub room-label : here .seen ≡ Label a e t → Room
+    room-label q = let l' = rw q at (here .lexed) in room-for (text name) (l' .is) refl (l' .on)
 
     put-own : (x : Token) → lex (drop (p .at) s) ≡ token x (t - p .at) → ownNodes (p .depth) x ≡ own → Spot s (p .at) a e t → (d : ℕ) → d ≡ depthAfter (p .depth) x → d ≤ p .depth + 1
         → (after : List ℕ) → after ≡ pasted table (4 + p .nodes * 32) (nodeRecord (p .depth) name) → Put s table after p (record { at = t; depth = d; nodes = p .nodes + 1 })
@@ -79,7 +84,7 @@ module _ (s table : List ℕ) (p : Cursor) (g : Roomy s table p) (seen : Lexeme)
     put-own x i o w d z h after b =
         let short : length name ≤ 24 = omega (arith, length-take (e - a) (drop a s)) in
         let one : recordsOf own ≡ nodeRecord (p .depth) name = append-nil (nodeRecord (p .depth) name) in
-        let c = g .counted in
+        let c = here .roomy .counted in
         record {
           own = own;
           read = λ f. read-token x t f (omega arith) i ∙ rw (o, z);
@@ -90,24 +95,24 @@ module _ (s table : List ℕ) (p : Cursor) (g : Roomy s table p) (seen : Lexeme)
           counted = record { within = w .within; depth = omega arith; nodes = omega arith };
         }
 
-    pub put-opens : seen ≡ Opens a e t → (after : List ℕ) → after ≡ pasted table (4 + p .nodes * 32) (nodeRecord (p .depth) name)
+    pub put-opens : here .seen ≡ Opens a e t → (after : List ℕ) → after ≡ pasted table (4 + p .nodes * 32) (nodeRecord (p .depth) name)
         → Put s table after p (record { at = t; depth = p .depth + 1; nodes = p .nodes + 1 })
-    put-opens q = let l' = rw q at l in put-own (opens name) (l' .is) refl (l' .on) (p .depth + 1) refl (omega arith)
+    put-opens q = let l' = rw q at (here .lexed) in put-own (opens name) (l' .is) refl (l' .on) (p .depth + 1) refl (omega arith)
 
-    pub put-empty : seen ≡ Empty a e t → (after : List ℕ) → after ≡ pasted table (4 + p .nodes * 32) (nodeRecord (p .depth) name)
+    pub put-empty : here .seen ≡ Empty a e t → (after : List ℕ) → after ≡ pasted table (4 + p .nodes * 32) (nodeRecord (p .depth) name)
         → Put s table after p (record { at = t; depth = p .depth; nodes = p .nodes + 1 })
-    put-empty q = let l' = rw q at l in put-own (empty name) (l' .is) refl (l' .on) (p .depth) refl (omega arith)
+    put-empty q = let l' = rw q at (here .lexed) in put-own (empty name) (l' .is) refl (l' .on) (p .depth) refl (omega arith)
 
-    pub put-label : seen ≡ Label a e t → (after : List ℕ) → after ≡ pasted table (4 + p .nodes * 32) (nodeRecord (p .depth) name)
+    pub put-label : here .seen ≡ Label a e t → (after : List ℕ) → after ≡ pasted table (4 + p .nodes * 32) (nodeRecord (p .depth) name)
         → Put s table after p (record { at = t; depth = p .depth; nodes = p .nodes + 1 })
-    put-label q = let l' = rw q at l in put-own (text name) (l' .is) refl (l' .on) (p .depth) refl (omega arith)
+    put-label q = let l' = rw q at (here .lexed) in put-own (text name) (l' .is) refl (l' .on) (p .depth) refl (omega arith)
 
-    pub put-closes : seen ≡ Closes a e t → (d : ℕ) → d ≡ p .depth - 1 → Put s table table p (record { at = t; depth = d; nodes = p .nodes })
+    pub put-closes : here .seen ≡ Closes a e t → (d : ℕ) → d ≡ p .depth - 1 → Put s table table p (record { at = t; depth = d; nodes = p .nodes })
     unfolding join
     put-closes q d z =
-        let l' = rw q at l in
+        let l' = rw q at (here .lexed) in
         let w = l' .on in
-        let c = g .counted in
+        let c = here .roomy .counted in
         record {
           own = [];
           read = λ f. rw z (read-token (closes name) t f (omega arith) (l' .is));

@@ -1,9 +1,5 @@
-use Prim.Native.Nat.{ℕ}
-use mathlib.Core.List.{List}
 use borrow.Author.Needs.{needs}
-use Rattle.xml.specs.declared.lexer.Lexeme.{Lexeme}
-use Rattle.xml.specs.declared.writer.Cursor.{Cursor}
-use Rattle.xml.proofs.WriterLaws.{put-end, put-bad, room-opens, room-empty, room-label, put-opens, put-empty, put-label, put-closes}
+use Rattle.xml.proofs.WriterLaws.{Seen, put-end, put-bad, room-opens, room-empty, room-label, put-opens, put-empty, put-label, put-closes}
 use Rattle.xml.proofs.writer.put_token.Statement.{statement}
 use Rattle.xml.proofs.writer.put_token.Tie as tie
 
@@ -11,65 +7,56 @@ use Rattle.xml.proofs.writer.put_token.Tie as tie
 abbrev to-start : tie.After-next-token → tie.Start
 to-start c = c .before .before .before
 
-abbrev xml-of : tie.After-next-token → List ℕ
-xml-of c = to-start c .args .xml .now
-
-abbrev table-of : tie.After-next-token → List ℕ
-table-of c = to-start c .args .table .now
-
-abbrev cursor-of : tie.After-next-token → Cursor
-cursor-of c = to-start c .args .p
-
-abbrev seen-of : tie.After-next-token → Lexeme
-seen-of c = c .next-token .result
+abbrev seen-at : (c : tie.After-next-token) → Seen (to-start c .args .xml .now) (to-start c .args .table .now) (to-start c .args .p)
+seen-at c = record { roomy = to-start c .pre; seen = c .next-token .result; lexed = c .next-token .ensures }
 
 put-record-requires : tie.Need-put-record-requires
 put-record-requires c κs =
     let at-seen = c .before .before in let at = at-seen .before .before in
-    let r = room-opens (xml-of at) (table-of at) (cursor-of at) (to-start at .pre) (seen-of at) (at .next-token .ensures) _ _ _ (at-seen .seen .given .1) in
+    let r = room-opens (seen-at at) _ _ _ (at-seen .seen .given .1) in
     (r .room, r .level, r .some, r .most, r .within)
 
 returns : tie.Need-returns
 returns c =
     let at-put = c .before .before in let at-seen = at-put .before .before .before in let at = at-seen .before .before in
-    put-opens (xml-of at) (table-of at) (cursor-of at) (to-start at .pre) (seen-of at) (at .next-token .ensures) _ _ _ (at-seen .seen .given .1) _ (at-put .put-record .ensures)
+    put-opens (seen-at at) _ _ _ (at-seen .seen .given .1) _ (at-put .put-record .ensures)
 
 returns-2 : tie.Need-returns-2
 returns-2 c =
     let at-seen = c .before .before in let at = at-seen .before .before in
-    put-closes (xml-of at) (table-of at) (cursor-of at) (to-start at .pre) (seen-of at) (at .next-token .ensures) _ _ _ (at-seen .seen2 .given .1) _ (c .outer .ensures)
+    put-closes (seen-at at) _ _ _ (at-seen .seen2 .given .1) _ (c .outer .ensures)
 
 put-record-requires-2 : tie.Need-put-record-requires-2
 put-record-requires-2 c κs =
     let at-seen = c .before .before in let at = at-seen .before .before in
-    let r = room-empty (xml-of at) (table-of at) (cursor-of at) (to-start at .pre) (seen-of at) (at .next-token .ensures) _ _ _ (at-seen .seen3 .given .1) in
+    let r = room-empty (seen-at at) _ _ _ (at-seen .seen3 .given .1) in
     (r .room, r .level, r .some, r .most, r .within)
 
 returns-3 : tie.Need-returns-3
 returns-3 c =
     let at-put = c .before .before in let at-seen = at-put .before .before .before in let at = at-seen .before .before in
-    put-empty (xml-of at) (table-of at) (cursor-of at) (to-start at .pre) (seen-of at) (at .next-token .ensures) _ _ _ (at-seen .seen3 .given .1) _ (at-put .put-record2 .ensures)
+    put-empty (seen-at at) _ _ _ (at-seen .seen3 .given .1) _ (at-put .put-record2 .ensures)
 
 put-record-requires-3 : tie.Need-put-record-requires-3
 put-record-requires-3 c κs =
     let at-seen = c .before .before in let at = at-seen .before .before in
-    let r = room-label (xml-of at) (table-of at) (cursor-of at) (to-start at .pre) (seen-of at) (at .next-token .ensures) _ _ _ (at-seen .seen4 .given .1) in
+    let r = room-label (seen-at at) _ _ _ (at-seen .seen4 .given .1) in
     (r .room, r .level, r .some, r .most, r .within)
 
 returns-4 : tie.Need-returns-4
 returns-4 c =
     let at-put = c .before .before in let at-seen = at-put .before .before .before in let at = at-seen .before .before in
-    put-label (xml-of at) (table-of at) (cursor-of at) (to-start at .pre) (seen-of at) (at .next-token .ensures) _ _ _ (at-seen .seen4 .given .1) _ (at-put .put-record3 .ensures)
+    put-label (seen-at at) _ _ _ (at-seen .seen4 .given .1) _ (at-put .put-record3 .ensures)
 
 returns-5 : tie.Need-returns-5
 returns-5 c =
     let at = c .before .before in
-    put-end (xml-of at) (table-of at) (cursor-of at) (to-start at .pre) (seen-of at) (at .next-token .ensures) (c .enum-told .given .1)
+    put-end (seen-at at) (c .enum-told .given .1)
 
 returns-6 : tie.Need-returns-6
 returns-6 c =
     let at = c .before .before in
-    put-bad (xml-of at) (table-of at) (cursor-of at) (to-start at .pre) (seen-of at) (at .next-token .ensures) (c .enum-told2 .given .1)
+    put-bad (seen-at at) (c .enum-told2 .given .1)
 
 pub put-token-spec : {M : Type 1} → statement M
 put-token-spec =
