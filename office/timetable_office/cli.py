@@ -16,6 +16,7 @@ from timetable_office.formats import LOG_FORMATS, VIEW_FORMATS
 from timetable_office.layout import load_library
 from timetable_office.library import LIBRARY_VARIABLE, RECORDS_MAXIMUM
 from timetable_office.lines import STANDARD_INPUT, Lines, read_lines
+from timetable_office.publish import Published, publish_views
 from timetable_office.replace import replace_policy
 from timetable_office.runs import Answered, RefusedLine, run_lines
 from timetable_office.state import read_policy
@@ -27,6 +28,7 @@ PROGRAM = "timetable-office"
 STACK_BYTES = 4 << 20
 _PROGRESS_STEP = 100
 _CLEAR_LINE, _RED, _PLAIN = "\r\x1b[K", "\x1b[31m", "\x1b[0m"
+_DIGEST_DIGITS = 12
 _STATUS = """exit status:
   0  everything was done
   1  a line was refused or a name is unknown; the store is as it was, but for `run --keep-going`
@@ -68,15 +70,16 @@ def put(text: str | bytes) -> None:
         raise OutputError(f"the answer cannot be written: {error.strerror}") from error
 
 
-def show_progress(total: int) -> Callable[[int], None]:
+def show_progress(total: int, word: str = "line", step: int = _PROGRESS_STEP) -> Callable[[int], None]:
     """A line that counts, on a terminal alone."""
-    if not is_terminal(sys.stderr) or total < 2 * _PROGRESS_STEP:
+    if not is_terminal(sys.stderr) or total < 2 * step:
         return lambda count: None
 
     def count_up(count: int) -> None:
         """Writes the count over the one before."""
-        if count % _PROGRESS_STEP == 0 or count == total:
-            print(f"\r{count:,} of {total:,} lines", end="\n" if count == total else "", file=sys.stderr, flush=True)
+        if count % step == 0 or count == total:
+            end = "\n" if count == total else ""
+            print(f"\r{count:,} of {counted(total, word)}", end=end, file=sys.stderr, flush=True)
 
     return count_up
 
@@ -175,6 +178,42 @@ def show(options: argparse.Namespace) -> int:
     return DONE
 
 
+def publish(options: argparse.Namespace) -> int:
+    """Publishes views as a folder of pages, all of them or none. The store stays as it is."""
+    library = load_library(options.library)
+    with Store(options.store, options.wait) as store:
+        session = store.session(library)
+    state = Contents(session.state, session.table).digest().hex()[:_DIGEST_DIGITS]
+    names = options.names or read_policy(session.state).subjects
+    done = publish_views(session, options.names, options.out, options.wait, show_progress(len(names), "view", 1))
+    for reader in done.readers:
+        if reader.nodes == 0:
+            say(f"{options.out}: note: {reader.name} is shown nothing")
+    if done.dropped:
+        say(f"{options.out}: note: no longer there: {', '.join(done.dropped)}")
+    say(
+        f"{options.out}: {counted(len(done.readers), 'view')} of {options.store} in state {state}, "
+        f"publication {done.publication.mark}"
+    )
+    if options.json:
+        put(published_json(done, state))
+    return DONE
+
+
+def published_json(done: Published, state: str) -> str:
+    """A publication as JSON."""
+    readers = [{"reader": reader.name, "shown": reader.nodes, "files": reader.files} for reader in done.readers]
+    made = {
+        "folder": done.folder,
+        "publication": done.publication.mark,
+        "time": done.publication.time.isoformat(timespec="seconds"),
+        "state": state,
+        "readers": readers,
+        "dropped": done.dropped,
+    }
+    return json.dumps(made, indent=2) + "\n"
+
+
 def log(options: argparse.Namespace) -> int:
     """Prints the log."""
     with Store(options.store, options.wait) as store:
@@ -267,6 +306,20 @@ def make_parser() -> argparse.ArgumentParser:
     add_format(made, VIEW_FORMATS)
 
     made = command(
+        "publish",
+        publish,
+        "write every reader's page into a folder",
+        "Writes the view of every subject, or of those named, as HTML, CSV and JSON, with an index page. The folder\n"
+        "is replaced whole: all its pages are of one state of the store, and on any error the old ones stay. Pages of\n"
+        "readers who are not named go. A folder with other files in it is never replaced.",
+    )
+    made.add_argument("--out", metavar="DIR", required=True, help="the folder")
+    made.add_argument(
+        "--as", dest="names", metavar="NAME", nargs="+", action="extend", default=[], help="the subjects (all of them)"
+    )
+    made.add_argument("--json", action="store_true", help="print what was published as JSON")
+
+    made = command(
         "policy",
         policy,
         "give a stored tree new rules",
@@ -322,6 +375,8 @@ def main(words: Sequence[str] | None = None) -> int:
         complain(str(error) if isinstance(error, RefusedLine) else f"{PROGRAM}: {error}")
         if isinstance(error, InputError) and options.work in (run, policy):
             say(f"{PROGRAM}: {options.store} is as it was")
+        if isinstance(error, InputError) and options.work is publish:
+            say(f"{PROGRAM}: {options.out} is as it was, and nothing is published")
         return error.status
     except KeyboardInterrupt:
         complain(f"{PROGRAM}: interrupted; {options.store} is as it was")

@@ -1,4 +1,4 @@
-"""Views and logs as text, JSON and CSV."""
+"""Views and logs as text, JSON, CSV and HTML."""
 
 from __future__ import annotations
 
@@ -7,6 +7,7 @@ import io
 import json
 from typing import Any, Callable, Sequence
 
+from timetable_office.pages import view_html
 from timetable_office.store import Entry
 from timetable_office.tree import RESTRICTED, Node, read_view
 
@@ -70,6 +71,7 @@ VIEW_FORMATS: dict[str, Callable[[str, bytes], str]] = {
     "lines": view_lines,
     "json": view_json,
     "csv": view_csv,
+    "html": view_html,
 }
 
 
