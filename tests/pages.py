@@ -370,9 +370,10 @@ class Publishing(unittest.TestCase):
         for name, nodes in self.whole()[0].items():
             self.assertEqual(nodes, read_view(self.office("show", "store", "--as", name, "--format", "lines").encode()))
             stem = os.path.join(self.out, file_stem(name))
-            for ending in ("csv", "json"):
-                shown = self.office("show", "store", "--as", name, "--format", ending)
-                self.assertEqual(Path(f"{stem}.{ending}").read_text(), shown)
+            shown = self.office("show", "store", "--as", name, "--format", "csv")
+            self.assertEqual(Path(f"{stem}.csv").read_text(), shown)
+            shown = self.office("show", "store", "--as", name, "--format", "json")
+            self.assertEqual(json.loads(Path(f"{stem}.json").read_text()), json.loads(shown))
             shown = Page(self.office("show", "store", "--as", name, "--format", "html"))
             self.assertEqual(shown.nodes, nodes)
             self.assertIn(shown.text("footer").removesuffix("."), Page(Path(f"{stem}.html").read_text()).text("footer"))

@@ -22,8 +22,8 @@ def _csv(header: Sequence[str], rows: Sequence[Sequence[object]]) -> str:
     return file.getvalue()
 
 
-def _json(value: object) -> str:
-    return json.dumps(value, indent=2) + "\n"
+def _json(value: object, indent: int | None = 2) -> str:
+    return json.dumps(value, indent=indent) + "\n"
 
 
 def view_lines(name: str, answer: bytes) -> str:
@@ -60,10 +60,10 @@ def view_tree(nodes: Sequence[Node]) -> dict[str, Any] | None:
     return above[0] if above else None
 
 
-def view_json(name: str, answer: bytes) -> str:
-    """The reader, the number of shown nodes, and the tree of them."""
+def view_json(name: str, answer: bytes, indent: int | None = 2) -> str:
+    """The reader, the number of shown nodes, and the tree of them; without indent it is one line."""
     nodes = read_view(answer)
-    return _json({"reader": name, "shown": len(nodes), "tree": view_tree(nodes)})
+    return _json({"reader": name, "shown": len(nodes), "tree": view_tree(nodes)}, indent)
 
 
 VIEW_FORMATS: dict[str, Callable[[str, bytes], str]] = {

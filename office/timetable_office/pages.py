@@ -12,6 +12,7 @@ import base64
 import hashlib
 from dataclasses import dataclass, field
 from datetime import datetime
+from functools import lru_cache
 from html import escape
 from importlib import resources
 from typing import Iterable, Iterator, NamedTuple, Sequence
@@ -171,6 +172,7 @@ def _kind(days: Sequence[Branch], level: int) -> str:
     return "week" if all(labels == periods[0] for labels in periods) else "list"
 
 
+@lru_cache(maxsize=4096)
 def _label(label: str) -> str:
     """A label as HTML, RESTRICTED set apart."""
     return f'<span class="restricted">{RESTRICTED}</span>' if label == RESTRICTED else escape(label)

@@ -31,7 +31,7 @@ from typing import Callable, Iterator, NamedTuple, Sequence
 from timetable_office.errors import InputError, OutputError
 from timetable_office.formats import view_csv, view_json
 from timetable_office.library import Session
-from timetable_office.pages import GENERATOR, Publication, Row, index, view_html
+from timetable_office.pages import GENERATOR, Publication, Row, index, page, view_mark
 from timetable_office.state import read_policy
 from timetable_office.tree import read_view
 from timetable_office.views import log_in, view_of
@@ -147,11 +147,13 @@ def _write_pages(
     for count, (name, answer) in enumerate(views, 1):
         stem = file_stem(name)
         row = Row(name, f"{stem}.html", f"{stem}.csv", f"{stem}.json")
-        texts = (view_html(name, answer, publication), view_csv(name, answer), view_json(name, answer))
+        nodes = read_view(answer)
+        html = page(name, nodes, view_mark(answer), publication)
+        texts = (html, view_csv(name, answer), view_json(name, answer, indent=None))
         for file, text in zip(row[1:], texts):
             _write(new / file, text)
         rows.append(row)
-        readers.append(Shown(name, len(read_view(answer)), row[1:]))
+        readers.append(Shown(name, len(nodes), row[1:]))
         progress(count)
     _write(new / INDEX, index(rows, publication))
     # side by side: a disk takes many files in hardly more time than one
