@@ -46,6 +46,7 @@ from timetable_office.errors import OutputError  # noqa: E402
 from timetable_office.library import Library  # noqa: E402
 from timetable_office.pages import Publication, Row, index, lesson_level, page, view_html  # noqa: E402
 from timetable_office.publish import file_stem, publish_views  # noqa: E402
+from timetable_office.store import Store  # noqa: E402
 from timetable_office.tree import RESTRICTED, Node, read_view  # noqa: E402
 from timetable_office.views import view_of  # noqa: E402
 
@@ -366,7 +367,7 @@ class Publishing(unittest.TestCase):
 
     def test_every_view(self):
         self.store()
-        self.office("publish", "store", "--out", "www", says="www: 2 views of store in state ")
+        self.office("publish", "store", "--out", "www", says="www: 2 views of store\n")
         for name, nodes in self.whole()[0].items():
             self.assertEqual(nodes, read_view(self.office("show", "store", "--as", name, "--format", "lines").encode()))
             stem = os.path.join(self.out, file_stem(name))
@@ -392,6 +393,8 @@ class Publishing(unittest.TestCase):
         self.assertNotEqual(mark, before[1])
         self.assertEqual(stat.S_IMODE(os.stat(self.out).st_mode), 0o2751)
         self.assertEqual(told["readers"][0]["files"], ["view-SHA~7.html", "view-SHA~7.csv", "view-SHA~7.json"])
+        with Store(os.path.join(self.folder, "store")) as store:
+            self.assertEqual(told["store"], store.read().digest().hex())
         self.assertEqual(told["dropped"], ["view-staff.csv", "view-staff.html", "view-staff.json"])
         self.office("publish", "store", "--out", "www/", "--as", "staff", "SHA", "--as", "SHA")
         self.assertEqual(list(self.whole()[0]), ["staff", "SHA"])

@@ -28,7 +28,6 @@ PROGRAM = "timetable-office"
 STACK_BYTES = 4 << 20
 _PROGRESS_STEP = 100
 _CLEAR_LINE, _RED, _PLAIN = "\r\x1b[K", "\x1b[31m", "\x1b[0m"
-_DIGEST_DIGITS = 12
 _STATUS = """exit status:
   0  everything was done
   1  a line was refused or a name is unknown; the store is as it was, but for `run --keep-going`
@@ -183,7 +182,6 @@ def publish(options: argparse.Namespace) -> int:
     library = load_library(options.library)
     with Store(options.store, options.wait) as store:
         session = store.session(library)
-    state = Contents(session.state, session.table).digest().hex()[:_DIGEST_DIGITS]
     names = options.names or read_policy(session.state).subjects
     done = publish_views(session, options.names, options.out, options.wait, show_progress(len(names), "view", 1))
     for reader in done.readers:
@@ -191,23 +189,20 @@ def publish(options: argparse.Namespace) -> int:
             say(f"{options.out}: note: {reader.name} is shown nothing")
     if done.dropped:
         say(f"{options.out}: note: no longer there: {', '.join(done.dropped)}")
-    say(
-        f"{options.out}: {counted(len(done.readers), 'view')} of {options.store} in state {state}, "
-        f"publication {done.publication.mark}"
-    )
+    say(f"{options.out}: {counted(len(done.readers), 'view')} of {options.store}")
     if options.json:
-        put(published_json(done, state))
+        put(published_json(done, Contents(session.state, session.table)))
     return DONE
 
 
-def published_json(done: Published, state: str) -> str:
-    """A publication as JSON."""
+def published_json(done: Published, contents: Contents) -> str:
+    """A publication as JSON. The digest of the store is for the office alone: it is made from hidden labels too."""
     readers = [{"reader": reader.name, "shown": reader.nodes, "files": reader.files} for reader in done.readers]
     made = {
         "folder": done.folder,
         "publication": done.publication.mark,
         "time": done.publication.time.isoformat(timespec="seconds"),
-        "state": state,
+        "store": contents.digest().hex(),
         "readers": readers,
         "dropped": done.dropped,
     }
