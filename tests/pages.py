@@ -274,7 +274,7 @@ class Pages(unittest.TestCase):
             files = {}
             with tempfile.TemporaryDirectory() as folder, mock.patch.object(publish, "Publication") as drawn:
                 drawn.return_value = PUBLICATION
-                publish_views(session, ["SHA"], os.path.join(folder, "www"), 0)
+                publish_views(lambda: session, ["SHA"], os.path.join(folder, "www"), 0)
                 for path in Path(folder, "www").iterdir():
                     files[path.name] = path.read_bytes()
             made.append((session.table, answer, files))
@@ -513,11 +513,11 @@ class Publishing(unittest.TestCase):
         session = store_of(EXAMPLE)
         function = mock.Mock(side_effect=lambda *_: publish.ctypes.set_errno(errno.EINVAL) or -1)
         with mock.patch.object(publish.ctypes, "CDLL", return_value=mock.Mock(renameat2=function)):
-            publish_views(session, [], self.out, 0)
+            publish_views(lambda: session, [], self.out, 0)
             function.assert_not_called()
             before = self.files()
             with self.assertRaisesRegex(OutputError, "as it was.*cannot exchange two folders in one step"):
-                publish_views(session, [], self.out, 0)
+                publish_views(lambda: session, [], self.out, 0)
             function.assert_called_once()
         self.assertEqual(self.files(), before)
         self.assertEqual(os.listdir(self.folder), ["www"])
@@ -554,10 +554,36 @@ class Publishing(unittest.TestCase):
             self.assertEqual(self.files(), before)
         self.office("publish", "store", "--out", "www")
         session = store_of(EXAMPLE)
-        many = [self.fork(lambda: [publish_views(session, [], self.out, SECONDS) for _ in range(10)]) for _ in range(4)]
+        ten_times = lambda: [publish_views(lambda: session, [], self.out, SECONDS) for _ in range(10)]  # noqa: E731
+        many = [self.fork(ten_times) for _ in range(4)]
         self.assertEqual([os.waitpid(child, 0)[1] for child in many], [0] * 4)
         self.whole()
         self.assertEqual(sorted(os.listdir(self.folder)), ["store", "www"])
+
+    def test_the_newest_state(self):
+        """A publication that has to wait reads the store after it has waited."""
+        self.store()
+        work = Path(self.folder, ".www.publishing")
+        work.mkdir(0o700)
+        with (work / "lock").open("w") as held:
+            fcntl.flock(held, fcntl.LOCK_EX)
+            words = [
+                sys.executable,
+                "-m",
+                "timetable_office",
+                "publish",
+                "store",
+                "--out",
+                "www",
+                "--wait",
+                str(SECONDS),
+            ]
+            environment = {**os.environ, "PYTHONPATH": OFFICE}
+            waiting = subprocess.Popen(words, cwd=self.folder, env=environment, stderr=subprocess.PIPE)
+            time.sleep(1)
+            self.office("run", "-q", "store", given="(user SHA)\n(update //room R99)\n")
+        self.assertEqual((waiting.communicate()[1], waiting.returncode), (b"www: 2 views of store\n", 0))
+        self.assertIn(Node(4, "R99"), self.whole()[0]["SHA"])
 
     def fork(self, work):
         child = os.fork()
@@ -573,8 +599,8 @@ class Publishing(unittest.TestCase):
     def test_always_there(self):
         """While pages are published again and again, a reader finds the folder at every moment."""
         session = store_of(EXAMPLE)
-        publish_views(session, [], self.out, SECONDS)
-        child = self.fork(lambda: [publish_views(session, [], self.out, SECONDS) for _ in range(30)])
+        publish_views(lambda: session, [], self.out, SECONDS)
+        child = self.fork(lambda: [publish_views(lambda: session, [], self.out, SECONDS) for _ in range(30)])
         marks = set()
         while os.waitpid(child, os.WNOHANG) == (0, 0):
             text = Path(self.out, "index.html").read_text()
@@ -593,16 +619,18 @@ class Publishing(unittest.TestCase):
         wanted = [{name: read_view(view_of(one, name)) for name in (f"S{n}" for n in range(8))} for one in both]
         begun = time.monotonic()
         for turn in (0, 1, 0, 1):
-            os.waitpid(self.fork(functools.partial(publish_views, both[turn], [], self.out, SECONDS)), 0)
+            os.waitpid(self.fork(functools.partial(publish_views, lambda: both[turn], [], self.out, SECONDS)), 0)
         needed = (time.monotonic() - begun) / 4
         rand = random.Random(9)
         held = 1
         done = killed = left = 0
         for turn in range(kills):
-            child = self.fork(functools.partial(publish_views, both[turn % 2], [], self.out, SECONDS))
+            child = self.fork(functools.partial(publish_views, lambda: both[turn % 2], [], self.out, SECONDS))
             time.sleep(rand.uniform(0, 1.5) * needed)
             os.kill(child, signal.SIGKILL)
-            killed += os.waitpid(child, 0)[1] == signal.SIGKILL
+            ended = os.waitpid(child, 0)[1]
+            self.assertIn(ended, (0, signal.SIGKILL))
+            killed += ended != 0
             left += os.path.exists(os.path.join(self.folder, ".www.publishing"))
             views = self.whole()[0]
             self.assertIn(views, (wanted[held], wanted[turn % 2]))
@@ -610,7 +638,7 @@ class Publishing(unittest.TestCase):
             held = wanted.index(views)
         print(f"{kills} publications, {killed} killed: {done} had put new pages in place, {left} left a folder behind")
         self.assertGreater(killed, kills // 4)
-        publish_views(both[0], [], self.out, SECONDS)
+        publish_views(lambda: both[0], [], self.out, SECONDS)
         self.assertEqual(self.whole()[0], wanted[0])
         self.assertEqual(os.listdir(self.folder), ["www"])
 
@@ -619,7 +647,7 @@ class Publishing(unittest.TestCase):
         with mock.patch.object(publish, "view_json", side_effect=KeyboardInterrupt):
             self.office("publish", "store", "--out", "www", status=130, says="interrupted")
         self.assertEqual(os.listdir(self.folder), ["store"])
-        self.assertRaises(OutputError, publish_views, store_of(EXAMPLE), [], "/proc/www", 0)
+        self.assertRaises(OutputError, publish_views, lambda: store_of(EXAMPLE), [], "/proc/www", 0)
 
 
 class Browser:

@@ -181,9 +181,13 @@ def publish(options: argparse.Namespace) -> int:
     """Publishes views as a folder of pages, all of them or none. The store stays as it is."""
     library = load_library(options.library)
     with Store(options.store, options.wait) as store:
-        session = store.session(library)
-    names = options.names or read_policy(session.state).subjects
-    done = publish_views(session, options.names, options.out, options.wait, show_progress(len(names), "view", 1))
+        done = publish_views(
+            lambda: store.session(library),
+            options.names,
+            options.out,
+            options.wait,
+            lambda total: show_progress(total, "view", 1),
+        )
     for reader in done.readers:
         if reader.nodes == 0:
             say(f"{options.out}: note: {reader.name} is shown nothing")
@@ -191,18 +195,18 @@ def publish(options: argparse.Namespace) -> int:
         say(f"{options.out}: note: no longer there: {', '.join(done.dropped)}")
     say(f"{options.out}: {counted(len(done.readers), 'view')} of {options.store}")
     if options.json:
-        put(published_json(done, Contents(session.state, session.table)))
+        put(published_json(done))
     return DONE
 
 
-def published_json(done: Published, contents: Contents) -> str:
-    """A publication as JSON. The digest of the store is for the office alone: it is made from hidden labels too."""
+def published_json(done: Published) -> str:
+    """A publication as JSON."""
     readers = [{"reader": reader.name, "shown": reader.nodes, "files": reader.files} for reader in done.readers]
     made = {
         "folder": done.folder,
         "publication": done.publication.mark,
         "time": done.publication.time.isoformat(timespec="seconds"),
-        "store": contents.digest().hex(),
+        "store": done.digest,
         "readers": readers,
         "dropped": done.dropped,
     }

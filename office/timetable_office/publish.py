@@ -6,7 +6,8 @@ system puts them in place: a rename where there are no pages yet, an exchange of
 - at every moment the folder is the whole of one publication, and from the first one on it is always there;
 - a run that is killed, or that an error ends, leaves the old pages or the new ones, never a mixture;
 - what a killed run leaves behind is beside the folder, in one hidden folder, which the next run removes;
-- two runs into the same folder take turns;
+- two runs into the same folder take turns, and each reads the store when it has its turn, so that no older state of it
+  takes the place of a newer one;
 - a folder with files that were not published is never replaced, and no such file is ever removed.
 
 A file system that cannot exchange two folders in one step keeps the old pages, and the run ends with an error.
@@ -33,6 +34,7 @@ from timetable_office.formats import view_csv, view_json
 from timetable_office.library import Session
 from timetable_office.pages import GENERATOR, Publication, Row, index, page, view_mark
 from timetable_office.state import read_policy
+from timetable_office.store import Contents
 from timetable_office.tree import read_view
 from timetable_office.views import log_in, view_of
 
@@ -46,7 +48,7 @@ _SYNCS_AT_ONCE = 8
 # as in linux/fcntl.h and linux/fs.h
 _AT_FDCWD = -100
 _RENAME_EXCHANGE = 2
-_NOT_OFFERED = (errno.EINVAL, errno.ENOSYS, errno.EOPNOTSUPP)
+_NOT_OFFERED = (errno.EINVAL, errno.ENOSYS, errno.EOPNOTSUPP, errno.EXDEV)
 
 
 class Shown(NamedTuple):
@@ -58,12 +60,16 @@ class Shown(NamedTuple):
 
 
 class Published(NamedTuple):
-    """What was published, where, and which files of the publication before have no successor."""
+    """What was published and where, and which files of the publication before have no successor.
+
+    The digest of the store is for the office alone: it is made from hidden labels too.
+    """
 
     folder: str
     publication: Publication
     readers: tuple[Shown, ...]
     dropped: tuple[str, ...]
+    digest: str
 
 
 def file_stem(name: str) -> str:
@@ -80,22 +86,20 @@ def file_stem(name: str) -> str:
 
 
 def publish_views(
-    session: Session,
+    read: Callable[[], Session],
     names: Sequence[str],
     out: str,
     wait: float,
-    progress: Callable[[int], None] = lambda count: None,
+    progress: Callable[[int], Callable[[int], None]] = lambda total: lambda count: None,
 ) -> Published:
     """Publishes the views of these subjects, or of all if none is named, into the folder `out`.
 
-    All views are of the state that the session has; all are there before anything is written.
+    The store is read once; all views are of the state that it has then, and all are made before a page is written.
+    `progress` is given the number of views, and what it returns the number of those that are written.
     """
-    views = _views(session, names)
     folder = Path(out).resolve()
     if not folder.name or not folder.parent.is_dir():
         raise OutputError(f"{out} cannot be made: there is no folder {folder.parent} to make it in")
-    _check_old(folder)
-    publication = Publication(datetime.now(timezone.utc), secrets.token_hex(_MARK_BYTES))
     work = folder.with_name(f".{folder.name}.publishing")
     with _turn(work, folder, wait):
         # after a kill: pages that were never finished, or pages that had been replaced
@@ -103,9 +107,12 @@ def publish_views(
             _remove_pages(work / "pages")
         _check_old(folder)
         before = set(os.listdir(folder)) if folder.exists() else set()
+        publication = Publication(datetime.now(timezone.utc), secrets.token_hex(_MARK_BYTES))
+        session = read()
+        views = _views(session, names)
         try:
             with _told(f"{folder} is as it was, and nothing is published"):
-                readers = _write_pages(work / "pages", folder, views, publication, progress)
+                readers = _write_pages(work / "pages", folder, views, publication, progress(len(views)))
                 _swap(work / "pages", folder)
         except BaseException:
             with suppress(OSError):
@@ -115,7 +122,8 @@ def publish_views(
             _sync(folder.parent)
             _remove_pages(work / "pages")
     after = {INDEX, *(file for reader in readers for file in reader.files)}
-    return Published(str(folder), publication, tuple(readers), tuple(sorted(before - after)))
+    digest = Contents(session.state, session.table).digest().hex()
+    return Published(str(folder), publication, tuple(readers), tuple(sorted(before - after)), digest)
 
 
 def _views(session: Session, names: Sequence[str]) -> list[tuple[str, bytes]]:
