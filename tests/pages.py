@@ -262,6 +262,8 @@ class Pages(unittest.TestCase):
                 digest = hashlib.sha256("".join(read.texts[tag]).encode()).digest()
                 self.assertIn(f"{tag}-src 'sha256-{base64.b64encode(digest).decode()}'", allowed)
             self.assertIn("default-src 'none'", allowed)
+            # without JavaScript there is no filter box
+            self.assertTrue(all(("hidden", None) in one for one in read.attributes("form")))
             self.assertEqual([one for one in read.tags if any(key.startswith("on") for key, _ in one[1])], [])
             text.encode("ascii")
 

@@ -267,6 +267,7 @@ def _published(publication: Publication) -> str:
     return f"Published {stamp}, publication <code>{escape(publication.mark)}</code>."
 
 
+@lru_cache
 def _file(name: str) -> str:
     return resources.files(__package__).joinpath(name).read_text("ascii")
 
@@ -292,7 +293,6 @@ def _document(title: str, kind: str, body: Sequence[str], *, style: str = "", sc
         f'<meta http-equiv="Content-Security-Policy" content="{policy}">',
         '<meta name="viewport" content="width=device-width, initial-scale=1">',
         '<meta name="robots" content="noindex">',
-        '<meta name="referrer" content="no-referrer">',
         f"<title>{escape(title)}</title>",
         f"<style>{style}</style>",
         "</head>",
