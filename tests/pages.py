@@ -612,13 +612,14 @@ class Publishing(unittest.TestCase):
     def test_killed(self):
         """Publications of two stores in turn, each killed at some moment: the folder is the whole of one of them."""
         both = []
+        names = ["S1", "S2", "S3", "S4"]
         for day in ("mon", "tue"):
-            readers = [f"(subject S{number})" for number in range(8)]
-            rules = [f"(rule accept read //* S{number})" for number in range(8)]
+            readers = [f"(subject {name})" for name in names]
+            rules = [f"(rule accept read //* {name})" for name in names]
             lesson = "(lesson (class (10B)) (room (R12)))"
             child = f"(child ({day} {' '.join([lesson] * 8)}))"
             both.append(store_of([*readers, *rules, "(root school)", child], records=128))
-        wanted = [{name: read_view(view_of(one, name)) for name in (f"S{n}" for n in range(8))} for one in both]
+        wanted = [{name: read_view(view_of(one, name)) for name in names} for one in both]
         begun = time.monotonic()
         for turn in (0, 1, 0, 1):
             os.waitpid(self.fork(functools.partial(publish_views, lambda: both[turn], [], self.out, SECONDS)), 0)
@@ -633,13 +634,15 @@ class Publishing(unittest.TestCase):
             ended = os.waitpid(child, 0)[1]
             self.assertIn(ended, (0, signal.SIGKILL))
             killed += ended != 0
+            # about half of them end before they are killed, however busy the machine is
+            needed *= 0.9 if ended == 0 else 1.1
             left += os.path.exists(os.path.join(self.folder, ".www.publishing"))
             views = self.whole()[0]
             self.assertIn(views, (wanted[held], wanted[turn % 2]))
             done += views == wanted[turn % 2] != wanted[held]
             held = wanted.index(views)
         print(f"{kills} publications, {killed} killed: {done} had put new pages in place, {left} left a folder behind")
-        self.assertGreater(killed, kills // 4)
+        self.assertGreater(killed, kills // 5)
         publish_views(lambda: both[0], [], self.out, SECONDS)
         self.assertEqual(self.whole()[0], wanted[0])
         self.assertEqual(os.listdir(self.folder), ["www"])
@@ -769,12 +772,14 @@ class InTheBrowser(unittest.TestCase):
         yield "days", nodes_of("(school (mon (lesson (class (10B)) (note)) (lesson)) (tue (lesson (class (9A) (9B)))))")
         yield "outline", random_nodes(rand, 9, 300)
         yield "root", [Node(0, "school")]
+        yield "long", [Node(node.level, "W" * 24) for node in week_nodes(2)]
+        yield "deep", [Node(level, "W" * 24) for level in range(12)]
 
     def test_what_is_seen(self):
         """On a desk and on a phone: the words are those of the view, nothing is cut off, and nothing is asked for."""
         for name, nodes in self.samples():
             path = self.write(nodes)
-            for width, height in ((1280, 900), (390, 844)):
+            for width, height in ((1280, 900), (960, 700), (390, 844), (320, 568)):
                 self.browser.open(path, width, height)
                 self.assertEqual(self.browser.words(), [node.label for node in nodes], name)
                 self.assertLessEqual(self.browser.run("document.documentElement.scrollWidth"), width, name)
