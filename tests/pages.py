@@ -398,7 +398,7 @@ class Publishing(unittest.TestCase):
         with Store(os.path.join(self.folder, "store")) as store:
             self.assertEqual(told["store"], store.read().digest().hex())
         self.assertEqual(told["dropped"], ["view-staff.csv", "view-staff.html", "view-staff.json"])
-        self.office("publish", "store", "--out", "www/", "--as", "staff", "SHA", "--as", "SHA")
+        self.office("publish", "--out", "www/", "--as", "SHA", "--as", "staff", "--as", "SHA", "store")
         self.assertEqual(list(self.whole()[0]), ["staff", "SHA"])
         self.assertEqual(sorted(os.listdir(self.folder)), ["store", "www"])
 
@@ -406,7 +406,7 @@ class Publishing(unittest.TestCase):
         self.store()
         for _ in range(2):
             before = self.files()
-            self.office("publish", "store", "--out", "www", "--as", "SHA", "sha", status=1, says="did you mean SHA?")
+            self.office("publish", "store", "--out", "www", "--as", "staff", "--as", "sha", status=1, says="SHA?")
             self.office("publish", "store", "--out", "www", "--as", "wbe", status=1, says="nothing is published")
             self.office("publish", "store", "--out", "www", "--as", "../x", status=1, says="cannot be a name")
             self.office("publish", "store", status=2, says="--out")

@@ -314,7 +314,12 @@ def make_parser() -> argparse.ArgumentParser:
     )
     made.add_argument("--out", metavar="DIR", required=True, help="the folder")
     made.add_argument(
-        "--as", dest="names", metavar="NAME", nargs="+", action="extend", default=[], help="the subjects (all of them)"
+        "--as",
+        dest="names",
+        metavar="NAME",
+        action="append",
+        default=[],
+        help="a subject whose view it is; give it once for each (all of them)",
     )
     made.add_argument("--json", action="store_true", help="print what was published as JSON")
 
