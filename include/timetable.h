@@ -1,9 +1,22 @@
 /* The timetable tree and its readers: one call for every line.
  *
- * The store is lent by the caller with each call: a state of timetable_state_bytes() bytes and a table of TIMETABLE_TABLE_BYTES(records) bytes. Both start as
- * zeros. Keep them as they are left, in memory or in a file; their bytes are told in docs/FORMAT.md.
+ * The store is lent by the caller with each call: a state and a table. Both start as zeros. Keep them as they are
+ * left, in memory or in a file; docs/FORMAT.md tells their bytes.
  *
- * Link with liblouvretansy.a (x86-64 Linux). The library holds nothing between calls, allocates nothing, and needs of C's library memcpy and memset alone.
+ *     static uint8_t state[TIMETABLE_STATE_BYTES];
+ *     static uint8_t table[TIMETABLE_TABLE_BYTES(1024)];
+ *     static uint8_t area[TIMETABLE_AREA_BYTES(1024)];
+ *
+ *     int64_t returned = timetable_line(state, sizeof state, table, sizeof table, line, length, area, sizeof area);
+ *     if (returned < 0) {
+ *         fprintf(stderr, "refused %d: %s\n", (int)-returned, timetable_refusal_text(-returned));
+ *     } else {
+ *         fwrite(area, 1, (size_t)returned, stdout);
+ *     }
+ *
+ * Link with liblouvretansy, static or shared (x86-64 Linux): `pkg-config --cflags --libs louvretansy`. The library
+ * holds nothing between calls, allocates nothing, and needs of C's library memcpy and memset alone. Threads may call it
+ * at the same time, each on bytes of its own. This header is for C99 and later, and for C++11 and later.
  */
 #ifndef TIMETABLE_H
 #define TIMETABLE_H
@@ -15,45 +28,120 @@
 extern "C" {
 #endif
 
-/* Why a line is refused. 13 is tested first, then 1 to 12 rising. */
-enum timetable_refusal {
-    TIMETABLE_LINE_BYTES = 1,   /* the line is longer than 1,024 bytes, or has a byte outside 32 to 126 (a line feed is one) */
-    TIMETABLE_NO_FORM = 2,      /* the line is none of the forms */
-    TIMETABLE_WRONG_STAGE = 3,  /* the form comes too late or too early: policy, root, children, work */
-    TIMETABLE_BAD_PATH = 4,     /* the path is not well formed */
-    TIMETABLE_BAD_NAME = 5,     /* a name unknown or declared twice, an isa line repeated, or R not declared before N */
-    TIMETABLE_RULE_BRACKET = 6, /* a bracket in a rule's path */
-    TIMETABLE_POLICY_FULL = 7,  /* more than 64 subjects, 128 isa lines or 128 rules */
-    TIMETABLE_NO_USER = 8,      /* no user yet */
-    TIMETABLE_BAD_LABEL = 9,    /* RESTRICTED as a label, or a policy word as the new label of rename or update */
-    TIMETABLE_TOO_DEEP = 10,    /* a node would come to a level above 11 */
-    TIMETABLE_TABLE_FULL = 11,  /* fewer free records than the whole line needs */
-    TIMETABLE_AREA_SHORT = 12,  /* the area is shorter than the answer */
-    TIMETABLE_BAD_STORE = 13    /* the state or the table is none, or they do not agree */
-};
+/* The version of this header: as text, and as a number for #if (1,000,000 for the first part, 1,000 for the second).
+ *
+ * The library tells no version when it runs. A library that does not fit is found in three ways:
+ * - The name that a program asks the system's loader for has the first two parts (liblouvretansy.so.0.1). They change
+ *   whenever a form, an answer or a byte of state or table changes its meaning.
+ * - timetable_library_fits() is 0 if the library's state is of another size.
+ * - A state of TIMETABLE_STATE_BYTES that such a library is lent is refused with 13, whatever the line.
+ */
+#define TIMETABLE_VERSION "0.1.0"
+#define TIMETABLE_VERSION_NUMBER 1000
 
-/* The bytes of a table of so many records: at most 16,384 are used. */
-#define TIMETABLE_TABLE_BYTES(records) ((size_t)4 + (size_t)32 * (size_t)(records))
+/* The most bytes of a line, without its line feed. */
+#define TIMETABLE_MAX_LINE_BYTES 1024
 
-/* An area that no answer outgrows, for a table of so many records. A shorter one will do: a line whose answer does not fit is refused with 12. */
-#define TIMETABLE_AREA_BYTES(records) ((size_t)12 + (size_t)35 * (size_t)(records))
+/* The most records that a table uses. A node takes one. */
+#define TIMETABLE_MAX_RECORDS 16384
 
 /* The bytes of a state. */
+#define TIMETABLE_STATE_BYTES 68880
+
+/* The bytes of a table of so many records. Those above TIMETABLE_MAX_RECORDS are never used, and stay zero. */
+#define TIMETABLE_TABLE_BYTES(records) ((size_t)4 + (size_t)32 * (size_t)(records))
+
+/* An area that no answer outgrows, for a table of so many records. A shorter one will do: a line whose answer does not
+ * fit is refused with 12. The argument is evaluated twice.
+ */
+#define TIMETABLE_AREA_BYTES(records)                                                                                  \
+    ((size_t)12 + (size_t)35 * ((size_t)(records) < (size_t)TIMETABLE_MAX_RECORDS ? (size_t)(records)                  \
+                                                                                  : (size_t)TIMETABLE_MAX_RECORDS))
+
+/* The free stack that is enough for every call. The most measured is 1,066 KiB, for a path of 16 steps with 16 steps in
+ * each of three nested brackets; without brackets it is 236 KiB. The figures are measured, not proved.
+ */
+#define TIMETABLE_STACK_BYTES 1310720
+
+/* Why a line is refused. 13 is tested first; of the others that apply, the smallest is given. Later versions may have
+ * more: a program should be ready for a number that is not listed.
+ */
+enum timetable_refusal {
+    TIMETABLE_REFUSED_BAD_LINE = 1,
+    TIMETABLE_REFUSED_NO_FORM = 2,
+    TIMETABLE_REFUSED_WRONG_STAGE = 3,
+    TIMETABLE_REFUSED_BAD_PATH = 4,
+    TIMETABLE_REFUSED_BAD_NAME = 5,
+    TIMETABLE_REFUSED_RULE_BRACKET = 6,
+    TIMETABLE_REFUSED_POLICY_FULL = 7,
+    TIMETABLE_REFUSED_NO_USER = 8,
+    TIMETABLE_REFUSED_BAD_LABEL = 9,
+    TIMETABLE_REFUSED_TOO_DEEP = 10,
+    TIMETABLE_REFUSED_TABLE_FULL = 11,
+    TIMETABLE_REFUSED_AREA_SHORT = 12,
+    TIMETABLE_REFUSED_BAD_STORE = 13
+};
+
+/* Why the line is refused, in words that follow "the line is refused, since". The number is minus what timetable_line
+ * returned. Any other number has a text too: the result is never null.
+ */
+static inline const char *timetable_refusal_text(int64_t number) {
+    switch (number) {
+    case TIMETABLE_REFUSED_BAD_LINE:
+        return "it has more than 1,024 bytes, or a byte that is no plain ASCII character";
+    case TIMETABLE_REFUSED_NO_FORM:
+        return "it is none of the forms: a wrong word, a bad label or tree, a space too many or too few";
+    case TIMETABLE_REFUSED_WRONG_STAGE:
+        return "its form does not fit the stage: policy, root, children, work";
+    case TIMETABLE_REFUSED_BAD_PATH:
+        return "its path is not well formed";
+    case TIMETABLE_REFUSED_BAD_NAME:
+        return "a name is unknown or declared twice, an isa line is repeated, "
+               "or a role is not declared before who has it";
+    case TIMETABLE_REFUSED_RULE_BRACKET:
+        return "a rule's path has a bracket";
+    case TIMETABLE_REFUSED_POLICY_FULL:
+        return "the policy is full: 64 subjects, 128 isa lines, 128 rules";
+    case TIMETABLE_REFUSED_NO_USER:
+        return "nobody has logged in yet";
+    case TIMETABLE_REFUSED_BAD_LABEL:
+        return "RESTRICTED is a new label or name in it, or stands in a tree or a rule's path; "
+               "or a policy word is the new label of a rename or update";
+    case TIMETABLE_REFUSED_TOO_DEEP:
+        return "a node would come to a level above 11";
+    case TIMETABLE_REFUSED_TABLE_FULL:
+        return "the whole line needs more free records than there are";
+    case TIMETABLE_REFUSED_AREA_SHORT:
+        return "the answer area is shorter than the answer";
+    case TIMETABLE_REFUSED_BAD_STORE:
+        return "the lent state or table is none, or the two do not agree";
+    default:
+        return "the library gives a number that this version of timetable.h does not know";
+    }
+}
+
+/* The bytes of a state, as the library has them. */
 size_t timetable_state_bytes(void);
+
+/* Whether the library is one for this header, as far as the size of its state tells. */
+static inline int timetable_library_fits(void) {
+    return timetable_state_bytes() == TIMETABLE_STATE_BYTES;
+}
 
 /* One line, without its line feed.
  *
- * Returns the answer's length, 5 or more: its bytes, each line with a line feed, are at the front of the area, and the area behind them is as it was.
- * Or returns minus the number of a refusal, -1 to -13: every byte of state, table and area is as it was.
+ * Returns the answer's length, 5 or more: its bytes, each line with a line feed, are at the front of the area, and the
+ * area after them is as it was. Or returns minus the number of a refusal: every byte of state, table and area is as it
+ * was.
  *
  * Whatever bytes the four areas hold, the call ends and stays within them. The caller sees to these things:
- * - Each pointer lends as many bytes as the length behind it says, and is not null, even where the length is 0.
+ * - Each pointer lends as many bytes as the length after it says, and is not null, even where the length is 0.
  * - The four areas do not overlap.
  * - Nobody else reads or writes state, table and area, or writes the line, during the call.
- * - The stack has 2 MiB free. The most measured is 1,948 KiB, for a path with 16 steps in each of three nested brackets; without brackets 250 KiB.
+ * - The stack has TIMETABLE_STACK_BYTES free. A thread may have less by itself: see pthread_attr_setstacksize.
  */
-int64_t timetable_line(uint8_t *state, size_t state_length, uint8_t *table, size_t table_length, const uint8_t *line, size_t line_length, uint8_t *area,
-                       size_t area_length);
+int64_t timetable_line(uint8_t *state, size_t state_length, uint8_t *table, size_t table_length, const uint8_t *line,
+                       size_t line_length, uint8_t *area, size_t area_length);
 
 #ifdef __cplusplus
 }

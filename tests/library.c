@@ -1,19 +1,24 @@
-/* Tests of the library through its C interface: answers, areas that are too short (12), damaged states and tables (13). Every lent area lies between guard
- * bytes. Prints the number of calls, or the first failure. The places of bytes are those of docs/FORMAT.md.
+/* Tests of the library through its C interface: answers, areas that are too short (12), damaged states and tables (13),
+ * and the stack that calls take. Every lent area lies between guard bytes. Prints the number of calls and the most
+ * stack, or the first failure. The places of bytes are those of docs/FORMAT.md.
+ *
+ *     library [refusals]
+ *
+ * With the word it prints the header's texts of the refusals alone, by number.
  */
+#define _XOPEN_SOURCE 600
 #include "timetable.h"
 
 #include <stdio.h>
 #include <stdlib.h>
 #include <string.h>
+#include <ucontext.h>
 
 enum {
     GUARD_BYTES = 64,
     GUARD = 0x5a,
     OLD = 0xa5, /* what an area holds before a call */
-    STATE_BYTES = 68880,
     RECORD_BYTES = 32,
-    RECORDS_MAX = 16384,
     STAGE = 0,
     USER = 1,
     SUBJECT_COUNT = 8,
@@ -31,12 +36,12 @@ enum {
 
 enum stage { A, B, C, D, E };
 
-#define CHECK(what, fact)                                                                                                                                     \
-    do {                                                                                                                                                      \
-        if (!(fact)) {                                                                                                                                        \
-            fprintf(stderr, "FAILED: %s (%s:%d): %s\n", what, __FILE__, __LINE__, #fact);                                                                     \
-            exit(1);                                                                                                                                          \
-        }                                                                                                                                                     \
+#define CHECK(what, fact)                                                                                              \
+    do {                                                                                                               \
+        if (!(fact)) {                                                                                                 \
+            fprintf(stderr, "FAILED: %s (%s:%d): %s\n", what, __FILE__, __LINE__, #fact);                              \
+            exit(1);                                                                                                   \
+        }                                                                                                              \
     } while (0)
 
 static unsigned long calls = 0;
@@ -86,12 +91,13 @@ struct store {
 };
 
 static struct store new_store(size_t table_bytes) {
-    struct store made = {lend(STATE_BYTES, 0), lend(table_bytes, 0)};
+    struct store made = {lend(TIMETABLE_STATE_BYTES, 0), lend(table_bytes, 0)};
     return made;
 }
 
 static struct store copy_store(struct store store) {
-    struct store made = {lend_copy(store.state.bytes, store.state.length), lend_copy(store.table.bytes, store.table.length)};
+    struct store made = {lend_copy(store.state.bytes, store.state.length),
+                         lend_copy(store.table.bytes, store.table.length)};
     return made;
 }
 
@@ -102,13 +108,15 @@ static void give_back_store(struct store store) {
 
 /* Calls */
 
-/* One line, with what holds for every call: guards and line are kept, the answer lies in the area and what is behind it is kept, a refusal keeps every byte. */
+/* One line, with what holds for every call: guards and line are kept, the answer lies in the area and what is behind it
+ * is kept, a refusal keeps every byte.
+ */
 static int64_t call(struct store store, const char *text, struct lent area) {
     struct store before = copy_store(store);
     struct lent old = lend_copy(area.bytes, area.length);
     struct lent line = lend_copy(text, strlen(text));
-    int64_t returned =
-        timetable_line(store.state.bytes, store.state.length, store.table.bytes, store.table.length, line.bytes, line.length, area.bytes, area.length);
+    int64_t returned = timetable_line(store.state.bytes, store.state.length, store.table.bytes, store.table.length,
+                                      line.bytes, line.length, area.bytes, area.length);
     calls++;
     CHECK(text, guarded(store.state) && guarded(store.table) && guarded(line) && guarded(area));
     CHECK(text, memcmp(line.bytes, text, line.length) == 0);
@@ -140,7 +148,8 @@ static void expect_answer(struct store store, const char *text, size_t room, con
     struct lent area = lend(room, OLD);
     int64_t returned = call(store, text, area);
     if (returned != (int64_t)strlen(answer) || memcmp(area.bytes, answer, strlen(answer)) != 0) {
-        fprintf(stderr, "FAILED: %s returns %ld: %.*s", text, (long)returned, returned > 0 ? (int)returned : 0, (const char *)area.bytes);
+        fprintf(stderr, "FAILED: %s returns %ld: %.*s", text, (long)returned, returned > 0 ? (int)returned : 0,
+                (const char *)area.bytes);
         exit(1);
     }
     give_back(area);
@@ -198,23 +207,23 @@ static void short_areas(void) {
     for (size_t i = 0; i < EXAMPLE_LINES; i++) {
         size_t length = strlen(EXAMPLE[i].answer);
         for (size_t room = 0; room < length; room++) {
-            expect_refusal(store, EXAMPLE[i].line, room, TIMETABLE_AREA_SHORT, "a short area");
+            expect_refusal(store, EXAMPLE[i].line, room, TIMETABLE_REFUSED_AREA_SHORT, "a short area");
         }
         expect_answer(store, EXAMPLE[i].line, length, EXAMPLE[i].answer);
     }
     /* a smaller number comes first */
-    expect_refusal(store, "(query a)", 0, TIMETABLE_BAD_PATH, "a short area");
+    expect_refusal(store, "(query a)", 0, TIMETABLE_REFUSED_BAD_PATH, "a short area");
     give_back_store(store);
 }
 
 /* 13, whatever the line and the area are; 13 comes first */
 static void expect_damaged(struct store store, const char *what) {
-    char long_line[1026];
+    char long_line[TIMETABLE_MAX_LINE_BYTES + 2];
     memset(long_line, 'x', sizeof long_line - 1);
     long_line[sizeof long_line - 1] = '\0';
     const char *const lines[] = {"(view)", "(subject x)", "(root r)", "(user SHA)", "", "\n", long_line};
     for (size_t i = 0; i < sizeof lines / sizeof lines[0]; i++) {
-        expect_refusal(store, lines[i], i % 2 == 0 ? 100 : 0, TIMETABLE_BAD_STORE, what);
+        expect_refusal(store, lines[i], i % 2 == 0 ? 100 : 0, TIMETABLE_REFUSED_BAD_STORE, what);
     }
 }
 
@@ -236,7 +245,7 @@ static void damaged_table(struct store sound, size_t at, uint8_t value, const ch
 }
 
 static void state_lengths(void) {
-    const size_t lengths[] = {0, 1, 8, STATE_BYTES - 1, STATE_BYTES + 1, 2 * STATE_BYTES};
+    const size_t lengths[] = {0, 1, 8, TIMETABLE_STATE_BYTES - 1, TIMETABLE_STATE_BYTES + 1, 2 * TIMETABLE_STATE_BYTES};
     for (size_t i = 0; i < sizeof lengths / sizeof lengths[0]; i++) {
         struct store store = {lend(lengths[i], 0), lend(TIMETABLE_TABLE_BYTES(20), 0)};
         expect_damaged(store, "a state of another length");
@@ -308,8 +317,8 @@ static void damaged_policies(void) {
     damaged_state(sound, RULES + STEPS, 2, "a step that is neither / nor //");
     damaged_state(sound, RULES + STEPS + 2, '[', "a bracket in a rule");
     damaged_state(sound, last_step + RECORD_BYTES, 1, "a byte behind a rule's steps");
-    damaged_state(sound, STATE_BYTES - 1, 1, "the last byte");
-    for (size_t at = RULES + 4 * RULE_BYTES; at < STATE_BYTES; at += 997) {
+    damaged_state(sound, TIMETABLE_STATE_BYTES - 1, 1, "the last byte");
+    for (size_t at = RULES + 4 * RULE_BYTES; at < TIMETABLE_STATE_BYTES; at += 997) {
         damaged_state(sound, at, 1, "a byte that is not in use");
     }
 
@@ -363,7 +372,7 @@ static void damaged_tables(void) {
     give_back_store(store);
 
     store = school(LOGGED_IN, TIMETABLE_TABLE_BYTES(SCHOOL_NODES));
-    expect_refusal(store, "(child (x))", 100, TIMETABLE_WRONG_STAGE, "a full table");
+    expect_refusal(store, "(child (x))", 100, TIMETABLE_REFUSED_WRONG_STAGE, "a full table");
     store.table.bytes[0] = SCHOOL_NODES + 1;
     expect_damaged(store, "a count one above the capacity");
     give_back_store(store);
@@ -390,77 +399,213 @@ static void damaged_tables(void) {
 static void sound_stores(void) {
     struct store store = new_store(4);
     expect_answer(store, "(subject x)", 5, "(ok)\n");
-    expect_refusal(store, "(root r)", 5, TIMETABLE_TABLE_FULL, "a table of 4 bytes");
+    expect_refusal(store, "(root r)", 5, TIMETABLE_REFUSED_TABLE_FULL, "a table of 4 bytes");
     give_back_store(store);
 
     store = new_store(TIMETABLE_TABLE_BYTES(1));
     store.state.bytes[STAGE] = B; /* no rule is needed for it */
-    expect_refusal(store, "(subject x)", 5, TIMETABLE_WRONG_STAGE, "stage B");
+    expect_refusal(store, "(subject x)", 5, TIMETABLE_REFUSED_WRONG_STAGE, "stage B");
     expect_answer(store, "(root r)", 5, "(ok)\n");
     give_back_store(store);
 }
 
-static void lines_of_1024(void) {
+static void longest_lines(void) {
     struct store store = new_store(TIMETABLE_TABLE_BYTES(20));
-    char line[1026];
-    memset(line, 'x', 1025);
-    line[1025] = '\0';
-    expect_refusal(store, line, 100, TIMETABLE_LINE_BYTES, "1,025 bytes");
-    line[1024] = '\0';
-    expect_refusal(store, line, 100, TIMETABLE_NO_FORM, "1,024 bytes");
-    expect_refusal(store, "", 100, TIMETABLE_NO_FORM, "no bytes");
-    expect_refusal(store, "(subject x)\n", 100, TIMETABLE_LINE_BYTES, "a line feed");
-    expect_refusal(store, "(subject \x7f)", 100, TIMETABLE_LINE_BYTES, "byte 127");
+    char line[TIMETABLE_MAX_LINE_BYTES + 2];
+    memset(line, 'x', sizeof line);
+    line[TIMETABLE_MAX_LINE_BYTES + 1] = '\0';
+    expect_refusal(store, line, 100, TIMETABLE_REFUSED_BAD_LINE, "1,025 bytes");
+    line[TIMETABLE_MAX_LINE_BYTES] = '\0';
+    expect_refusal(store, line, 100, TIMETABLE_REFUSED_NO_FORM, "1,024 bytes");
+    expect_refusal(store, "", 100, TIMETABLE_REFUSED_NO_FORM, "no bytes");
+    expect_refusal(store, "(subject x)\n", 100, TIMETABLE_REFUSED_BAD_LINE, "a line feed");
+    expect_refusal(store, "(subject \x7f)", 100, TIMETABLE_REFUSED_BAD_LINE, "byte 127");
     give_back_store(store);
 }
 
-/* A table of all 16,384 records with the longest labels: the longest view, and the most stack. */
+/* Paths of 16 steps, the last one with another such path in brackets, and so on */
+static void write_path(char *path, int nesting) {
+    strcpy(path, "/");
+    for (int depth = 0; depth <= nesting; depth++) {
+        strcat(path, depth == 0 ? "/*" : "[*");
+        for (int step = 1; step < 16; step++) {
+            strcat(path, "//*");
+        }
+    }
+    for (int depth = 0; depth < nesting; depth++) {
+        strcat(path, "]");
+    }
+}
+
+static void write_line(char *line, const char *word, const char *path, const char *rest) {
+    sprintf(line, "(%s %s%s)", word, path, rest);
+}
+
+/* A table of all 16,384 records with the longest labels: the longest view. */
 static void largest_table(void) {
     static const char label[] = "abcdefghijklmnopqrstuvwx";
-    struct store store = new_store(TIMETABLE_TABLE_BYTES(RECORDS_MAX + 1) + 31);
-    struct lent area = lend(TIMETABLE_AREA_BYTES(RECORDS_MAX), OLD);
+    struct store store = new_store(TIMETABLE_TABLE_BYTES(TIMETABLE_MAX_RECORDS + 1) + 31);
+    struct lent area = lend(TIMETABLE_AREA_BYTES(TIMETABLE_MAX_RECORDS + 1), OLD);
     expect_answer(store, "(subject x)", 5, "(ok)\n");
     expect_answer(store, "(rule accept read //* x)", 5, "(ok)\n");
     expect_answer(store, "(rule accept update //* x)", 5, "(ok)\n");
     expect_answer(store, "(rule accept insert //* x)", 5, "(ok)\n");
     expect_answer(store, "(root abcdefghijklmnopqrstuvwx)", 5, "(ok)\n");
-    store.table.bytes[0] = RECORDS_MAX & 255;
-    store.table.bytes[1] = RECORDS_MAX >> 8;
-    for (size_t i = 1; i < RECORDS_MAX; i++) {
+    store.table.bytes[0] = TIMETABLE_MAX_RECORDS & 255;
+    store.table.bytes[1] = TIMETABLE_MAX_RECORDS >> 8;
+    for (size_t i = 1; i < TIMETABLE_MAX_RECORDS; i++) {
         store.table.bytes[RECORDS + i * RECORD_BYTES] = 1;
         write_label(store.table.bytes + RECORDS + i * RECORD_BYTES, label);
     }
-    expect_refusal(store, "(child (x))", 5, TIMETABLE_TABLE_FULL, "16,384 records");
+    expect_refusal(store, "(child (x))", 5, TIMETABLE_REFUSED_TABLE_FULL, "16,384 records");
     expect_answer(store, "(user x)", 5, "(ok)\n");
 
-    size_t length = strlen("(root )\n") + 24 + (RECORDS_MAX - 1) * (strlen("(child ())\n") + 24) + strlen("(end 16384)\n");
+    size_t root = strlen("(root )\n") + 24;
+    size_t child = strlen("(child ())\n") + 24;
+    size_t length = root + (TIMETABLE_MAX_RECORDS - 1) * child + strlen("(end 16384)\n");
     CHECK("the longest view", call(store, "(view)", area) == (int64_t)length && length <= area.length);
-    expect_refusal(store, "(view)", length - 1, TIMETABLE_AREA_SHORT, "the longest view");
+    expect_refusal(store, "(view)", length - 1, TIMETABLE_REFUSED_AREA_SHORT, "the longest view");
     CHECK("the longest query", call(store, "(query //*)", area) > 0);
 
-    char nested[512] = "(update //*";
-    for (int depth = 0; depth < 3; depth++) {
-        strcat(nested, "[*//*//*//*//*//*//*//*//*//*//*//*//*//*//*//*");
-    }
-    strcat(nested, "]]] y)");
+    char path[256];
+    char nested[TIMETABLE_MAX_LINE_BYTES];
+    write_path(path, 3);
+    write_line(nested, "update", path, " y");
     expect_answer(store, nested, 100, "(done 0 0)\n");
     expect_answer(store, "(update /*[*[1]][*[1]] y)", 100, "(done 1 16383)\n");
-    expect_refusal(store, "(append //*[1] (a (b (c))))", 100, TIMETABLE_TABLE_FULL, "16,384 records");
+    expect_refusal(store, "(append //*[1] (a (b (c))))", 100, TIMETABLE_REFUSED_TABLE_FULL, "16,384 records");
     expect_answer(store, "(update /* z)", 100, "(done 1 16383)\n");
     give_back(area);
     give_back_store(store);
 }
 
-int main(void) {
-    CHECK("the bytes of a state", timetable_state_bytes() == STATE_BYTES);
+/* The stack. A call runs on one that was painted before; the lowest byte without paint tells how much it took. */
+
+enum { PAINT = 0xc5 };
+
+static uint8_t stack[4 * 1024 * 1024];
+
+static struct {
+    ucontext_t caller;
+    struct store store;
+    const char *line;
+    struct lent area;
+    int64_t returned;
+} painted;
+
+static void call_on_paint(void) {
+    struct store store = painted.store;
+    painted.returned =
+        timetable_line(store.state.bytes, store.state.length, store.table.bytes, store.table.length,
+                       (const uint8_t *)painted.line, strlen(painted.line), painted.area.bytes, painted.area.length);
+}
+
+/* The bytes of stack that an accepted line takes */
+static size_t stack_of(struct store store, const char *line) {
+    ucontext_t callee;
+    painted.store = copy_store(store);
+    painted.line = line;
+    painted.area = lend(TIMETABLE_AREA_BYTES(20), OLD);
+    memset(stack, PAINT, sizeof stack);
+    CHECK(line, getcontext(&callee) == 0);
+    callee.uc_stack.ss_sp = stack;
+    callee.uc_stack.ss_size = sizeof stack;
+    callee.uc_link = &painted.caller;
+    makecontext(&callee, call_on_paint, 0);
+    CHECK(line, swapcontext(&painted.caller, &callee) == 0);
+    CHECK(line, painted.returned > 0);
+    calls++;
+    give_back_store(painted.store);
+    give_back(painted.area);
+    size_t kept = 0;
+    while (stack[kept] == PAINT) {
+        kept++;
+    }
+    CHECK(line, kept > 0);
+    return sizeof stack - kept;
+}
+
+/* The most that any form takes, with paths of 16 steps in brackets nested so deep */
+static size_t most_stack(struct store store, int nesting) {
+    static const struct {
+        const char *word;
+        const char *rest;
+    } forms[] = {{"query", ""},      {"find", ""},       {"rename", " y"},  {"update", " y"},
+                 {"append", " (y)"}, {"before", " (y)"}, {"after", " (y)"}, {"remove", ""}};
+    char path[256];
+    char line[TIMETABLE_MAX_LINE_BYTES];
+    size_t most = stack_of(store, "(view)");
+    write_path(path, nesting);
+    for (size_t i = 0; i < sizeof forms / sizeof forms[0]; i++) {
+        write_line(line, forms[i].word, path, forms[i].rest);
+        size_t used = stack_of(store, line);
+        most = used > most ? used : most;
+    }
+    return most;
+}
+
+/* The header asks for an eighth more than the most, and for less than twice as much. */
+static void stack_of_calls(void) {
+    struct store store = full_school();
+    size_t without = most_stack(store, 0);
+    size_t most = most_stack(store, 3);
+    CHECK("the stack that the header asks for", most > without);
+    CHECK("the stack that the header asks for", most + most / 8 <= TIMETABLE_STACK_BYTES);
+    CHECK("the stack that the header asks for", TIMETABLE_STACK_BYTES < 2 * most);
+    printf("stack: %lu KiB, without brackets %lu KiB\n", (unsigned long)(most + 1023) / 1024,
+           (unsigned long)(without + 1023) / 1024);
+    give_back_store(store);
+}
+
+/* The header */
+
+enum { REFUSALS = 13 };
+
+static void texts_of_refusals(void) {
+    const char *unknown = timetable_refusal_text(0);
+    const int64_t others[] = {-REFUSALS, -1, REFUSALS + 1, INT64_MIN, INT64_MAX};
+    for (size_t i = 0; i < sizeof others / sizeof others[0]; i++) {
+        CHECK("an unknown refusal", strcmp(timetable_refusal_text(others[i]), unknown) == 0);
+    }
+    for (int64_t number = 1; number <= REFUSALS; number++) {
+        CHECK("a refusal", strcmp(timetable_refusal_text(number), unknown) != 0);
+    }
+}
+
+static void print_refusals(void) {
+    for (int number = 1; number <= REFUSALS; number++) {
+        printf("%d %s\n", number, timetable_refusal_text(number));
+    }
+}
+
+static void sizes(void) {
+    int major, minor, patch;
+    char rest;
+    CHECK("the bytes of a state", timetable_state_bytes() == TIMETABLE_STATE_BYTES && timetable_library_fits());
+    CHECK("an area", TIMETABLE_AREA_BYTES(0) == 12 && TIMETABLE_AREA_BYTES(1) == 12 + 35);
+    CHECK("an area", TIMETABLE_AREA_BYTES(TIMETABLE_MAX_RECORDS - 1) < TIMETABLE_AREA_BYTES(TIMETABLE_MAX_RECORDS));
+    CHECK("an area", TIMETABLE_AREA_BYTES(TIMETABLE_MAX_RECORDS + 1) == TIMETABLE_AREA_BYTES(TIMETABLE_MAX_RECORDS));
+    CHECK("an area", TIMETABLE_AREA_BYTES(-1) == TIMETABLE_AREA_BYTES(TIMETABLE_MAX_RECORDS));
+    CHECK("the version", sscanf(TIMETABLE_VERSION, "%d.%d.%d%c", &major, &minor, &patch, &rest) == 3);
+    CHECK("the version", TIMETABLE_VERSION_NUMBER == major * 1000000 + minor * 1000 + patch);
+}
+
+int main(int argc, char **argv) {
+    if (argc == 2 && strcmp(argv[1], "refusals") == 0) {
+        print_refusals();
+        return 0;
+    }
+    sizes();
+    texts_of_refusals();
     short_areas();
     state_lengths();
     damaged_sessions();
     damaged_policies();
     damaged_tables();
     sound_stores();
-    lines_of_1024();
+    longest_lines();
     largest_table();
+    stack_of_calls();
     printf("%lu calls as expected\n", calls);
     return 0;
 }

@@ -21,9 +21,9 @@ view_in_c() {
     compile "$work/view_c" "$root/examples/view.c" && prints_view "$work/view_c"
 }
 
-# The stack that include/timetable.h asks for, 2 MiB, is all that there is.
+# The stack that include/timetable.h asks for is all that there is.
 calls_in_c() {
-    compile "$work/library" "$root/tests/library.c" && (ulimit -s 2048 && "$work/library")
+    compile "$work/library" "$root/tests/library.c" && (ulimit -s 1280 && "$work/library")
 }
 
 # rust COMMAND WORDS..: cargo on the wrapper, which takes nothing from a registry

@@ -20,8 +20,8 @@ const SCHOOL: [&str; 10] = [
 fn main() -> Result<(), Box<dyn Error>> {
     let mut store = Store::new(1024);
     for line in SCHOOL {
-        store.line(line.as_bytes())?;
+        store.line(line)?;
     }
-    std::io::stdout().write_all(&store.line(b"(view)")?)?;
+    std::io::stdout().write_all(&store.line("(view)")?)?;
     Ok(())
 }

@@ -1,22 +1,95 @@
-//! The wrapper: answers, refusals, and bytes that are no store.
+//! The wrapper: answers, refusals, bytes that are not those of a store, and what it shares with header and README.md.
 
-use louvretansy::{area_bytes, line, state_bytes, table_bytes, Refusal, Store};
+use louvretansy::{
+    area_bytes, library_fits, line, state_bytes, table_bytes, Refusal, Store, UnknownRefusal, MAX_LINE_BYTES,
+    MAX_RECORDS, STACK_BYTES, STATE_BYTES, VERSION,
+};
+use std::collections::HashMap;
+use std::fs;
+use std::path::Path;
+use std::thread;
 
 /// A store of so many records with a reader, who is logged in.
 fn small_school(records: usize) -> Store {
     let mut store = Store::new(records);
-    for line in ["(subject staff)", "(rule accept read //* staff)", "(rule accept insert //* staff)", "(root school)", "(child (mon))", "(user staff)"] {
+    for line in [
+        "(subject staff)",
+        "(rule accept read //* staff)",
+        "(rule accept insert //* staff)",
+        "(root school)",
+        "(child (mon))",
+        "(user staff)",
+    ] {
         assert_eq!(store.line(line.as_bytes()), Ok(b"(ok)\n".to_vec()), "{line}");
     }
     store
 }
 
+/// A file of the repository.
+fn page(name: &str) -> String {
+    let path = Path::new(env!("CARGO_MANIFEST_DIR")).join("../..").join(name);
+    fs::read_to_string(&path).unwrap_or_else(|error| panic!("{}: {error}", path.display()))
+}
+
 #[test]
-fn refusals_have_their_numbers() {
-    for (number, refusal) in (1..).zip(Refusal::ALL) {
-        assert_eq!(refusal.number(), number);
-        assert!(refusal.to_string().starts_with(&format!("refused {number}: ")));
+fn refusals_have_the_numbers_and_reasons_of_the_readme() {
+    let readme = page("README.md");
+    let mut rows = readme.lines().filter_map(|row| {
+        let mut cells = row.strip_prefix("| ")?.split(" | ");
+        let number = cells.next()?.parse::<u64>().ok()?;
+        let reason = cells.next()?;
+        cells.next()?.strip_prefix('`')?;
+        Some((number, reason.strip_suffix(" (library alone)").unwrap_or(reason)))
+    });
+    for &refusal in Refusal::ALL {
+        assert_eq!(Some((refusal.number(), refusal.reason())), rows.next());
+        assert_eq!(Refusal::try_from(refusal.number()), Ok(refusal));
+        assert_eq!(refusal.to_string(), format!("refused {}: {}", refusal.number(), refusal.reason()));
     }
+    assert_eq!(rows.next(), None);
+}
+
+#[test]
+fn a_number_that_no_refusal_has_is_an_error() {
+    for number in [0, 14, u64::MAX] {
+        assert_eq!(Refusal::try_from(number), Err(UnknownRefusal(number)));
+        assert_eq!(Refusal::Unknown(number).number(), number);
+    }
+    assert_eq!(UnknownRefusal(14).to_string(), "no refusal has the number 14");
+    assert!(Refusal::Unknown(14).to_string().starts_with("refused 14: "));
+}
+
+#[test]
+fn sizes_and_version_are_those_of_the_header() {
+    let header = page("include/timetable.h");
+    let mut defined = HashMap::new();
+    for line in header.lines() {
+        if let [name, value] = line.strip_prefix("#define TIMETABLE_").unwrap_or("").split(' ').collect::<Vec<_>>()[..]
+        {
+            defined.insert(name, value.trim_matches('"'));
+        }
+    }
+    assert_eq!(defined["VERSION"], VERSION);
+    assert_eq!(defined["MAX_LINE_BYTES"], MAX_LINE_BYTES.to_string());
+    assert_eq!(defined["MAX_RECORDS"], MAX_RECORDS.to_string());
+    assert_eq!(defined["STATE_BYTES"], STATE_BYTES.to_string());
+    assert_eq!(defined["STACK_BYTES"], STACK_BYTES.to_string());
+    assert!(library_fits() && state_bytes() == STATE_BYTES);
+    assert_eq!(area_bytes(MAX_RECORDS + 1), area_bytes(MAX_RECORDS));
+}
+
+#[test]
+fn a_store_shows_sizes_and_no_labels() {
+    assert_eq!(format!("{:?}", small_school(2)), "Store { state_bytes: 68880, table_bytes: 68, .. }");
+}
+
+#[test]
+fn a_thread_with_the_stack_that_is_asked_for_is_enough() {
+    let steps = "//*".repeat(15);
+    let path = format!("//*{steps}[*{steps}[*{steps}[*{steps}]]]");
+    let answer = move || small_school(2).line(format!("(update {path} x)"));
+    let thread = thread::Builder::new().stack_size(STACK_BYTES).spawn(answer).expect("a thread");
+    assert_eq!(thread.join().expect("it ends"), Ok(b"(done 0 0)\n".to_vec()));
 }
 
 #[test]
@@ -25,7 +98,7 @@ fn each_refusal_comes_with_its_number_and_changes_nothing() {
     let mut empty = Store::new(2);
     let levels = "(a ".repeat(11) + "(a" + &")".repeat(12);
     let refused = [
-        (&school, "(view)\n".to_string(), Refusal::LineBytes),
+        (&school, "(view)\n".to_string(), Refusal::BadLine),
         (&school, "(look)".to_string(), Refusal::NoForm),
         (&school, "(subject SHA)".to_string(), Refusal::WrongStage),
         (&school, "(query //*[0])".to_string(), Refusal::BadPath),
