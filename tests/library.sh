@@ -1,15 +1,22 @@
 #!/usr/bin/env bash
-# library.sh [ARCHIVE]: the static library through C and Rust: both examples print a reader's view, tests/library.c and the wrapper's own tests pass. Without an
-# archive it has rt write target/staticlib/liblouvretansy.a. Warnings are errors. Ends with `N passed, M failed`. Needs gcc and cargo, and rt for the archive.
+# library.sh [ARCHIVE]: the library for others. The header in C and C++, tests/library.c, the stack, the texts of the
+# refusals; the wrapper in Rust; what make builds, installs and packs, and the examples linked with the installed tree.
+# Without an archive it has rt write target/staticlib/liblouvretansy.a. Warnings are errors. Ends with `N passed, M
+# failed`. Needs gcc, g++, make, pkg-config, git and cargo with clippy and rustfmt, and rt for the archive.
 set -u
 root=$(cd "$(dirname "${BASH_SOURCE[0]}")/.." && pwd)
 work=$(mktemp -d)
 trap 'rm -rf "$work"' EXIT
 source "$root/tests/count.sh"
 
-# compile PROGRAM SOURCE: a C program over the library
-compile() {
-    gcc -std=c99 -Wall -Wextra -Wpedantic -Wconversion -Werror -O2 -I "$root/include" -o "$1" "$2" "$archive"
+header=$root/include/timetable.h
+wrapper=$root/bindings/rust
+export RUSTFLAGS='-D warnings' RUSTDOCFLAGS='-D warnings'
+strict=(-Wall -Wextra -Wpedantic -Wconversion -Wsign-conversion -Wshadow -Wundef -Werror -O2)
+
+# defined NAME: what the header defines it as
+defined() {
+    sed -n "s/^#define $1 \"\{0,1\}\([^\"]*\)\"\{0,1\}\$/\1/p" "$header"
 }
 
 # prints_view COMMAND..: whether it prints what SHA sees of the school of document 01
@@ -17,21 +24,169 @@ prints_view() {
     "$@" > "$work/printed" && diff "$work/view" "$work/printed"
 }
 
-view_in_c() {
-    compile "$work/view_c" "$root/examples/view.c" && prints_view "$work/view_c"
+# The header and the archive, in C and C++
+
+narrow_header() {
+    ! grep -nE '.{121}' "$header"
 }
 
-# The stack that include/timetable.h asks for is all that there is.
-calls_in_c() {
-    compile "$work/library" "$root/tests/library.c" && (ulimit -s 1280 && "$work/library")
+view_in_c() {
+    gcc -std=c99 "${strict[@]}" -I "$root/include" -o "$work/view_c" "$root/examples/view.c" "$archive" &&
+        prints_view "$work/view_c"
 }
+
+view_in_cpp() {
+    cp "$root/examples/view.c" "$work/view.cpp" &&
+        g++ -std=c++11 "${strict[@]}" -I "$root/include" -o "$work/view_cpp" "$work/view.cpp" "$archive" &&
+        prints_view "$work/view_cpp"
+}
+
+# The stack that the header asks for is all that there is.
+calls_in_c() {
+    gcc -std=c99 "${strict[@]}" -I "$root/include" -o "$work/library" "$root/tests/library.c" "$archive" &&
+        (ulimit -s $(($(defined TIMETABLE_STACK_BYTES) / 1024)) && env -i "$work/library" > "$work/calls") &&
+        cat "$work/calls"
+}
+
+# The header tells the figures of tests/library.c, up to a tenth.
+stack_as_told() {
+    local measured told i
+    mapfile -t measured < <(grep -oE '[0-9]+ KiB' "$work/calls" | tr -dc '0-9\n')
+    mapfile -t told < <(grep -oE '[0-9,]+ KiB' "$header" | tr -dc '0-9\n')
+    [ "${#measured[@]}" -eq 2 ] && [ "${#told[@]}" -eq 2 ] || return 1
+    for i in 0 1; do
+        if [ $((told[i] * 10)) -lt $((measured[i] * 9)) ] || [ $((told[i] * 10)) -gt $((measured[i] * 11)) ]; then
+            echo "the header tells ${told[i]} KiB, measured are ${measured[i]} KiB"
+            return 1
+        fi
+    done
+}
+
+texts_as_told() {
+    sed -nE 's/^\| ([0-9]+) \| (.*) \| `.*$/\1 \2/p' "$root/README.md" | sed 's/ (library alone)$//' > "$work/told"
+    "$work/library" refusals > "$work/texts" && diff "$work/told" "$work/texts"
+}
+
+# The wrapper in Rust
 
 # rust COMMAND WORDS..: cargo on the wrapper, which takes nothing from a registry
 rust() {
     local command=$1
     shift
-    LOUVRETANSY_ARCHIVE=$archive CARGO_TARGET_DIR=$root/target/bindings RUSTFLAGS='-D warnings' RUSTDOCFLAGS='-D warnings' \
-        cargo "$command" --quiet --offline --manifest-path "$root/bindings/rust/Cargo.toml" "$@"
+    LOUVRETANSY_ARCHIVE=$archive CARGO_TARGET_DIR=$root/target/bindings \
+        cargo "$command" --quiet --offline --manifest-path "$wrapper/Cargo.toml" "$@"
+}
+
+# rust_alone COMMAND WORDS..: the same on a copy outside the repository, where no archive is named or built
+rust_alone() {
+    local command=$1
+    shift
+    env -u LOUVRETANSY_ARCHIVE CARGO_TARGET_DIR="$work/alone/made" \
+        cargo "$command" --offline --manifest-path "$work/alone/bindings/rust/Cargo.toml" "$@" 2> "$work/said"
+}
+
+# uninstalled COMMAND..: where pkg-config finds nothing
+uninstalled() {
+    PKG_CONFIG_LIBDIR=$work/nowhere PKG_CONFIG_PATH='' "$@"
+}
+
+# It is checked and documented; what must be linked says what is missing.
+wrapper_alone() {
+    mkdir -p "$work/alone/bindings/rust" || return 1
+    (cd "$wrapper" && cp -r Cargo.* build.rs src examples tests "$work/alone/bindings/rust") || return 1
+    if ! uninstalled rust_alone check --all-targets || ! uninstalled rust_alone doc --no-deps; then
+        cat "$work/said"
+        return 1
+    fi
+    [ -f "$work/alone/made/doc/louvretansy/enum.Refusal.html" ] && ! uninstalled rust_alone build &&
+        grep -q 'there is no liblouvretansy.a to link with' "$work/said"
+}
+
+wrapper_tidy() {
+    rust clippy --all-targets -- -D warnings -W clippy::pedantic && rust doc --no-deps &&
+        cargo fmt --check --manifest-path "$wrapper/Cargo.toml"
+}
+
+# The installed tree: below $tree, by the prefix /opt/school
+
+prefix=/opt/school
+tree=$work/tree
+
+# made FOLDER TARGET WORDS..: make, with the archive at hand
+made() {
+    local folder=$1
+    shift
+    make --silent -C "$folder" ARCHIVE="$archive" BUILD="$work/build" DIST="$work/dist" DESTDIR="$tree" PREFIX=$prefix \
+        "$@"
+}
+
+# in_tree COMMAND..: where pkg-config and the loader look into the installed tree alone
+in_tree() {
+    PKG_CONFIG_LIBDIR=$tree$prefix/lib/pkgconfig PKG_CONFIG_PATH='' PKG_CONFIG_SYSROOT_DIR=$tree \
+        LD_LIBRARY_PATH=$tree$prefix/lib "$@"
+}
+
+# installed_is FILE..: these files, below the prefix, and no others
+installed_is() {
+    diff <(printf "$prefix/%s\n" "$@" | sort) <(cd "$tree" && find . ! -type d | sed 's/^\.//' | sort)
+}
+
+# The library's files by their names; then whether only its two functions are seen from outside
+install_tree() {
+    local version soname so
+    version=$(defined TIMETABLE_VERSION)
+    soname=liblouvretansy.so.${version%.*}
+    so=$tree$prefix/lib/liblouvretansy.so
+    local files=(include/timetable.h lib/liblouvretansy.a lib/liblouvretansy.so "lib/$soname"
+        "lib/liblouvretansy.so.$version" lib/pkgconfig/louvretansy.pc share/doc/louvretansy/FORMAT.md
+        share/man/man1/timetable.1)
+    [ ! -f "$root/LICENSE" ] || files+=(share/doc/louvretansy/LICENSE)
+    made "$root" PROGRAM="$work/none" install > /dev/null && installed_is "${files[@]}" &&
+        made "$root" PROGRAM="$work/view_c" install && installed_is bin/timetable "${files[@]}" &&
+        readelf -d "$so" | grep -qF "Library soname: [$soname]" &&
+        [ "$(nm -D --defined-only "$so" | cut -d ' ' -f 3 | xargs)" = 'timetable_line timetable_state_bytes' ] &&
+        [ "$(in_tree pkg-config --modversion louvretansy)" = "$version" ]
+}
+
+# examples/view.c, as somebody else would build it
+view_shared() {
+    # shellcheck disable=SC2046
+    gcc -o "$work/view_shared" "$root/examples/view.c" $(in_tree pkg-config --cflags --libs louvretansy) &&
+        in_tree prints_view "$work/view_shared" &&
+        readelf -d "$work/view_shared" | grep -q 'NEEDED.*\[liblouvretansy\.so\.[0-9]*\.[0-9]*\]'
+}
+
+view_static() {
+    # shellcheck disable=SC2046
+    gcc -static -o "$work/view_static" "$root/examples/view.c" \
+        $(in_tree pkg-config --static --cflags --libs louvretansy) &&
+        prints_view "$work/view_static" && ! readelf -d "$work/view_static" | grep -q NEEDED
+}
+
+view_in_rust_installed() {
+    in_tree prints_view rust_alone run --example view || { cat "$work/said" && false; }
+}
+
+uninstall_tree() {
+    made "$root" uninstall && [ -z "$(find "$tree" ! -type d)" ] && [ ! -e "$tree$prefix/share/doc/louvretansy" ] &&
+        made "$root" uninstall
+}
+
+# The same commit gives the same bytes; what is packed can be installed; changes that no commit has are told.
+packed() {
+    local release
+    release=louvretansy-$(defined TIMETABLE_VERSION)
+    mkdir -p "$work/repository" "$work/unpacked" || return 1
+    (cd "$root" && cp -r Makefile crates.txt docs examples include packaging "$work/repository") || return 1
+    local git=(git -C "$work/repository" -c user.name=tests -c user.email=tests@localhost -c init.defaultBranch=main)
+    "${git[@]}" init --quiet && "${git[@]}" add -A && "${git[@]}" commit --quiet -m 'tests' &&
+        made "$work/repository" dist && (cd "$work/dist" && sha256sum --quiet -c "$release.tar.gz.sha256") &&
+        cp "$work/dist/$release.tar.gz.sha256" "$work/first" && made "$work/repository" dist &&
+        cmp "$work/first" "$work/dist/$release.tar.gz.sha256" &&
+        tar -xzf "$work/dist/$release.tar.gz" -C "$work/unpacked" &&
+        made "$work/unpacked/$release" PROGRAM="$work/none" install > /dev/null && view_shared &&
+        echo >> "$work/repository/Makefile" && ! made "$work/repository" dist > "$work/said" 2>&1 &&
+        grep -q 'commit them first' "$work/said"
 }
 
 cat > "$work/view" << 'END'
@@ -48,8 +203,20 @@ elif ! (cd "$root" && rt staticlib louvretansy > "$work/log" 2>&1); then
     echo "0 passed, 1 failed"
     exit 1
 fi
+run 'the header is 120 columns wide' narrow_header
 run 'a view in C' view_in_c
-run 'calls, short areas and damaged stores in C' calls_in_c
+run 'a view in C++' view_in_cpp
+run 'calls, short areas and damaged stores in C, on the stack that the header asks for' calls_in_c
+run 'the stack is what the header tells' stack_as_told
+run 'the texts of the refusals are those of README.md' texts_as_told
 run 'a view in Rust' prints_view rust run --example view
 run 'the wrapper in Rust' rust test
+run 'the wrapper is tidy' wrapper_tidy
+run 'the wrapper without the archive' wrapper_alone
+run 'make install' install_tree
+run 'a view with the installed shared library' view_shared
+run 'a view with the installed static library' view_static
+run 'a view in Rust with the installed library' view_in_rust_installed
+run 'make uninstall' uninstall_tree
+run 'make dist' packed
 counted
