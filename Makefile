@@ -81,7 +81,7 @@ uninstall:
 	if [ -d "$(DESTDIR)$(DOCDIR)" ]; then rmdir --ignore-fail-on-non-empty "$(DESTDIR)$(DOCDIR)"; fi
 
 dist:
-	@git diff-index --quiet HEAD -- || { echo "there are changes that no commit has: commit them first"; exit 1; }
+	@git diff --quiet HEAD || { echo "there are changes that no commit has: commit them first"; exit 1; }
 	mkdir -p $(DIST)
 	git archive --format=tar.gz --prefix=$(RELEASE)/ -o $(DIST)/$(RELEASE).tar.gz HEAD
 	cd $(DIST) && sha256sum $(RELEASE).tar.gz > $(RELEASE).tar.gz.sha256
