@@ -1,8 +1,8 @@
 #!/usr/bin/env bash
 # library.sh [ARCHIVE]: the library for others. The header in C and C++, tests/library.c, the stack, the texts of the
 # refusals; the wrapper in Rust; what make builds, installs and packs, and the examples linked with the installed tree.
-# Without an archive it has rt write target/staticlib/liblouvretansy.a. Warnings are errors. Ends with `N passed, M
-# failed`. Needs gcc, g++, make, pkg-config, git, and cargo with rustfmt (and clippy, if it is there); rt for the archive.
+# Without an archive it has rt write target/staticlib/liblouvretansy.a. Warnings are errors. Needs gcc, g++, make, git,
+# pkg-config, cargo with rustfmt (and clippy, if it is there), and rt for the archive. Ends with `N passed, M failed`.
 set -u
 root=$(cd "$(dirname "${BASH_SOURCE[0]}")/.." && pwd)
 work=$(mktemp -d)
