@@ -182,9 +182,11 @@ uninstall_tree() {
 packed() {
     local release
     release=louvretansy-$(defined TIMETABLE_VERSION)
-    mkdir -p "$work/repository" "$work/unpacked" || return 1
-    (cd "$root" && cp -r Makefile crates.txt docs examples include packaging "$work/repository") || return 1
-    local git=(git -C "$work/repository" -c user.name=tests -c user.email=tests@localhost -c init.defaultBranch=main)
+    mkdir -p "$work/repository/docs" "$work/unpacked" || return 1
+    (cd "$root" && cp -r Makefile crates.txt include packaging "$work/repository" &&
+        cp docs/timetable.1 docs/FORMAT.md "$work/repository/docs") || return 1
+    local git=(git -C "$work/repository" -c user.name=tests -c user.email=tests@localhost -c init.defaultBranch=main
+        -c commit.gpgsign=false)
     "${git[@]}" init --quiet && "${git[@]}" add -A && "${git[@]}" commit --quiet -m 'tests' &&
         made "$work/repository" dist && (cd "$work/dist" && sha256sum --quiet -c "$release.tar.gz.sha256") &&
         cp "$work/dist/$release.tar.gz.sha256" "$work/first" && made "$work/repository" dist &&
