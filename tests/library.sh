@@ -47,6 +47,22 @@ view_in_cpp() {
         prints_view "$work/view_cpp"
 }
 
+# A library whose state is of another size: the example says so, and asks it nothing.
+view_of_another_version() {
+    cat > "$work/another.c" << 'END'
+#include "timetable.h"
+#include <stdlib.h>
+size_t timetable_state_bytes(void) { return TIMETABLE_STATE_BYTES + 8; }
+int64_t timetable_line(uint8_t *s, size_t sl, uint8_t *t, size_t tl, const uint8_t *l, size_t ll, uint8_t *a, size_t al) {
+    (void)s, (void)sl, (void)t, (void)tl, (void)l, (void)ll, (void)a, (void)al;
+    abort();
+}
+END
+    gcc -I "$root/include" -o "$work/view_another" "$root/examples/view.c" "$work/another.c" || return 1
+    "$work/view_another" 2> "$work/said"
+    [ $? -eq 1 ] && grep -q 'the library is not one for timetable.h' "$work/said"
+}
+
 # The stack that the header asks for is all that there is.
 calls_in_c() {
     gcc -std=c99 "${strict[@]}" -I "$root/include" -o "$work/library" "$root/tests/library.c" "$archive" &&
@@ -215,6 +231,7 @@ run 'the header is 120 columns wide' narrow_header
 run 'the archive holds nothing between calls' archive_alone
 run 'a view in C' view_in_c
 run 'a view in C++' view_in_cpp
+run 'a library of another version' view_of_another_version
 run 'calls, short areas and damaged stores in C, on the stack that the header asks for' calls_in_c
 run 'the stack is what the header tells' stack_as_told
 run 'the texts of the refusals are those of README.md' texts_as_told
