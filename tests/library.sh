@@ -53,8 +53,8 @@ view_of_another_version() {
 #include "timetable.h"
 #include <stdlib.h>
 size_t timetable_state_bytes(void) { return TIMETABLE_STATE_BYTES + 8; }
-int64_t timetable_line(uint8_t *s, size_t sl, uint8_t *t, size_t tl, const uint8_t *l, size_t ll, uint8_t *a, size_t al) {
-    (void)s, (void)sl, (void)t, (void)tl, (void)l, (void)ll, (void)a, (void)al;
+int64_t timetable_line(uint8_t *a, size_t b, uint8_t *c, size_t d, const uint8_t *e, size_t f, uint8_t *g, size_t h) {
+    (void)a, (void)b, (void)c, (void)d, (void)e, (void)f, (void)g, (void)h;
     abort();
 }
 END
