@@ -252,9 +252,12 @@ class Refusals(Office):
                     self.assertIn(figure, texts[refusal.number] + "ASCII", refusal)
 
     def test_header(self):
-        rows = re.findall(r"TIMETABLE_(\w+) = (\d+),? +/\* (.*) \*/", read_page("include/timetable.h"))
-        self.assertEqual([(int(number), name) for name, number, _ in rows], [refusal[:2] for refusal in refusals.TABLE])
-        self.same_figures({int(number): text for _, number, text in rows})
+        page = read_page("include/timetable.h")
+        rows = re.findall(r"TIMETABLE_REFUSED_(\w+) = (\d+)", page)
+        self.assertEqual([(int(number), name) for name, number in rows], [refusal[:2] for refusal in refusals.TABLE])
+        rows = re.findall(r'case TIMETABLE_REFUSED_(\w+):\s+return ((?:"[^"]*"\s*)+);', page)
+        texts = [(name, "".join(re.findall(r'"([^"]*)"', text))) for name, text in rows]
+        self.assertEqual(texts, [refusal[1:] for refusal in refusals.TABLE])
 
     def test_readme(self):
         rows = re.findall(r"^\| (\d+) \| (.*?)(?: \(library alone\))? \| `", read_page("README.md"), re.M)

@@ -68,7 +68,7 @@ def read_lines(source: str) -> Lines:
 
 def form_of(text: bytes, refused: int | None = None) -> str | None:
     """The word of a line's form, where the library took the line for a form at all. No other word of it is told."""
-    if refused in (refusals.LINE_BYTES, refusals.NO_FORM, refusals.BAD_STORE):
+    if refused in (refusals.BAD_LINE, refusals.NO_FORM, refusals.BAD_STORE):
         return None
     word = _FORM.match(text)
     return word[1].decode("ascii") if word else None
@@ -77,7 +77,7 @@ def form_of(text: bytes, refused: int | None = None) -> str | None:
 def explain(text: bytes, number: int, session: Session) -> str:
     """What helps with a refused line, beyond the reason for its number; it may be nothing."""
     advisers = {
-        refusals.LINE_BYTES: _explain_bytes,
+        refusals.BAD_LINE: _explain_bytes,
         refusals.NO_FORM: _explain_form,
         refusals.WRONG_STAGE: _explain_stage,
         refusals.BAD_NAME: _explain_name,

@@ -1,7 +1,7 @@
 """The reasons why a line is refused: the one table of them.
 
-`constant` is the name in include/timetable.h behind `TIMETABLE_`; `reason` is the sentence of README.md, to be read
-after "the line is refused, since".
+`constant` is the name in include/timetable.h after `TIMETABLE_REFUSED_`; `reason` is the sentence of README.md, to be
+read after "the line is refused, since".
 """
 
 from typing import NamedTuple
@@ -16,7 +16,7 @@ class Refusal(NamedTuple):
 
 
 TABLE: tuple[Refusal, ...] = (
-    Refusal(1, "LINE_BYTES", "it has more than 1,024 bytes, or a byte that is no plain ASCII character"),
+    Refusal(1, "BAD_LINE", "it has more than 1,024 bytes, or a byte that is no plain ASCII character"),
     Refusal(2, "NO_FORM", "it is none of the forms: a wrong word, a bad label or tree, a space too many or too few"),
     Refusal(3, "WRONG_STAGE", "its form does not fit the stage: policy, root, children, work"),
     Refusal(4, "BAD_PATH", "its path is not well formed"),
@@ -40,7 +40,7 @@ TABLE: tuple[Refusal, ...] = (
     Refusal(13, "BAD_STORE", "the lent state or table is none, or the two do not agree"),
 )
 
-LINE_BYTES, NO_FORM, WRONG_STAGE, BAD_PATH, BAD_NAME, RULE_BRACKET, POLICY_FULL = range(1, 8)
+BAD_LINE, NO_FORM, WRONG_STAGE, BAD_PATH, BAD_NAME, RULE_BRACKET, POLICY_FULL = range(1, 8)
 NO_USER, BAD_LABEL, TOO_DEEP, TABLE_FULL, AREA_SHORT, BAD_STORE = range(8, 14)
 
 _BY_NUMBER = {refusal.number: refusal for refusal in TABLE}
