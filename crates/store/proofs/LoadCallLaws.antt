@@ -15,10 +15,9 @@ use Rattle.rights.proofs.ListLaws.{byCase}
 use Rattle.views.proofs.TableLaws.{facts}
 use Rattle.answers.specs.Answer.{okText}
 use Rattle.answers.specs.How.AnswerArea.{Answered}
-use Rattle.xml.specs.How.Scan.{deepest, tallyOf, documentKind}
+use Rattle.xml.specs.How.Loading as loading
+use Rattle.xml.specs.How.Loading.{deepest, tallyOf}
 use Rattle.xml.specs.How.Tokens.{isDocument, documentNodes}
-use Rattle.xml.specs.How.Writer as writer
-use Rattle.xml.specs.declared.document.Kind.the-variants.{NoDocument, Document}
 use Rattle.xml.specs.declared.document.Tally.{Tally}
 use Rattle.lines.specs.Outcome.{Made}
 use Rattle.lines.specs.Refusal.{Check, areaCheck, firstRefusal, Passed}
@@ -59,20 +58,6 @@ module _ (s t : List ℕ) where
   pub store-passed : {d : ℕ} → d ≡ firstRefusal (storeChecks s t) → d ≡ 0 → (storeOk s t ≡ true) × (stage s < 2)
   store-passed e z = let p = passed (storeChecks s t) _ refl e z in (not-false (storeOk s t) (p .0), leb-false 2 (stage s) (p .1 .0))
 
--- what the check of the document told
-
-module _ (xml : List ℕ) where
-  pub no-document : documentKind xml ≡ NoDocument → isDocument xml ≡ false
-  unfolding documentKind
-  no-document e = byCase (isDocument xml) (λ q. let z : Document (tallyOf (documentNodes xml)) ≡ NoDocument = rw q at e in let y : _≡_ {A = ℕ} 0 1 = cc in absurd (omega arith)) (λ q. q)
-
-  pub a-document : {n : Tally} → Document n ≡ documentKind xml → (isDocument xml ≡ true) × (n ≡ tallyOf (documentNodes xml))
-  unfolding documentKind
-  a-document {n} e =
-      byCase (isDocument xml)
-      (λ q. (q, (let z : Document n ≡ Document (tallyOf (documentNodes xml)) = rw q at e in cc)))
-      (λ q. let z : Document n ≡ NoDocument = rw q at e in let y : _≡_ {A = ℕ} 0 1 = cc in absurd (omega arith))
-
 module _ (s t xml : List ℕ) where
   -- all checks but 12, and what the call leaves where none of them fails
   abbrev ownChecks : List Check
@@ -110,7 +95,7 @@ module _ (s t xml : List ℕ) where
         own-passed = passed ownChecks _ refl (e ∙ own-checks) z
 
         -- what the writer of the document asks
-        pub document-fits : writer.Loadable xml t
+        pub document-fits : loading.Loadable xml t
         document-fits =
             let p = own-passed in
             let low = ltb-false 11 (deepest (documentNodes xml)) (deepest-told (documentNodes xml) ∙ p .1 .1 .1 .1 .0) in
