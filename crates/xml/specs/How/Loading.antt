@@ -27,6 +27,7 @@ isRestricted x = sameLabel (labelOf x) restricted
 abbrev pub tallyOf : List Node → Tally
 tallyOf xs = record { nodes = length xs; deepest = deepest xs; restricted = some isRestricted xs }
 
+-- the answer on any bytes
 unfoldable pub documentKind : List ℕ → Kind
 documentKind s = cond (isDocument s) (Document (tallyOf (documentNodes s))) NoDocument
 
