@@ -362,7 +362,7 @@ def add_format(parser: argparse.ArgumentParser, formats: dict[str, Any]) -> None
 
 
 def check_stack() -> None:
-    """The library needs 2 MiB of stack, and Python some more."""
+    """The library needs 1,280 KiB of stack, and Python some more."""
     limit = resource.getrlimit(resource.RLIMIT_STACK)[0]
     if limit != resource.RLIM_INFINITY and limit < STACK_BYTES:
         raise LibraryError(f"the stack is limited to {limit >> 10:,} KiB; `ulimit -s 8192` gives the library enough")

@@ -9,7 +9,7 @@
     except Refused as refused:
         print(refused)                           # refused 3: its form does not fit the stage: ..
 
-A call needs 2 MiB of stack, which the main thread has unless `ulimit -s` is set below that.
+A call needs 1,280 KiB of stack, which the main thread has unless `ulimit -s` is set below that.
 """
 
 from __future__ import annotations
