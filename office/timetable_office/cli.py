@@ -7,15 +7,19 @@ import json
 import os
 import resource
 import sys
+from datetime import datetime, timezone
 from typing import Any, Callable, Sequence, TextIO
 
 from timetable_office import __version__, refusals
+from timetable_office.checks import Checked, check_lines, findings_json, findings_text, has_tree
+from timetable_office.decisions import Decider
 from timetable_office.errors import DONE, INTERRUPTED, NOT_TAKEN, InputError, LibraryError, OfficeError, OutputError
 from timetable_office.export import export_lines, policy_lines
 from timetable_office.formats import LOG_FORMATS, VIEW_FORMATS
 from timetable_office.layout import load_library
 from timetable_office.library import LIBRARY_VARIABLE, RECORDS_MAXIMUM
 from timetable_office.lines import STANDARD_INPUT, Lines, read_lines
+from timetable_office.maps import Foot, map_page, write_page
 from timetable_office.publish import Published, publish_views
 from timetable_office.replace import replace_policy
 from timetable_office.runs import Answered, RefusedLine, run_lines
@@ -23,6 +27,7 @@ from timetable_office.state import read_policy
 from timetable_office.store import WAIT_SECONDS, Contents, Store, create_store
 from timetable_office.tree import read_table, read_view
 from timetable_office.views import view_of
+from timetable_office.why import explain_nodes, why_json, why_text
 
 PROGRAM = "timetable-office"
 STACK_BYTES = 4 << 20
@@ -31,8 +36,10 @@ _CLEAR_LINE, _RED, _PLAIN = "\r\x1b[K", "\x1b[31m", "\x1b[0m"
 _STATUS = """exit status:
   0  everything was done
   1  a line was refused or a name is unknown; the store is as it was, but for `run --keep-going`
+     (for `check`: something was found)
   2  the command line is wrong
   3  the store, the library or a file cannot be used; the store is as it was
+  4  the rules as timetable-office reads them do not give the view that the library shows; nothing is told
 """
 
 
@@ -230,6 +237,66 @@ def export(options: argparse.Namespace) -> int:
     return DONE
 
 
+def why(options: argparse.Namespace) -> int:
+    """Tells which rule decides each right of a reader on the nodes that a path selects in the stored tree."""
+    library = load_library(options.library)
+    with Store(options.store, options.wait) as store:
+        session = store.session(library)
+    explained = explain_nodes(session, options.name, options.path)
+    put(why_json(explained) if options.json else why_text(explained))
+    return DONE
+
+
+def check(options: argparse.Namespace) -> int:
+    """Tells what a policy writer gets wrong. The store stays as it is."""
+    library = load_library(options.library)
+    tree = None
+    if options.tree is not None:
+        with Store(options.tree, options.wait) as store:
+            tree = store.session(library)
+    if options.store != STANDARD_INPUT and is_database(options.store):
+        if tree is not None:
+            raise InputError("--tree is for the lines of a policy: a store has a tree of its own")
+        with Store(options.store, options.wait) as store:
+            checked = Checked(options.store, Decider(store.session(library)))
+    else:
+        checked = check_lines(library, take_lines(options.store), tree)
+    held = checked.decider.policy
+    found = checked.findings(show_progress(len(held.subjects)))
+    put(findings_json(checked, found) if options.json else findings_text(checked, found))
+    if not has_tree(checked.decider):
+        say(f"{checked.name}: note: there is no tree, so what the rules select is not checked")
+    rules, nodes = counted(len(held.rules), "rule"), counted(len(checked.decider.nodes), "node")
+    say(f"{checked.name}: {counted(len(found), 'finding')} in {rules} over {nodes}")
+    return NOT_TAKEN if found else DONE
+
+
+def make_map(options: argparse.Namespace) -> int:
+    """Writes the coloured map, nodes by subjects. The store stays as it is."""
+    library = load_library(options.library)
+    with Store(options.store, options.wait) as store:
+        session = store.session(library)
+    decider = Decider(session)
+    if not decider.nodes:
+        raise InputError("the store has no tree yet: give it root and child lines with `timetable-office run`")
+    decisions = decider.decide_all(show_progress(len(decider.policy.subjects)))
+    digest = Contents(session.state, session.table).digest().hex()[:12]
+    time = datetime.now(timezone.utc).strftime("%Y-%m-%d %H:%M UTC")
+    write_page(options.out, map_page(decider, decisions, Foot(os.path.basename(options.store), time, digest)))
+    nodes, subjects = counted(len(decider.nodes), "node"), counted(len(decisions), "subject")
+    say(f"{options.out}: {nodes} by {subjects}, for the office alone")
+    return DONE
+
+
+def is_database(path: str) -> bool:
+    """Whether a file is a store rather than a list of lines; one that cannot be read is told by whoever reads it."""
+    try:
+        with open(path, "rb") as file:
+            return b"\0" in file.read(100)
+    except OSError:
+        return False
+
+
 def record_count(text: str) -> int:
     """A number of records, for argparse."""
     digits = text.replace(",", "")
@@ -259,7 +326,11 @@ def make_parser() -> argparse.ArgumentParser:
     commands = parser.add_subparsers(title="commands", metavar="COMMAND", required=True)
 
     def command(
-        name: str, work: Callable[[argparse.Namespace], int], summary: str, text: str
+        name: str,
+        work: Callable[[argparse.Namespace], int],
+        summary: str,
+        text: str,
+        store: tuple[str, str] = ("STORE", "the file of the store"),
     ) -> argparse.ArgumentParser:
         """A command with what all commands have."""
         added = commands.add_parser(
@@ -270,7 +341,7 @@ def make_parser() -> argparse.ArgumentParser:
             epilog=_STATUS,
             formatter_class=argparse.RawDescriptionHelpFormatter,
         )
-        added.add_argument("store", metavar="STORE", help="the file of the store")
+        added.add_argument("store", metavar=store[0], help=store[1])
         added.set_defaults(work=work)
         return added
 
@@ -346,6 +417,37 @@ def make_parser() -> argparse.ArgumentParser:
         "Prints lines that give the policy and the tree of a store. They are tried on an empty store first.",
     )
     made.add_argument("--policy", action="store_true", help="the policy alone, for `policy` to read when it is edited")
+
+    made = command(
+        "check",
+        check,
+        "tell what a policy writer gets wrong (for the office alone)",
+        "Tells what is wrong, or may be, with a policy: rules that do nothing, words that no node has, labels that stay\n"
+        "readable, subjects without rules. A list of lines is run on a new store in memory.",
+        ("STORE|FILE", "a store, or a list of lines; - is standard input"),
+    )
+    made.add_argument("--tree", metavar="STORE", help="check the policy of a list of lines over the tree of this store")
+    made.add_argument("--json", action="store_true", help="print the findings as JSON")
+
+    made = command(
+        "why",
+        why,
+        "tell which rules decide on a node (for the office alone)",
+        "Tells for each node that a path selects in the stored tree, hidden ones too, which rule decides each right of\n"
+        "this subject, and which nodes above hide it. PATH is a path as commands have it: /school/mon/lesson[2]/room.",
+    )
+    made.add_argument("--as", dest="name", metavar="NAME", required=True, help="the subject that it is asked for")
+    made.add_argument("path", metavar="PATH", help="the nodes that it is asked for")
+    made.add_argument("--json", action="store_true", help="print it as JSON")
+
+    made = command(
+        "map",
+        make_map,
+        "write the coloured map, nodes by subjects (for the office alone)",
+        "Writes one HTML page that shows what every subject sees of every node, and may change there. It shows every\n"
+        "label of the stored tree, so it is for the office alone: only its owner can read the file.",
+    )
+    made.add_argument("--out", metavar="FILE.html", required=True, help="the page; an older map there is replaced")
     return parser
 
 

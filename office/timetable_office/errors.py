@@ -4,6 +4,7 @@
 DONE = 0
 NOT_TAKEN = 1
 UNUSABLE = 3
+DISAGREES = 4
 INTERRUPTED = 130
 
 
@@ -29,3 +30,9 @@ class StoreError(OfficeError):
 
 class OutputError(OfficeError):
     """The answer could not be written out."""
+
+
+class DisagreementError(OfficeError):
+    """What the companion worked out is not what the library shows, so nothing of it is told."""
+
+    status = DISAGREES

@@ -1,0 +1,234 @@
+"""Which rule decides each right of a reader on each node of the stored tree, hidden nodes too.
+
+Document 01: a rule applies to a subject that is its N, by isa lines or by itself, and to the nodes that its path selects
+in the stored tree; the last applicable rule for a right wins, and with none there is no right. A node is shown if read
+or position is granted on it and its parent is shown.
+
+The library tells what a reader sees, and never why. Here the rules are matched a second time, and the view that follows
+is held against the library's own view of the same reader: where they differ there is an error and no answer.
+"""
+
+from __future__ import annotations
+
+import re
+from enum import IntEnum
+from typing import Callable, Mapping, NamedTuple, Sequence
+
+from timetable_office.errors import DisagreementError
+from timetable_office.library import Session
+from timetable_office.state import Policy, Rule, read_policy
+from timetable_office.tree import RESTRICTED, Node, read_table, read_view
+from timetable_office.views import view_of
+
+RIGHTS = ("position", "read", "insert", "update", "delete")
+_STEP = re.compile(r"(//?)([^/]+)")
+_LEVELS = 12
+
+
+class Seen(IntEnum):
+    """What a reader sees of a node."""
+
+    HIDDEN = 0
+    RESTRICTED = 1
+    LABEL = 2
+
+
+class Selector:
+    """Matches many paths at once on the way down a tree.
+
+    Each path has a bit for its start and one for each of its steps, in a row. A bit of a node says that the steps up to
+    it select the node; the start bits are those of the document node above the root. The bits of later paths are
+    higher.
+    """
+
+    def __init__(self, paths: Sequence[str]) -> None:
+        self.start = 0
+        self.ends: list[int] = []
+        self.words: dict[str, int] = {}
+        self._child = self._deep = self._any = self._own = 0
+        bit = 1
+        for path in paths:
+            self.start |= bit
+            for slashes, test in _STEP.findall(path):
+                if slashes == "/":
+                    self._child |= bit
+                else:
+                    self._deep |= bit
+                bit <<= 1
+                if test == "*":
+                    self._any |= bit
+                elif test == "$":
+                    self._own |= bit
+                else:
+                    self.words[test] = self.words.get(test, 0) | bit
+            self.ends.append(bit)
+            bit <<= 1
+        self.end = sum(self.ends)
+
+    def names_reader(self) -> bool:
+        """Whether a path has a `$`."""
+        return self._own != 0
+
+    def tests(self, label: str, reader: str) -> int:
+        """The bits of the steps that a label passes; `$` is the name of this reader."""
+        return self._any | self.words.get(label, 0) | (self._own if label == reader else 0)
+
+    def below(self, parent: int, above: int) -> int:
+        """The bits that a node below can get: of `parent` by `/`, of `above`, which is any node above it, by `//`."""
+        return ((parent & self._child) | (above & self._deep)) << 1
+
+    def select(self, nodes: Sequence[Node], reader: str) -> list[int]:
+        """For each node the end bits of the paths that select it."""
+        tests = {label: self.tests(label, reader) for label in {node.label for node in nodes}}
+        # for each level the bits that a node there can get
+        can = [0] * (_LEVELS + 1)
+        can[0] = self.below(self.start, self.start)
+        above = [0] * (_LEVELS + 1)
+        above[0] = self.start
+        selected = []
+        for level, label in nodes:
+            bits = can[level] & tests[label]
+            above[level + 1] = above[level] | bits
+            can[level + 1] = self.below(bits, above[level + 1])
+            selected.append(bits & self.end)
+        return selected
+
+
+class Selection(NamedTuple):
+    """Which rules select the nodes, whomever they are for: a number for each node, and what each number stands for."""
+
+    kinds: list[int]
+    selected: list[int]
+
+
+class Decision(NamedTuple):
+    """The rule that decides a right, by its place in the policy, and whether the right is granted."""
+
+    rule: int | None
+    granted: bool
+
+
+Verdict = Mapping[str, Decision]
+
+
+class Decisions(NamedTuple):
+    """What decides for one reader. The library has shown the same view."""
+
+    reader: str
+    # for each role of the reader the isa lines that lead to it: `(SHA, tutors, staff)`; for the reader alone `(SHA,)`
+    roles: Mapping[str, tuple[str, ...]]
+    # for each node its kind, and for each kind what is decided on its nodes
+    kinds: Sequence[int]
+    verdicts: Sequence[Verdict]
+    seen: Sequence[Seen]
+
+    def verdict(self, place: int) -> Verdict:
+        """What is decided on a node."""
+        return self.verdicts[self.kinds[place]]
+
+
+def roles_of(policy: Policy, reader: str) -> dict[str, tuple[str, ...]]:
+    """All that a subject is, itself first, each with the shortest way by isa lines."""
+    roles: dict[str, tuple[str, ...]] = {reader: (reader,)}
+    for name in (found := [reader]):
+        for member, role in policy.isa:
+            if member == name and role not in roles:
+                roles[role] = (*roles[name], role)
+                found.append(role)
+    return roles
+
+
+def seen_by(verdict: Verdict) -> Seen:
+    """What is seen of a node whose parent is shown."""
+    if verdict["read"].granted:
+        return Seen.LABEL
+    return Seen.RESTRICTED if verdict["position"].granted else Seen.HIDDEN
+
+
+class Decider:
+    """Decides for the readers of one store."""
+
+    def __init__(self, session: Session) -> None:
+        self.session = session
+        self.policy = read_policy(session.state)
+        self.nodes = read_table(session.table)
+        self.selector = Selector([rule.path for rule in self.policy.rules])
+        self._labels = {node.label for node in self.nodes}
+        self._selections: dict[str, Selection] = {}
+
+    def selection(self, reader: str) -> Selection:
+        """Which rules select the nodes, with this reader's name for `$`."""
+        # readers whose names no path looks for, or no node has, share one
+        name = reader if self.selector.names_reader() and reader in self._labels else ""
+        if name not in self._selections:
+            numbers: dict[int, int] = {}
+            kinds = [numbers.setdefault(bits, len(numbers)) for bits in self.selector.select(self.nodes, name)]
+            self._selections[name] = Selection(kinds, list(numbers))
+        return self._selections[name]
+
+    def applicable(self, roles: Mapping[str, object]) -> list[int]:
+        """The places of the rules that are for one of these roles."""
+        return [place for place, rule in enumerate(self.policy.rules) if rule.subject in roles]
+
+    def decide(self, reader: str) -> Decisions:
+        """What decides for this reader, after the library's own view was found to be the same."""
+        roles = roles_of(self.policy, reader)
+        selection = self.selection(reader)
+        verdicts = self._verdicts(self.applicable(roles), selection.selected)
+        seen = self._seen([seen_by(verdict) for verdict in verdicts], selection.kinds)
+        self._check(reader, seen)
+        return Decisions(reader, roles, selection.kinds, verdicts, seen)
+
+    def decide_all(self, progress: Callable[[int], None] = lambda count: None) -> list[Decisions]:
+        """What decides for each subject, in their order."""
+        made = []
+        for count, reader in enumerate(self.policy.subjects, 1):
+            made.append(self.decide(reader))
+            progress(count)
+        return made
+
+    def _verdicts(self, applicable: Sequence[int], selected: Sequence[int]) -> list[Verdict]:
+        rules, ends = self.policy.rules, self.selector.ends
+        place_of = {ends[place].bit_length(): place for place in applicable}
+        masks = {right: sum(ends[place] for place in applicable if rules[place].right == right) for right in RIGHTS}
+
+        def decision(bits: int) -> Decision:
+            """By the last of these rules: later ones have higher bits."""
+            if not bits:
+                return Decision(None, False)
+            place = place_of[bits.bit_length()]
+            return Decision(place, rules[place].accept)
+
+        return [{right: decision(bits & masks[right]) for right in RIGHTS} for bits in selected]
+
+    def _seen(self, by_kind: Sequence[Seen], kinds: Sequence[int]) -> list[Seen]:
+        # for each level whether the node above is shown; the document node counts as shown
+        shown = [True] * (_LEVELS + 1)
+        made = []
+        for node, kind in zip(self.nodes, kinds):
+            seen = by_kind[kind] if shown[node.level] else Seen.HIDDEN
+            shown[node.level + 1] = seen is not Seen.HIDDEN
+            made.append(seen)
+        return made
+
+    def _check(self, reader: str, seen: Sequence[Seen]) -> None:
+        expected = [
+            node if one is Seen.LABEL else Node(node.level, RESTRICTED)
+            for node, one in zip(self.nodes, seen)
+            if one is not Seen.HIDDEN
+        ]
+        view = read_view(view_of(self.session, reader))
+        if view == expected:
+            return
+        pairs = zip([*view, None], [*expected, None])
+        place = next(number for number, (one, other) in enumerate(pairs, 1) if one != other)
+        raise DisagreementError(
+            f"the rules as timetable-office reads them do not give the view of {reader} that the library shows: they "
+            f"differ at node {place} of the view. Nothing is told; the library's view is the one that counts. This is "
+            "an error in timetable-office, or it belongs to another version of the library"
+        )
+
+
+def rule_text(rule: Rule) -> str:
+    """A rule as `export --policy` prints it."""
+    return rule.line().decode("ascii")

@@ -1,0 +1,74 @@
+"""Nodes of the stored tree by paths: the path of each node, and the nodes that a path selects."""
+
+from __future__ import annotations
+
+from collections import Counter
+from itertools import count
+from typing import Iterator, Sequence
+
+from timetable_office.errors import InputError
+from timetable_office.library import Refused, Session
+from timetable_office.lines import split_lines
+from timetable_office.replace import replace_policy
+from timetable_office.tree import Node, read_table
+from timetable_office.views import log_in
+
+
+def parents(nodes: Sequence[Node]) -> list[int | None]:
+    """For each node the place of its parent; the root has none."""
+    above: list[int] = []
+    found: list[int | None] = []
+    for place, node in enumerate(nodes):
+        del above[node.level :]
+        found.append(above[-1] if above else None)
+        above.append(place)
+    return found
+
+
+def way_down(above: Sequence[int | None], place: int) -> list[int]:
+    """The places from the root down to a node, the node itself last."""
+    way = []
+    step: int | None = place
+    while step is not None:
+        way.append(step)
+        step = above[step]
+    return way[::-1]
+
+
+def node_paths(nodes: Sequence[Node]) -> list[str]:
+    """For each node a path that selects it alone: labels from the root down, with a position where siblings share one."""
+    above = parents(nodes)
+    siblings = [(parent, node.label) for parent, node in zip(above, nodes)]
+    shared = Counter(siblings)
+    counted: Counter[tuple[int | None, str]] = Counter()
+    paths: list[str] = []
+    for parent, label in siblings:
+        counted[parent, label] += 1
+        position = f"[{counted[parent, label]}]" if shared[parent, label] > 1 else ""
+        paths.append(f"{'' if parent is None else paths[parent]}/{label}{position}")
+    return paths
+
+
+def _new_labels() -> Iterator[str]:
+    yield from (f"selected-{number}" for number in count())
+
+
+def select_stored(session: Session, reader: str, path: str) -> list[int]:
+    """The places of the nodes that a path selects in the stored tree, as a command of a reader who is shown all of it.
+
+    The library selects them: on a copy of the store this reader may read and update every node, and renames those that
+    the path selects to a label that no node has.
+    """
+    log_in(session, reader)
+    nodes = read_table(session.table)
+    labels = {node.label for node in nodes}
+    mark = next(label for label in _new_labels() if label not in labels)
+    policy = f"(subject {reader})\n(rule accept read //* {reader})\n(rule accept update //* {reader})\n"
+    made = replace_policy(session, split_lines("a policy that shows everything", policy.encode("ascii")))
+    copy = log_in(Session(session.library, made.state, made.table), reader)
+    try:
+        copy.line(b"(rename " + path.encode("utf-8", "surrogateescape") + b" " + mark.encode("ascii") + b")")
+    except Refused as refused:
+        raise InputError(f"{path!r} is not a path: {refused}") from refused
+    renamed = read_table(copy.table)
+    return [place for place, (before, after) in enumerate(zip(nodes, renamed)) if before != after]
