@@ -2,17 +2,19 @@
 
 A finding is a *slip* where the rule surely does not do what it looks like, or lets something be seen that it speaks of
 hiding; it is a *hint* where another tree, or another intention, would make it right. A *refused* line is one that the
-library did not take. The decisions on which all this rests have been held against the library's views.
+library did not take. The decisions on which all this rests have been held against the library.
 """
 
 from __future__ import annotations
 
 import difflib
 import json
+import textwrap
 from collections import Counter
 from dataclasses import dataclass, field
 from typing import Any, Callable, Iterator, NamedTuple, Sequence
 
+from timetable_office.agreement import LEVELS
 from timetable_office.decisions import RIGHTS, Decider, Decisions, Seen, Selector, Verdict, roles_of, rule_text
 from timetable_office.library import RECORDS_MAXIMUM, Library, Session
 from timetable_office.lines import Lines, split_lines
@@ -23,11 +25,10 @@ from timetable_office.state import Policy, Rule, read_policy
 from timetable_office.tree import RESTRICTED
 
 SLIP, HINT, REFUSED = "slip", "hint", "refused"
-# A path with more steps selects nothing: levels run from 0 to 11.
-_LEVELS = 12
 _NAMES_SHOWN = 3
 _STATES_TRIED = 5_000
 _NEAR = 0.7
+_COLUMNS = 110
 _OTHER_LABEL = ""
 
 
@@ -56,7 +57,7 @@ class Effect:
 
 
 def check_policy(decider: Decider, progress: Callable[[int], None] = lambda count: None) -> list[Finding]:
-    """All that is found, rules in their order first. A store with no more than a root is checked for its rules alone."""
+    """All that is found, rules in their order first. Without a tree the rules are held against each other alone."""
     if not decider.policy.rules:
         return [Finding(HINT, "no-rule", "there is no rule, so nobody is shown anything")]
     if not has_tree(decider):
@@ -81,45 +82,40 @@ def has_tree(decider: Decider) -> bool:
 def survey(decider: Decider, decisions: Sequence[Decisions]) -> list[Effect]:
     """The effect of each rule."""
     rules, ends = decider.policy.rules, decider.selector.ends
-    words = policy_words(decider)
-    is_word = [node.label in words for node in decider.nodes]
+    is_word = [node.label in decider.words for node in decider.nodes]
     is_root = [node.level == 0 for node in decider.nodes]
     effects = [Effect() for _ in rules]
+    for one in decisions:
+        for verdict in one.verdicts:
+            for decision in verdict.values():
+                if decision.rule is not None:
+                    effects[decision.rule].decides = True
     for one in decisions:
         selected = decider.selection(one.reader).selected
         applicable = decider.applicable(one.roles)
         for place in applicable:
             effects[place].selects |= any(bits & ends[place] for bits in selected)
+        # rules that decide nothing are told by themselves, and do not count as what another rule changes
+        deciding = [place for place in applicable if effects[place].decides]
         for kind, seen, word, root in Counter(zip(one.kinds, one.seen, is_word, is_root)):
             verdict = one.verdicts[kind]
             for right in RIGHTS:
-                place_or_none = verdict[right].rule
-                if place_or_none is None:
+                number = verdict[right].rule
+                if number is None:
                     continue
-                effect, rule = effects[place_or_none], rules[place_or_none]
-                earlier = (place for place in reversed(applicable) if place < place_or_none)
-                before = next(
-                    (
-                        rules[place].accept
-                        for place in earlier
-                        if rules[place].right == right and ends[place] & selected[kind]
-                    ),
-                    False,
-                )
-                effect.decides = True
-                effect.changes |= before != rule.accept
+                effect, rule = effects[number], rules[number]
+                before = [
+                    rules[place].accept
+                    for place in deciding
+                    if place < number and rules[place].right == right and ends[place] & selected[kind]
+                ]
+                effect.changes |= rule.accept != (before[-1] if before else False)
                 hindrance = _hindrance(rule, verdict, seen, word, root)
                 if hindrance:
                     effect.hindrances[hindrance] += 1
                 else:
                     effect.matters = True
     return effects
-
-
-def policy_words(decider: Decider) -> set[str]:
-    """The labels named in any rule's path; once any rule uses `$`, every subject's name too."""
-    words = set(decider.selector.words)
-    return words | set(decider.policy.subjects) if decider.selector.names_reader() else words
 
 
 def _hindrance(rule: Rule, verdict: Verdict, seen: Seen, word: bool, root: bool) -> str:
@@ -206,8 +202,8 @@ def _near(word: str, labels: set[str]) -> str | None:
 def _overridden(decider: Decider, place: int) -> Iterator[Finding]:
     rules = decider.policy.rules
     rule = rules[place]
-    if rule.path.replace("//", "/").count("/") > _LEVELS:
-        says = f"selects nothing in any tree: it has more than {_LEVELS} steps, and a tree has {_LEVELS} levels"
+    if rule.path.replace("//", "/").count("/") > LEVELS:
+        says = f"selects nothing in any tree: it has more than {LEVELS} steps, and a tree has {LEVELS} levels"
         yield Finding(SLIP, "selects-nothing", f"{rule_text(rule)} {says}", place)
         return
     roles = roles_of(decider.policy, rule.subject)
@@ -238,7 +234,7 @@ def is_within(path: str, other: str, reader: str) -> bool:
     own = wanted | (wanted - 1)
     seen = {(both.below(both.start, both.start), both.start)}
     level = list(seen)
-    for _ in range(_LEVELS):
+    for _ in range(LEVELS):
         below = []
         for can, above in level:
             for test in tests:
@@ -288,7 +284,7 @@ def _readable_below(decider: Decider, decisions: Sequence[Decisions]) -> Iterato
 
 def _words_behind(decider: Decider, decisions: Sequence[Decisions]) -> Iterator[Finding]:
     """Policy words behind RESTRICTED."""
-    words = policy_words(decider)
+    words = decider.words
     places = [place for place, node in enumerate(decider.nodes) if node.label in words]
     readers: dict[str, dict[str, int]] = {}
     for one in decisions:
@@ -317,8 +313,8 @@ def some(names: Sequence[str]) -> str:
 def _subjects(decider: Decider) -> Iterator[Finding]:
     """Subjects to whom no rule applies, and roles that nobody has.
 
-    A subject that nobody else is may well be a reader itself, such as a website. It is taken for a role where a rule for
-    it speaks of the reader by `$` and no node has its name, or where another subject has no rule.
+    A subject that nobody else is may well be a reader itself, such as a website. It is taken for a role where a rule
+    for it speaks of the reader by `$` and no node has its name, or where another subject has no rule.
     """
     policy = decider.policy
     ruled = {rule.subject for rule in policy.rules}
@@ -400,10 +396,15 @@ def replace_session(tree: Session, policy: Policy) -> Session:
 
 
 def findings_text(checked: Checked, found: Sequence[Finding]) -> str:
-    """A line for each finding, with its place."""
-    return "".join(
-        f"{checked.place(one)}: {'' if one.weight == REFUSED else one.weight + ': '}{one.text}\n" for one in found
-    )
+    """A paragraph for each finding: its place, its weight and what it says."""
+    made = []
+    for one in found:
+        weight = "" if one.weight == REFUSED else one.weight + ": "
+        text = f"{checked.place(one)}: {weight}{one.text}"
+        made.append(
+            textwrap.fill(text, _COLUMNS, subsequent_indent="    ", break_long_words=False, break_on_hyphens=False)
+        )
+    return "".join(one + "\n" for one in made)
 
 
 def findings_json(checked: Checked, found: Sequence[Finding]) -> str:

@@ -422,8 +422,8 @@ def make_parser() -> argparse.ArgumentParser:
         "check",
         check,
         "tell what a policy writer gets wrong (for the office alone)",
-        "Tells what is wrong, or may be, with a policy: rules that do nothing, words that no node has, labels that stay\n"
-        "readable, subjects without rules. A list of lines is run on a new store in memory.",
+        "Tells what is wrong, or may be, with a policy: rules that do nothing, words that no node has, labels that\n"
+        "stay readable, subjects without rules. A list of lines is run on a new store in memory.",
         ("STORE|FILE", "a store, or a list of lines; - is standard input"),
     )
     made.add_argument("--tree", metavar="STORE", help="check the policy of a list of lines over the tree of this store")
@@ -433,8 +433,8 @@ def make_parser() -> argparse.ArgumentParser:
         "why",
         why,
         "tell which rules decide on a node (for the office alone)",
-        "Tells for each node that a path selects in the stored tree, hidden ones too, which rule decides each right of\n"
-        "this subject, and which nodes above hide it. PATH is a path as commands have it: /school/mon/lesson[2]/room.",
+        "Tells for each node that a path selects in the stored tree, hidden ones too, which rule decides each right\n"
+        "of this subject, and which nodes above hide it. PATH is a path as commands have it: //lesson[2]/room.",
     )
     made.add_argument("--as", dest="name", metavar="NAME", required=True, help="the subject that it is asked for")
     made.add_argument("path", metavar="PATH", help="the nodes that it is asked for")

@@ -1,11 +1,12 @@
 """Which rule decides each right of a reader on each node of the stored tree, hidden nodes too.
 
-Document 01: a rule applies to a subject that is its N, by isa lines or by itself, and to the nodes that its path selects
-in the stored tree; the last applicable rule for a right wins, and with none there is no right. A node is shown if read
-or position is granted on it and its parent is shown.
+Document 01: a rule applies to a subject that is its N, by isa lines or by itself, and to the nodes that its path
+selects in the stored tree; the last applicable rule for a right wins, and with none there is no right. A node is shown
+if read or position is granted on it and its parent is shown.
 
-The library tells what a reader sees, and never why. Here the rules are matched a second time, and the view that follows
-is held against the library's own view of the same reader: where they differ there is an error and no answer.
+The library tells what a reader sees, and never why. Here the rules are matched a second time, and what follows for the
+view and for changes is held against what the library does for the same reader (`agreement`). Where they differ there is
+an error and no answer.
 """
 
 from __future__ import annotations
@@ -14,15 +15,13 @@ import re
 from enum import IntEnum
 from typing import Callable, Mapping, NamedTuple, Sequence
 
-from timetable_office.errors import DisagreementError
+from timetable_office.agreement import LEVELS, Agreement, Expected
 from timetable_office.library import Session
 from timetable_office.state import Policy, Rule, read_policy
-from timetable_office.tree import RESTRICTED, Node, read_table, read_view
-from timetable_office.views import view_of
+from timetable_office.tree import RESTRICTED, Node, read_table
 
 RIGHTS = ("position", "read", "insert", "update", "delete")
 _STEP = re.compile(r"(//?)([^/]+)")
-_LEVELS = 12
 
 
 class Seen(IntEnum):
@@ -81,9 +80,9 @@ class Selector:
         """For each node the end bits of the paths that select it."""
         tests = {label: self.tests(label, reader) for label in {node.label for node in nodes}}
         # for each level the bits that a node there can get
-        can = [0] * (_LEVELS + 1)
+        can = [0] * (LEVELS + 1)
         can[0] = self.below(self.start, self.start)
-        above = [0] * (_LEVELS + 1)
+        above = [0] * (LEVELS + 1)
         above[0] = self.start
         selected = []
         for level, label in nodes:
@@ -112,7 +111,7 @@ Verdict = Mapping[str, Decision]
 
 
 class Decisions(NamedTuple):
-    """What decides for one reader. The library has shown the same view."""
+    """What decides for one reader. The library agrees with it."""
 
     reader: str
     # for each role of the reader the isa lines that lead to it: `(SHA, tutors, staff)`; for the reader alone `(SHA,)`
@@ -154,6 +153,11 @@ class Decider:
         self.nodes = read_table(session.table)
         self.selector = Selector([rule.path for rule in self.policy.rules])
         self._labels = {node.label for node in self.nodes}
+        # the policy words: labels named in any rule's path; once any rule uses `$`, every subject's name too
+        self.words = set(self.selector.words)
+        if self.selector.names_reader():
+            self.words.update(self.policy.subjects)
+        self._agreement = Agreement(session, self.nodes, self.words)
         self._selections: dict[str, Selection] = {}
 
     def selection(self, reader: str) -> Selection:
@@ -171,13 +175,14 @@ class Decider:
         return [place for place, rule in enumerate(self.policy.rules) if rule.subject in roles]
 
     def decide(self, reader: str) -> Decisions:
-        """What decides for this reader, after the library's own view was found to be the same."""
+        """What decides for this reader, after the library was found to agree."""
         roles = roles_of(self.policy, reader)
         selection = self.selection(reader)
         verdicts = self._verdicts(self.applicable(roles), selection.selected)
         seen = self._seen([seen_by(verdict) for verdict in verdicts], selection.kinds)
-        self._check(reader, seen)
-        return Decisions(reader, roles, selection.kinds, verdicts, seen)
+        decisions = Decisions(reader, roles, selection.kinds, verdicts, seen)
+        self._agreement.check(reader, self._expected(decisions))
+        return decisions
 
     def decide_all(self, progress: Callable[[int], None] = lambda count: None) -> list[Decisions]:
         """What decides for each subject, in their order."""
@@ -203,7 +208,7 @@ class Decider:
 
     def _seen(self, by_kind: Sequence[Seen], kinds: Sequence[int]) -> list[Seen]:
         # for each level whether the node above is shown; the document node counts as shown
-        shown = [True] * (_LEVELS + 1)
+        shown = [True] * (LEVELS + 1)
         made = []
         for node, kind in zip(self.nodes, kinds):
             seen = by_kind[kind] if shown[node.level] else Seen.HIDDEN
@@ -211,21 +216,27 @@ class Decider:
             made.append(seen)
         return made
 
-    def _check(self, reader: str, seen: Sequence[Seen]) -> None:
-        expected = [
-            node if one is Seen.LABEL else Node(node.level, RESTRICTED)
-            for node, one in zip(self.nodes, seen)
-            if one is not Seen.HIDDEN
-        ]
-        view = read_view(view_of(self.session, reader))
-        if view == expected:
-            return
-        pairs = zip([*view, None], [*expected, None])
-        place = next(number for number, (one, other) in enumerate(pairs, 1) if one != other)
-        raise DisagreementError(
-            f"the rules as timetable-office reads them do not give the view of {reader} that the library shows: they "
-            f"differ at node {place} of the view. Nothing is told; the library's view is the one that counts. This is "
-            "an error in timetable-office, or it belongs to another version of the library"
+    def _expected(self, decisions: Decisions) -> Expected:
+        """What the library has to do for this reader (document 01, View and Changes)."""
+        granted = {
+            right: [verdict[right].granted for verdict in decisions.verdicts]
+            for right in ("insert", "update", "delete")
+        }
+        places = list(zip(self.nodes, decisions.kinds, decisions.seen))
+        return Expected(
+            view=[
+                node if seen is Seen.LABEL else Node(node.level, RESTRICTED)
+                for node, _, seen in places
+                if seen is not Seen.HIDDEN
+            ],
+            renamed=[
+                seen is Seen.LABEL and granted["update"][kind] and node.label not in self.words
+                for node, kind, seen in places
+            ],
+            removed=[
+                seen is not Seen.HIDDEN and granted["delete"][kind] and node.level > 0 for node, kind, seen in places
+            ],
+            appended=[seen is not Seen.HIDDEN and granted["insert"][kind] for _, kind, seen in places],
         )
 
 

@@ -33,17 +33,18 @@ _LEGEND = {
 }
 
 _STYLE = """
-:root { --gap: .3rem; --width: 2; }
 * { box-sizing: border-box; }
-body { margin: 0; font: 14px/1.4 system-ui, "Liberation Sans", Arial, sans-serif; color: #1b1b1b; background: #fff; }
-header { padding: .6rem .8rem; position: sticky; left: 0; max-width: 100vw; }
+body { margin: 0; height: 100vh; display: flex; flex-direction: column;
+  font: 14px/1.4 system-ui, "Liberation Sans", Arial, sans-serif; color: #1b1b1b; background: #fff; }
+header { flex: none; padding: .6rem .8rem; }
 h1 { font-size: 1.25rem; margin: 0 0 .2rem; }
 header p { margin: .2rem 0; }
 .alone { display: inline-block; padding: .1rem .5rem; background: #7a1020; color: #fff; font-weight: 600; }
 .legend span { display: inline-block; margin-right: 1rem; }
-.legend b { font: 12px/1.5 "DejaVu Sans Mono", "Liberation Mono", monospace; padding: 0 .35em; border: 1px solid #0005; }
+.legend b { font: 12px/1.5 "DejaVu Sans Mono", "Liberation Mono", monospace; padding: 0 .35em;
+  border: 1px solid #0005; }
 input { font: inherit; padding: .15rem .4rem; width: 18rem; max-width: 90vw; }
-#frame { overflow: auto; max-height: calc(100vh - 3rem); border-top: 1px solid #888; position: sticky; top: 0; }
+#frame { flex: 1 0 20rem; height: 20rem; overflow: auto; border-top: 1px solid #888; }
 table { border-collapse: separate; border-spacing: 0; font: 12px/1.5 "DejaVu Sans Mono", "Liberation Mono", monospace; }
 thead th { position: sticky; top: 0; z-index: 2; background: #fff; border-bottom: 1px solid #555;
   vertical-align: bottom; padding: 0; font-weight: normal; text-align: left; }
@@ -69,11 +70,13 @@ tr[hidden] { display: none; }
 @media print {
   * { print-color-adjust: exact; -webkit-print-color-adjust: exact; }
   @page { size: A3 landscape; margin: 10mm; }
-  #frame { overflow: visible; max-height: none; position: static; }
+  body { display: block; height: auto; }
+  #frame { overflow: visible; height: auto; }
   thead { display: table-header-group; }
-  thead th, tbody th, header { position: static; }
+  thead th, tbody th { position: static; }
   tr { break-inside: avoid; }
   table, .legend b { font-size: 7pt; }
+  i { background-image: none; }
   form, #told { display: none; }
 }
 """
@@ -151,9 +154,9 @@ def cell_letters(one: Decisions, changes: Sequence[str], kind: int, seen: Seen) 
     verdict = one.verdicts[kind]
     if seen is Seen.HIDDEN:
         above = verdict["read"].granted or verdict["position"].granted
-        return (_HIDDEN_ABOVE if above else _LETTERS[seen]).ljust(len(changes) + 2)
+        return " " + (_HIDDEN_ABOVE if above else _LETTERS[seen]).ljust(len(changes) + 1)
     rights = "".join(_CHANGES[right] if verdict[right].granted else " " for right in changes)
-    return f"{_LETTERS[seen]}{rights} "
+    return f" {_LETTERS[seen]}{rights}"
 
 
 def columns_of(decisions: Sequence[Decisions]) -> tuple[list[str], list[list[str]]]:
@@ -180,7 +183,7 @@ def _rows(decider: Decider, columns: Sequence[Sequence[str]]) -> Iterator[str]:
     for node, path, cells in zip(decider.nodes, paths, rows):
         if cells not in made:
             runs = [(letters, len(list(run))) for letters, run in groupby(cells)]
-            made[cells] = "".join(f"<i class={_CLASSES[letters[0]]}>{letters * number}</i>" for letters, number in runs)
+            made[cells] = "".join(f"<i class={_CLASSES[letters[1]]}>{letters * number}</i>" for letters, number in runs)
         name = f"{'  ' * node.level}<b>{escape(node.label)}</b>"
         yield f'<tr><th scope=row title="{escape(path)}">{name}</th><td>{made[cells]}</td></tr>\n'
 
@@ -206,7 +209,7 @@ def _data(decider: Decider, decisions: Sequence[Decisions]) -> dict[str, Any]:
 
 
 def map_page(decider: Decider, decisions: Sequence[Decisions], foot: Foot) -> str:
-    """The page. Its decisions have been held against the library's views."""
+    """The page. Its decisions have been held against the library."""
     changes, columns = columns_of(decisions)
     legend = "".join(
         f"<span><b class={_CLASSES[letter]}>{escape(letter)}</b> {text}</span>" for letter, text in _LEGEND.items()
@@ -239,7 +242,9 @@ def map_page(decider: Decider, decisions: Sequence[Decisions], foot: Foot) -> st
 </header>
 <div id="frame" tabindex="0">
 <table>
-<thead><tr><th scope="col">node</th><th scope="col"><div class="names">{names}</div></th></tr></thead>
+<thead>
+<tr><th scope="col">for the office alone<br>node</th><th scope="col"><div class="names">{names}</div></th></tr>
+</thead>
 <tbody>
 {"".join(_rows(decider, columns))}</tbody>
 </table>
@@ -253,7 +258,7 @@ def map_page(decider: Decider, decisions: Sequence[Decisions], foot: Foot) -> st
 
 
 def write_page(path: str, page: str) -> None:
-    """Writes a map for its owner alone, whole or not at all. It takes the place of an older map and of no other file."""
+    """Writes a map for its owner alone, whole or not at all. It replaces an older map, and no other file."""
     target = Path(path).absolute()
     try:
         if target.exists() and not _is_map(target):

@@ -36,7 +36,7 @@ def way_down(above: Sequence[int | None], place: int) -> list[int]:
 
 
 def node_paths(nodes: Sequence[Node]) -> list[str]:
-    """For each node a path that selects it alone: labels from the root down, with a position where siblings share one."""
+    """For each node a path that selects it alone: labels from the root down, `[n]` where siblings share one."""
     above = parents(nodes)
     siblings = [(parent, node.label) for parent, node in zip(above, nodes)]
     shared = Counter(siblings)
