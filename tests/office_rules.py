@@ -376,6 +376,68 @@ class Check(office.Office):
         lines = [*names, "(rule accept insert //$ staff)", *tree]
         self.finds(lines, ("slip", "word-behind", None), says="SHA is a word of the rules")
 
+    def without(self, lines, number):
+        """What decides for every reader without a line of these."""
+        return Decider(session_of([line for place, line in enumerate(lines, 1) if place != number])).decide_all()
+
+    def test_rules_that_are_said_to_do_nothing(self):
+        """Without such a rule every right of every reader is the same, or at least all that readers see and can do."""
+        rand = random.Random(4)
+        told = dict.fromkeys(self.NO_RIGHT + self.NO_USE, 0)
+        for _ in range(RANDOM_STORES):
+            lines = random_store(rand)
+            found, checked = self.findings(lines)
+            if not checked.decider.policy.rules:
+                continue
+            before = checked.decider.decide_all()
+            words = [node.label in checked.decider.words for node in checked.decider.nodes]
+            for _, kind, number in found:
+                if kind in told:
+                    told[kind] += 1
+                    compared = self.rights if kind in self.NO_RIGHT else self.uses
+                    after = self.without(lines, number)
+                    self.assertEqual(compared(after, words), compared(before, words), (lines, kind, number))
+        self.assertTrue(all(told.values()), told)
+
+    NO_RIGHT = ["overridden", "unknown-word", "selects-nothing", "decides-nothing", "changes-nothing"]
+    NO_USE = ["no-effect"]
+
+    def rights(self, decisions, words):
+        places = range(len(words))
+        return [
+            [{right: one.verdict(place)[right].granted for right in RIGHTS} for place in places] for one in decisions
+        ]
+
+    def uses(self, decisions, words):
+        """What is seen, and of what is shown which changes can be made."""
+        made = []
+        for one in decisions:
+            for place, (seen, word) in enumerate(zip(one.seen, words)):
+                granted = {right for right, decision in one.verdict(place).items() if decision.granted}
+                granted -= {"read", "position"}
+                if seen is not Seen.LABEL or word:
+                    granted -= {"update"}
+                if place == 0:
+                    granted -= {"delete"}
+                made.append((seen, granted if seen is not Seen.HIDDEN else None))
+        return made
+
+    def test_what_is_behind_restricted(self):
+        """A finding exactly if a reader is shown RESTRICTED for a word of the rules."""
+        rand = random.Random(31)
+        told = {True: 0, False: 0}
+        for _ in range(RANDOM_STORES):
+            found, checked = self.findings(random_store(rand))
+            decider = checked.decider
+            behind = any(
+                seen is Seen.RESTRICTED and node.label in decider.words
+                for one in decider.decide_all()
+                for node, seen in zip(decider.nodes, one.seen)
+            )
+            self.assertEqual(any(kind == "word-behind" for _, kind, _ in found), behind and len(decider.nodes) > 1)
+            told[behind] += 1
+        self.assertTrue(all(told.values()))
+
     def test_subjects(self):
         self.finds([*STAFF[:1], "(subject SHA)", "(isa SHA staff)", *STAFF[1:], *SCHOOL])
         lines = ["(subject staff)", "(subject SHA)", STAFF[1], *SCHOOL]
@@ -467,6 +529,12 @@ class Check(office.Office):
         self.assertIn("did you mean note?", re.sub(r"\n {4}", " ", printed))
         self.office("check", "-", "--tree", "store", given=[*rules, "(root r)"], status=1, says="does not belong in")
         self.office("check", "store", "--tree", "store", status=1, says="a store has a tree of its own")
+
+    def test_a_pipe(self):
+        self.write("lines", office.text_of([*STAFF, "(rule deny read //notes staff)", *SCHOOL]))
+        with open(self.path("lines"), "rb") as file:
+            printed = self.in_a_process(["check", "/dev/fd/0"], file.read())[1]
+        self.assertIn("/dev/fd/0:3: slip: (rule deny read //notes staff)", printed)
 
     def test_files_that_cannot_be_checked(self):
         self.office("check", "none", status=3, says="none cannot be read: No such file or directory")

@@ -95,8 +95,6 @@ def survey(decider: Decider, decisions: Sequence[Decisions]) -> list[Effect]:
         applicable = decider.applicable(one.roles)
         for place in applicable:
             effects[place].selects |= any(bits & ends[place] for bits in selected)
-        # rules that decide nothing are told by themselves, and do not count as what another rule changes
-        deciding = [place for place in applicable if effects[place].decides]
         for kind, seen, word, root in Counter(zip(one.kinds, one.seen, is_word, is_root)):
             verdict = one.verdicts[kind]
             for right in RIGHTS:
@@ -105,11 +103,13 @@ def survey(decider: Decider, decisions: Sequence[Decisions]) -> list[Effect]:
                     continue
                 effect, rule = effects[number], rules[number]
                 before = [
-                    rules[place].accept
-                    for place in deciding
+                    place
+                    for place in applicable
                     if place < number and rules[place].right == right and ends[place] & selected[kind]
                 ]
-                effect.changes |= rule.accept != (before[-1] if before else False)
+                # what would decide without it; and what would if the rules that decide nothing went too
+                for others in (before, [place for place in before if effects[place].decides]):
+                    effect.changes |= rule.accept != (rules[others[-1]].accept if others else False)
                 hindrance = _hindrance(rule, verdict, seen, word, root)
                 if hindrance:
                     effect.hindrances[hindrance] += 1

@@ -262,7 +262,7 @@ def check(options: argparse.Namespace) -> int:
     else:
         checked = check_lines(library, take_lines(options.store), tree)
     held = checked.decider.policy
-    found = checked.findings(show_progress(len(held.subjects)))
+    found = checked.findings(show_progress(len(held.subjects), "subject", 1))
     put(findings_json(checked, found) if options.json else findings_text(checked, found))
     if not has_tree(checked.decider):
         say(f"{checked.name}: note: there is no tree, so what the rules select is not checked")
@@ -279,7 +279,7 @@ def make_map(options: argparse.Namespace) -> int:
     decider = Decider(session)
     if not decider.nodes:
         raise InputError("the store has no tree yet: give it root and child lines with `timetable-office run`")
-    decisions = decider.decide_all(show_progress(len(decider.policy.subjects)))
+    decisions = decider.decide_all(show_progress(len(decider.policy.subjects), "subject", 1))
     digest = Contents(session.state, session.table).digest().hex()[:12]
     time = datetime.now(timezone.utc).strftime("%Y-%m-%d %H:%M UTC")
     write_page(options.out, map_page(decider, decisions, Foot(os.path.basename(options.store), time, digest)))
@@ -290,6 +290,9 @@ def make_map(options: argparse.Namespace) -> int:
 
 def is_database(path: str) -> bool:
     """Whether a file is a store rather than a list of lines; one that cannot be read is told by whoever reads it."""
+    # what comes through a pipe can be read once
+    if not os.path.isfile(path):
+        return False
     try:
         with open(path, "rb") as file:
             return b"\0" in file.read(100)
