@@ -10,7 +10,7 @@ import sys
 from datetime import datetime, timezone
 from typing import Any, Callable, Sequence, TextIO
 
-from timetable_office import __version__, refusals
+from timetable_office import __version__, maps, refusals
 from timetable_office.checks import Checked, check_lines, findings_json, findings_text, has_tree
 from timetable_office.decisions import Decider
 from timetable_office.errors import DONE, INTERRUPTED, NOT_TAKEN, InputError, LibraryError, OfficeError, OutputError
@@ -19,7 +19,6 @@ from timetable_office.formats import LOG_FORMATS, VIEW_FORMATS
 from timetable_office.layout import load_library
 from timetable_office.library import LIBRARY_VARIABLE, RECORDS_MAXIMUM
 from timetable_office.lines import STANDARD_INPUT, Lines, read_lines
-from timetable_office.maps import Foot, map_page, write_page
 from timetable_office.publish import Published, publish_views
 from timetable_office.replace import replace_policy
 from timetable_office.runs import Answered, RefusedLine, run_lines
@@ -282,7 +281,8 @@ def make_map(options: argparse.Namespace) -> int:
     decisions = decider.decide_all(show_progress(len(decider.policy.subjects), "subject", 1))
     digest = Contents(session.state, session.table).digest().hex()[:12]
     time = datetime.now(timezone.utc).strftime("%Y-%m-%d %H:%M UTC")
-    write_page(options.out, map_page(decider, decisions, Foot(os.path.basename(options.store), time, digest)))
+    foot = maps.Foot(os.path.basename(options.store), time, digest)
+    maps.write_page(options.out, maps.map_page(decider, decisions, foot))
     nodes, subjects = counted(len(decider.nodes), "node"), counted(len(decisions), "subject")
     say(f"{options.out}: {nodes} by {subjects}, for the office alone")
     return DONE
