@@ -5,3 +5,4 @@ pub mod AnswerTreeLaws
 pub mod AnswerNumbers
 pub mod AnswerLengths
 pub mod FindLaws
+pub mod SheetLaws

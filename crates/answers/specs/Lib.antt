@@ -1,3 +1,4 @@
 pub mod Answer
 pub mod AnswerTree
+pub mod Sheet
 pub mod How
