@@ -6,3 +6,4 @@ pub mod AnswerNumbers
 pub mod AnswerLengths
 pub mod FindLaws
 pub mod SheetLaws
+pub mod SheetCases

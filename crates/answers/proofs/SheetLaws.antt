@@ -1,20 +1,14 @@
 -- The sheet for a room's door: "nine rows of exactly 72 bytes and a line feed", whatever the view. Assumes nothing.
-use Prim.Native.Nat.{ℕ, zero, suc, _+_, _-_, _*_, _≤_, _<_}
-use mathlib.Core.Path.{_≡_, refl, sym, ap, _∙_}
-use mathlib.Core.Bool.{Bool, true, false, cond}
-use mathlib.Core.List.{List, [], _∷_, _++_, append-assoc}
+use Prim.Native.Nat.{ℕ, _+_, _-_, _*_}
+use mathlib.Core.Path.{_≡_, _∙_}
+use mathlib.Core.List.{List, [], _∷_, _++_}
 use native.Mathlib.Omega.{arith}
-use native.Mathlib.Numerals.{add-one}
-use lib.Dec.{eqb, ltb, leb}
-use lib.ListN.{length, getD, take, drop, replicate, length-append, length-take, length-replicate, List·getD-eq-default, drop-of-length-le}
-use lib.Seq.{drop-cons, getD-drop, drop-drop, length-take-le, take-append-le, take-at}
-use borrow.Author.Tests.{eq-eqb, ne-eqb, le-leb, lt-leb, lt-ltb, le-ltb}
+use lib.ListN.{length, take, replicate, length-append}
+use lib.Seq.{length-take-le}
 use Rattle.rights.specs.Bytes.{bytes}
-use Rattle.rights.specs.Labels.{sameLabel, folded}
-use Rattle.rights.specs.Nodes.{Node, node, Nodes, levelAt, labelAt}
-use Rattle.rights.specs.XPath.{at, children, filter, each, stretch}
-use Rattle.rights.proofs.ListLaws.{byCase}
-use Rattle.answers.specs.Sheet.{cell, nth, days, labelled, lesson, headRow, row, sheetText}
+use Rattle.rights.specs.Nodes.{Nodes, labelAt}
+use Rattle.rights.specs.XPath.{each}
+use Rattle.answers.specs.Sheet.{cell, days, lesson, headRow, row, periods, sheetText}
 
 -- Lengths
 
@@ -48,5 +42,5 @@ row-length room t n = simp length-append (omega (arith, cells-length t (λ day. 
 pub sheet-length : (room : List ℕ) (t : Nodes) → length (sheetText room t) ≡ 657
 unfolding sheetText
 sheet-length room t =
-    length-append (headRow t) (each (row room t) (1 ∷ 2 ∷ 3 ∷ 4 ∷ 5 ∷ 6 ∷ 7 ∷ 8 ∷ []))
-    ∙ omega (arith, head-row-length t, each-length (row room t) 73 (row-length room t) (1 ∷ 2 ∷ 3 ∷ 4 ∷ 5 ∷ 6 ∷ 7 ∷ 8 ∷ []))
+    length-append (headRow t) (each (row room t) periods)
+    ∙ omega (arith, head-row-length t, each-length (row room t) 73 (row-length room t) periods)

@@ -1,7 +1,6 @@
 -- The sheet for a room's door (document 02, card 3): "`(sheet ROOM)` writes nine rows of exactly 72 bytes and a line feed, made from the user's view only."
 -- It is a function of ROOM and the view, so what looks alike to a reader prints alike. Labels and children are those of the view.
 use Prim.Native.Nat.{ℕ, _+_, _-_}
-use mathlib.Core.Bool.{Bool}
 use mathlib.Core.List.{List, [], _∷_, _++_, map}
 use lib.ListN.{length, getD, take, replicate}
 use Rattle.rights.specs.Bytes.{bytes}
@@ -42,6 +41,9 @@ headRow t = bytes "  " ++ (each (λ day. cell (labelAt t day)) (days t) ++ bytes
 unfoldable pub row : List ℕ → Nodes → ℕ → List ℕ
 row room t n = (48 + n) ∷ (bytes " " ++ (each (λ day. cell (labelAt t (lesson room t n day))) (days t) ++ bytes "\n"))
 
+abbrev pub periods : List ℕ
+periods = 1 ∷ 2 ∷ 3 ∷ 4 ∷ 5 ∷ 6 ∷ 7 ∷ 8 ∷ []
+
 -- the answer to `(sheet ROOM)`
 unfoldable pub sheetText : List ℕ → Nodes → List ℕ
-sheetText room t = headRow t ++ each (row room t) (1 ∷ 2 ∷ 3 ∷ 4 ∷ 5 ∷ 6 ∷ 7 ∷ 8 ∷ [])
+sheetText room t = headRow t ++ each (row room t) periods
