@@ -6,4 +6,5 @@ pub mod AnswerNumbers
 pub mod AnswerLengths
 pub mod FindLaws
 pub mod SheetLaws
+pub mod SheetParts
 pub mod SheetCases

@@ -41,7 +41,7 @@ fn surely_fits(n: usize, room: usize) -> bool
 }
 
 // Puts s into the area at byte `at` where it fits; the place after it, fit or not.
-fn put_bytes(area: &mut [u8], at: usize, s: &[u8]) -> usize
+pub(crate) fn put_bytes(area: &mut [u8], at: usize, s: &[u8]) -> usize
     requires { ⌜ at + length (now s) < 2 ^ 64 ⌝ }
     ensures { λ r. ⌜ Puts (now (s .entry)) at (now (area .entry)) (now (area .exit)) r ⌝ }
 {
@@ -53,7 +53,7 @@ fn put_bytes(area: &mut [u8], at: usize, s: &[u8]) -> usize
     r
 }
 
-fn put_byte(area: &mut [u8], at: usize, b: u8) -> usize
+pub(crate) fn put_byte(area: &mut [u8], at: usize, b: u8) -> usize
     requires { ⌜ at + 1 < 2 ^ 64 ⌝ }
     ensures { λ r. ⌜ Puts (b ∷ []) at (now (area .entry)) (now (area .exit)) r ⌝ }
 {
@@ -61,7 +61,7 @@ fn put_byte(area: &mut [u8], at: usize, b: u8) -> usize
 }
 
 // The last digit of n.
-fn digit(n: usize) -> u8
+pub(crate) fn digit(n: usize) -> u8
     ensures { λ r. ⌜ r ≡ 48 + n % 10 ⌝ }
 {
     b'0' + (n % 10) as u8
@@ -84,7 +84,7 @@ fn put_decimal(area: &mut [u8], at: usize, k: usize, n: usize) -> usize
 }
 
 // Puts the label that shown node i carries.
-fn put_label(area: &mut [u8], at: usize, table: &[u8], shown: &[u16], i: usize) -> usize
+pub(crate) fn put_label(area: &mut [u8], at: usize, table: &[u8], shown: &[u16], i: usize) -> usize
     requires { ⌜ (Fits (now table) (now shown)) × (i < length (now shown)) × (at < 2 ^ 62) ⌝ }
     ensures { λ r. ⌜ (Puts (labelAt (viewOf (now (table .entry)) (now (shown .entry))) i) at (now (area .entry)) (now (area .exit)) r)
         × (r ≤ at + labelMax) ⌝ }
