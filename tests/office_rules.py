@@ -322,6 +322,8 @@ class Check(office.Office):
         # the other way round it decides for the others
         lines = [*roles, "(rule accept read //* staff)", "(rule deny read //* SHA)", *SCHOOL]
         self.finds(lines)
+        # for staff alone, and not for SHA
+        self.finds([*roles, accept, "(rule deny read //staff staff)", "(rule accept read //$ staff)"])
         # on this tree alone
         two = ["(rule deny read //ill staff)", "(rule deny read //note/* staff)"]
         self.finds([*STAFF, *two, *SCHOOL], ("hint", "decides-nothing", 3))
@@ -445,6 +447,7 @@ class Check(office.Office):
         self.finds(lines, ("hint", "no-rule", 2), ("hint", "role-nobody-has", 1), says=says)
         self.finds(["(subject staff)", *SCHOOL], ("hint", "no-rule", None), says="there is no rule")
         lines = ["(subject tutors)", "(rule accept read //* tutors)", "(rule accept insert //$ tutors)"]
+        self.finds([line.replace("tutors", "SHA") for line in lines] + ["(root school)", "(child (SHA))"])
         says = "speaks of its reader by $, and nobody is tutors"
         self.finds([*lines, *SCHOOL], ("hint", "selects-nothing", 3), ("hint", "role-nobody-has", 1), says=says)
 

@@ -26,7 +26,7 @@ from timetable_office.tree import RESTRICTED
 
 SLIP, HINT, REFUSED = "slip", "hint", "refused"
 _NAMES_SHOWN = 3
-_STATES_TRIED = 5_000
+_STATES_TRIED = 1_000
 _NEAR = 0.7
 _COLUMNS = 110
 _OTHER_LABEL = ""

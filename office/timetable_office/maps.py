@@ -21,6 +21,8 @@ from timetable_office.places import node_paths, parents
 
 GENERATOR = '<meta name="generator" content="timetable-office map">'
 _HEAD_BYTES = 400
+# The page loads nothing from anywhere.
+_POLICY = "default-src 'none'; style-src 'unsafe-inline'; script-src 'unsafe-inline'"
 _CHANGES = {"insert": "i", "update": "u", "delete": "d"}
 _HIDDEN_ABOVE = "^"
 _LETTERS = {Seen.LABEL: "R", Seen.RESTRICTED: "P", Seen.HIDDEN: "-"}
@@ -224,6 +226,7 @@ def map_page(decider: Decider, decisions: Sequence[Decisions], foot: Foot) -> st
 <head>
 <meta charset="utf-8">
 {GENERATOR}
+<meta http-equiv="Content-Security-Policy" content="{_POLICY}">
 <meta name="viewport" content="width=device-width, initial-scale=1">
 <meta name="robots" content="noindex">
 <title>{escape(title)}</title>
