@@ -659,6 +659,9 @@ class Map(office.Office):
         self.office("map", "store", "--out", "map.html", says="10 nodes by 2 subjects")
         self.assertEqual(os.stat(self.path("map.html")).st_mode & 0o777, 0o600)
         self.assertIn(b"tue", self.read("map.html"))
+        self.write(".map.html.making", "what a killed run left")
+        self.office("map", "store", "--out", "map.html", says="10 nodes by 2 subjects")
+        self.assertEqual(sorted(os.listdir(self.folder)), ["map.html", "store"])
 
         def small_files():
             resource.setrlimit(resource.RLIMIT_FSIZE, (4_000, 4_000))

@@ -9,7 +9,6 @@ from __future__ import annotations
 
 import json
 import os
-import tempfile
 from html import escape
 from itertools import groupby
 from pathlib import Path
@@ -261,19 +260,24 @@ def map_page(decider: Decider, decisions: Sequence[Decisions], foot: Foot) -> st
 
 
 def write_page(path: str, page: str) -> None:
-    """Writes a map for its owner alone, whole or not at all. It replaces an older map, and no other file."""
+    """Writes a map for its owner alone, whole or not at all. It replaces an older map, and no other file.
+
+    What a killed run leaves beside it has one name, so that the next run removes it.
+    """
     target = Path(path).absolute()
+    making = target.with_name(f".{target.name}.making")
     try:
         if target.exists() and not _is_map(target):
             raise OutputError(f"{path} is there already and is not a map; it is as it was")
-        with tempfile.NamedTemporaryFile(dir=target.parent, prefix=".timetable-office.", delete=False) as file:
+        making.unlink(missing_ok=True)
+        with open(os.open(making, os.O_WRONLY | os.O_CREAT | os.O_EXCL, 0o600), "wb") as file:
             try:
                 file.write(page.encode("utf-8"))
                 file.flush()
                 os.fsync(file.fileno())
-                os.replace(file.name, target)
+                os.replace(making, target)
             except BaseException:
-                os.unlink(file.name)
+                making.unlink(missing_ok=True)
                 raise
     except OSError as error:
         raise OutputError(f"{path} cannot be written: {error.strerror}") from error
