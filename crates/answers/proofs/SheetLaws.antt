@@ -1,6 +1,6 @@
 -- The sheet for a room's door: "nine rows of exactly 72 bytes and a line feed", whatever the view. Assumes nothing.
-use Prim.Native.Nat.{ℕ, _+_, _-_, _*_}
-use mathlib.Core.Path.{_≡_, _∙_}
+use Prim.Native.Nat.{ℕ, _+_, _*_}
+use mathlib.Core.Path.{_≡_, refl, ap, _∙_}
 use mathlib.Core.List.{List, [], _∷_, _++_}
 use native.Mathlib.Omega.{arith}
 use lib.ListN.{length, take, replicate, length-append}
@@ -29,18 +29,28 @@ cells-length : (t : Nodes) (f : ℕ → List ℕ) → length (each (λ day. cell
 unfolding days
 cells-length t f = each-length (λ day. cell (f day)) 14 (λ day. cell-length (f day)) (days t)
 
--- A row has 72 bytes and a line feed, which is its last byte.
-pub head-row-length : (t : Nodes) → length (headRow t) ≡ 73
-unfolding headRow
-head-row-length t = simp length-append (omega (arith, cells-length t (labelAt t)))
+-- 72 bytes and a line feed
+abbrev pub RowText : List ℕ → Type 0
+RowText s = (body : List ℕ) × (length body ≡ 72) × (s ≡ body ++ bytes "\n")
 
-pub row-length : (room : List ℕ) (t : Nodes) (n : ℕ) → length (row room t n) ≡ 73
+pub head-row-is : (t : Nodes) → RowText (headRow t)
+unfolding headRow
+head-row-is t =
+    let cells = each (λ day. cell (labelAt t day)) (days t) in
+    (bytes "  " ++ cells, omega (arith, cells-length t (labelAt t)), refl)
+
+pub row-is : (room : List ℕ) (t : Nodes) (n : ℕ) → RowText (row room t n)
 unfolding row
-row-length room t n = simp length-append (omega (arith, cells-length t (λ day. labelAt t (lesson room t n day))))
+row-is room t n =
+    let cells = each (λ day. cell (labelAt t (lesson room t n day))) (days t) in
+    ((48 + n) ∷ (bytes " " ++ cells), omega (arith, cells-length t (λ day. labelAt t (lesson room t n day))), refl)
+
+row-length : (s : List ℕ) → RowText s → length s ≡ 73
+row-length s r = ap length (r .2) ∙ length-append (r .0) (bytes "\n") ∙ omega (arith, r .1)
 
 -- Nine rows
 pub sheet-length : (room : List ℕ) (t : Nodes) → length (sheetText room t) ≡ 657
 unfolding sheetText
 sheet-length room t =
     length-append (headRow t) (each (row room t) periods)
-    ∙ omega (arith, head-row-length t, each-length (row room t) 73 (row-length room t) periods)
+    ∙ omega (arith, row-length (headRow t) (head-row-is t), each-length (row room t) 73 (λ n. row-length (row room t n) (row-is room t n)) periods)
