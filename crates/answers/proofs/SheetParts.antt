@@ -7,45 +7,15 @@ use native.Mathlib.Omega.{arith}
 use native.Mathlib.Numerals.{add-one}
 use lib.Dec.{ltb}
 use lib.ListN.{length, getD, take, drop, replicate, List·getD-eq-default, drop-of-length-le}
-use lib.Seq.{drop-cons, getD-drop, getD-take, drop-drop, length-take-le, take-at}
+use lib.Seq.{drop-cons, getD-drop, drop-drop, take-at}
 use borrow.Author.Tests.{eq-eqb, ne-eqb, le-leb, lt-leb, lt-ltb, le-ltb, ltb-true, ltb-false}
 use Rattle.rights.specs.Bytes.{bytes}
-use Rattle.rights.specs.Labels.{sameLabel, folded}
 use Rattle.rights.specs.Nodes.{node, Nodes, levelAt, labelAt}
 use Rattle.rights.specs.XPath.{at, children, filter, each, stretch}
-use Rattle.rights.proofs.LabelLaws.{same-differ}
 use Rattle.rights.proofs.ListLaws.{byCase}
 use Rattle.answers.specs.Sheet.{cell, nth, days, lesson, headRow, row, periods, sheetText}
 use Rattle.answers.specs.How.AnswerArea.{Puts}
 use Rattle.answers.specs.How.SheetParts.{siblings, onward, First}
-
--- Two labels, byte by byte
-
-module _ (a b : List ℕ) (n : ℕ) (h : n ≤ length a) where
-  pub same-other : (n ≡ length b → ⊥) → sameLabel (take n a) b ≡ false
-  same-other d = same-differ (take n a) b (λ e. d (sym (length-take-le n a h) ∙ e))
-
-  pub same-end : (k : ℕ) → n ≡ length b → n ≤ k → sameLabel (drop k (take n a)) (drop k b) ≡ true
-  unfolding sameLabel
-  same-end k e l =
-      let m : length (take n a) ≤ k = omega (arith, length-take-le n a h) in
-      let o : length b ≤ k = omega arith in
-      rw (drop-of-length-le, drop-of-length-le)
-
-  module _ (k : ℕ) (e : n ≡ length b) (l : k < n) where
-    opened : sameLabel (drop k (take n a)) (drop k b) ≡ sameLabel (getD a k 0 ∷ drop (suc k) (take n a)) (getD b k 0 ∷ drop (suc k) b)
-    opened =
-        let m : k < length (take n a) = omega (arith, length-take-le n a h) in
-        let o : k < length b = omega arith in
-        rw (drop-cons (take n a) k 0 m, drop-cons b k 0 o, getD-take n a k 0 l)
-
-    pub same-next : getD a k 0 ≡ getD b k 0 → sameLabel (drop k (take n a)) (drop k b) ≡ sameLabel (drop (k + 1) (take n a)) (drop (k + 1) b)
-    unfolding sameLabel
-    same-next q = opened ∙ rw (eq-eqb (folded (getD a k 0)) (folded (getD b k 0)) (ap folded q), add-one k)
-
-    pub same-stop : (getD a k 0 ≡ getD b k 0 → ⊥) → sameLabel (drop k (take n a)) (drop k b) ≡ false
-    unfolding sameLabel folded
-    same-stop q = opened ∙ rw (ne-eqb (getD a k 0) (getD b k 0) q)
 
 -- Siblings from a place on
 

@@ -4,10 +4,11 @@ use crate::answer::digit;
 use crate::answer::put_byte;
 use crate::answer::put_bytes;
 use crate::answer::put_label;
+use rights::labels::same_label;
 use rights::nodes::level_at;
 ghost use mathlib.Core.Path.{_≡_};
 ghost use Prim.Native.Nat.{_+_, _*_, _^_, _≤_, _<_};
-ghost use lib.ListN.{length, take};
+ghost use lib.ListN.{length};
 ghost use Rattle.rights.specs.Labels.{sameLabel};
 ghost use Rattle.rights.specs.Nodes.{labelAt};
 ghost use Rattle.rights.specs.XPath.{at, children, each};
@@ -21,24 +22,6 @@ const SHEET_BYTES: usize = 657;
 
 const PERIODS: usize = 8;
 
-// Whether the first n bytes of a and the label b are equal labels: rights::labels::same_label, which is not public, says the same.
-fn same_label(a: &[u8], n: usize, b: &[u8]) -> bool
-    requires { ⌜ n ≤ length (now a) ⌝ }
-    ensures { λ r. ⌜ r ≡ sameLabel (take n (now (a .entry))) (now (b .entry)) ⌝ }
-{
-    if n != b.len() {
-        return false;
-    }
-    let mut k = 0;
-    while k < n {
-        if a[k] != b[k] {
-            return false;
-        }
-        k += 1;
-    }
-    true
-}
-
 // Whether shown node i carries the label `room`.
 fn is_labelled(table: &[u8], shown: &[u16], i: usize, room: &[u8]) -> bool
     requires { ⌜ (Fits (now table) (now shown)) × (i < length (now shown)) ⌝ }
@@ -46,7 +29,7 @@ fn is_labelled(table: &[u8], shown: &[u16], i: usize, room: &[u8]) -> bool
 {
     let mut label = [0u8; 24];
     let n = put_label(&mut label, 0, table, shown, i);
-    same_label(&label, n, room)
+    same_label(&label, 0, n, room, 0, room.len())
 }
 
 // The first node of level l from place i on, before a node of a level under l; where there is none, the place after the last node.

@@ -1,9 +1,9 @@
 use Prim.Native.Nat.{ℕ}
-use mathlib.Core.Path.{ap, _∙_}
-use mathlib.Core.List.{List}
+use mathlib.Core.Path.{ap₂, _∙_}
 use native.Mathlib.Omega.{arith}
 use borrow.Author.Needs.{needs}
-use lib.ListN.{replicate}
+use lib.ListN.{length, replicate}
+use lib.Seq.{take-all}
 use Rattle.rights.specs.Labels.{sameLabel}
 use Rattle.rights.specs.Nodes.{labelAt}
 use Rattle.rights.specs.How.Numbers.{viewOf}
@@ -17,7 +17,7 @@ returns c =
     let a = at-put-label .before .before .before .before .before .args in
     let p = at-put-label .put-label .ensures in
     let e = label-put (labelAt (viewOf (a .table .now) (a .shown .now)) (a .i)) (replicate {A = ℕ} 24 0) (at-put-label .put-label .last .0) (at-put-label .put-label .result) (p .0) (omega (arith, p .1)) in
-    c .same-label .ensures ∙ ap (λ (u : List ℕ). sameLabel u (a .room .now)) e
+    c .same-label .ensures ∙ ap₂ sameLabel e (take-all (length (a .room .now)) (a .room .now) (omega arith))
 
 pub is-labelled-spec : {M : Type 1} → statement M
 is-labelled-spec =
