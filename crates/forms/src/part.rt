@@ -41,7 +41,7 @@ fn path_run_end(s: &[u8], at: usize) -> usize
 }
 
 // A label of 1 to 24 bytes.
-pub(crate) fn label_part_end(s: &[u8], at: usize) -> Read
+pub fn label_part_end(s: &[u8], at: usize) -> Read
     requires { ⌜ at ≤ length (now s) ⌝ }
     ensures { λ r. ⌜ Onward (labelEnd (now (s .entry)) at) r (at + 1) (length (now (s .entry))) ⌝ }
 {

@@ -2,7 +2,6 @@
 // by functions of their own, before anything is written.
 use crate::moves::clear_from;
 use crate::moves::move_record;
-use crate::moves::put_count;
 use crate::moves::shift_up;
 use rights::bytes::copy;
 use rights::bytes::wide;
@@ -12,6 +11,7 @@ use rights::limits::RECORD_BYTES;
 use rights::marks::count_marks;
 use rights::table::capacity_of;
 use rights::table::count_of;
+use rights::table::put_count;
 ghost use mathlib.Core.Path.{_≡_};
 ghost use mathlib.Core.List.{_++_, _∷_, []};
 ghost use mathlib.Core.Bool.{true, false, cond, not, _&&_};

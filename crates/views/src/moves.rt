@@ -1,23 +1,11 @@
-// Moves within the lent bytes of a table, its count and its cleared tail. What the changes have in common.
+// Moves within the lent bytes of a table, and its cleared tail. What the changes have in common.
 use rights::limits::RECORD_BYTES;
 ghost use mathlib.Core.Path.{_≡_};
 ghost use mathlib.Core.List.{_++_};
-ghost use Prim.Native.Nat.{_+_, _-_, _^_, _≤_, _<_};
+ghost use Prim.Native.Nat.{_+_, _-_, _≤_};
 ghost use lib.ListN.{length, take, drop, replicate};
 ghost use lib.Seq.{paste};
-ghost use Rattle.views.specs.Change.{le4};
 ghost use Rattle.views.specs.How.Pass.{shifted};
-
-// Stores the count.
-pub fn put_count(t: &mut [u8], n: usize)
-    requires { ⌜ (4 ≤ length (now t)) × (n < 2 ^ 32) ⌝ }
-    ensures { λ _. ⌜ now (t .exit) ≡ le4 n ++ drop 4 (now (t .entry)) ⌝ }
-{
-    t[0] = (n % 256) as u8;
-    t[1] = (n / 256 % 256) as u8;
-    t[2] = (n / 65536 % 256) as u8;
-    t[3] = (n / 16777216 % 256) as u8;
-}
 
 // Moves the record at byte `from` down to byte `to`.
 pub(crate) fn move_record(t: &mut [u8], from: usize, to: usize)

@@ -1,10 +1,10 @@
 // remove (document 01, "Changes"): the records that are done go, with all below them; in place, in one pass.
 use crate::moves::clear_from;
 use crate::moves::move_record;
-use crate::moves::put_count;
 use rights::limits::COUNT_BYTES;
 use rights::limits::RECORD_BYTES;
 use rights::table::count_of;
+use rights::table::put_count;
 ghost use mathlib.Core.Path.{_≡_};
 ghost use mathlib.Core.Bool.{true};
 ghost use Prim.Native.Nat.{_+_, _-_, _*_, _≤_, _<_};

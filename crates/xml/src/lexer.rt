@@ -1,13 +1,11 @@
 // One token of a document at a place (specs/How/Tokens): a tag, or a text between tags, with the blanks before it.
-use rights::limits::LABEL_MAX;
+use forms::part::label_part_end;
 use rights::path::Read;
 use rights::path::byte_is;
 ghost use mathlib.Core.Path.{_≡_};
 ghost use Prim.Native.Nat.{_+_, _≤_, _<_};
 ghost use lib.ListN.{length};
-ghost use Rattle.rights.specs.How.Reading.{Ends, Onward};
-ghost use Rattle.rights.specs.Labels.{labelByte};
-ghost use Rattle.forms.specs.Part.{labelEnd};
+ghost use Rattle.rights.specs.How.Reading.{Ends};
 ghost use Rattle.xml.specs.Document.{blankByte, nameStart};
 ghost use Rattle.xml.specs.How.Tokens.{opening, closing, texting};
 ghost use Rattle.xml.specs.How.Lexer.{LexedAs, LexedAt};
@@ -69,71 +67,12 @@ fn blanks_end(s: &[u8], at: usize) -> usize
     i
 }
 
-// Whether a byte may stand in a label: a test or two for a letter.
-fn label_char(b: u8) -> bool
-    ensures { λ r. ⌜ r ≡ labelByte b ⌝ }
-{
-    if b'a' <= b {
-        if b <= b'z' {
-            return true;
-        }
-        return false;
-    }
-    if b'A' <= b {
-        if b <= b'Z' {
-            return true;
-        }
-        return b == b'_';
-    }
-    if b'0' <= b {
-        if b <= b'9' {
-            return true;
-        }
-        return false;
-    }
-    if b == b'-' {
-        return true;
-    }
-    b == b'.'
-}
-
-// The place after the label bytes that stand at `at`.
-fn label_run_end(s: &[u8], at: usize) -> usize
-    requires { ⌜ at ≤ length (now s) ⌝ }
-    ensures { λ r. ⌜ Ends labelByte (now (s .entry)) at r ⌝ }
-{
-    let mut i = at;
-    while i < s.len() {
-        if !label_char(s[i]) {
-            return i;
-        }
-        i += 1;
-    }
-    i
-}
-
-// The place after a label of 1 to 24 bytes.
-fn label_after(s: &[u8], at: usize) -> Read
-    requires { ⌜ at ≤ length (now s) ⌝ }
-    ensures { λ r. ⌜ Onward (labelEnd (now (s .entry)) at) r (at + 1) (length (now (s .entry))) ⌝ }
-{
-    let e = label_run_end(s, at);
-    let n = e - at;
-    if n < 1 {
-        return Read::Bad;
-    }
-    if LABEL_MAX < n {
-        return Read::Bad;
-    }
-    Read::At(e)
-}
-
 // What begins with `</` at i.
 fn closing_tag(xml: &[u8], i: usize) -> Lexeme
     requires { ⌜ i + 2 ≤ length (now xml) ⌝ }
     ensures { λ r. ⌜ LexedAs closing (now (xml .entry)) i r ⌝ }
 {
-    let Read::At(e) = label_after(xml, i + 2) else {
+    let Read::At(e) = label_part_end(xml, i + 2) else {
         return Lexeme::Bad;
     };
     if byte_is(xml, e, b'>') {
@@ -147,7 +86,7 @@ fn opening_tag(xml: &[u8], i: usize) -> Lexeme
     requires { ⌜ i + 1 ≤ length (now xml) ⌝ }
     ensures { λ r. ⌜ LexedAs opening (now (xml .entry)) i r ⌝ }
 {
-    let Read::At(e) = label_after(xml, i + 1) else {
+    let Read::At(e) = label_part_end(xml, i + 1) else {
         return Lexeme::Bad;
     };
     if name_start(xml[i + 1]) {
@@ -170,7 +109,7 @@ fn label_text(xml: &[u8], i: usize) -> Lexeme
     requires { ⌜ i ≤ length (now xml) ⌝ }
     ensures { λ r. ⌜ LexedAs texting (now (xml .entry)) i r ⌝ }
 {
-    let Read::At(e) = label_after(xml, i) else {
+    let Read::At(e) = label_part_end(xml, i) else {
         return Lexeme::Bad;
     };
     let t = blanks_end(xml, e);

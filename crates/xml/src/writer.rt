@@ -4,11 +4,12 @@ use crate::lexer::next_token;
 use rights::limits::COUNT_BYTES;
 use rights::limits::RECORD_BYTES;
 use rights::record::put_node;
+use rights::table::put_count;
 ghost use mathlib.Core.Path.{_≡_};
-ghost use mathlib.Core.List.{_++_, map};
-ghost use Prim.Native.Nat.{_+_, _-_, _*_, _^_, _≤_, _<_};
-ghost use lib.ListN.{length, drop};
-ghost use Rattle.rights.specs.Held.{le4, tableBytes, nodeBytes};
+ghost use mathlib.Core.List.{map};
+ghost use Prim.Native.Nat.{_+_, _-_, _*_, _≤_};
+ghost use lib.ListN.{length};
+ghost use Rattle.rights.specs.Held.{tableBytes, nodeBytes};
 ghost use Rattle.rights.specs.Record.{pasted, nodeRecord};
 ghost use Rattle.xml.specs.How.Lexer.{between};
 ghost use Rattle.xml.specs.How.Tokens.{documentNodes};
@@ -123,17 +124,6 @@ fn put_nodes(xml: &[u8], table: &mut [u8]) -> usize
             }
         }
     }
-}
-
-// Stores the count.
-fn put_count(table: &mut [u8], n: usize)
-    requires { ⌜ (4 ≤ length (now table)) × (n < 2 ^ 32) ⌝ }
-    ensures { λ _. ⌜ now (table .exit) ≡ le4 n ++ drop 4 (now (table .entry)) ⌝ }
-{
-    table[0] = (n % 256) as u8;
-    table[1] = (n / 256 % 256) as u8;
-    table[2] = (n / 65536 % 256) as u8;
-    table[3] = (n / 16777216 % 256) as u8;
 }
 
 // Loads a document into an empty table.

@@ -15,17 +15,17 @@ abbrev to-start : tie.After-e → tie.Start
 to-start c = c .before .before .before .before
 
 abbrev read : (c : tie.After-e) → labelEnd (to-start c .args .xml .now) (to-start c .args .i) ≡ At (e-of c)
-read c = sym (c .before .before .label-after .ensures .is) ∙ c .e .given .1
+read c = sym (c .before .before .label-part-end .ensures .is) ∙ c .e .given .1
 
 returns : tie.Need-returns
 returns c =
     let at-label = c .before .before in let args = at-label .before .before .args in
-    texting-none (args .xml .now) (args .i) (sym (at-label .label-after .ensures .is) ∙ c .enum-told .given .1)
+    texting-none (args .xml .now) (args .i) (sym (at-label .label-part-end .ensures .is) ∙ c .enum-told .given .1)
 
 blanks-end-requires : tie.Need-blanks-end-requires
 blanks-end-requires c κs =
     let at-e = c .before in
-    let h = at-e .before .before .label-after .ensures .on (e-of at-e) (at-e .e .given .1) in
+    let h = at-e .before .before .label-part-end .ensures .on (e-of at-e) (at-e .e .given .1) in
     omega arith
 
 returns-2 : tie.Need-returns-2

@@ -21,17 +21,17 @@ abbrev to-start : tie.After-e → tie.Start
 to-start c = c .before .before .before .before
 
 abbrev read : (c : tie.After-e) → labelEnd (to-start c .args .xml .now) (to-start c .args .i + 1) ≡ At (e-of c)
-read c = sym (c .before .before .label-after .ensures .is) ∙ c .e .given .1
+read c = sym (c .before .before .label-part-end .ensures .is) ∙ c .e .given .1
 
 returns : tie.Need-returns
 returns c =
     let at-label = c .before .before in let args = at-label .before .before .args in
-    opening-unnamed (args .xml .now) (args .i) (sym (at-label .label-after .ensures .is) ∙ c .enum-told .given .1)
+    opening-unnamed (args .xml .now) (args .i) (sym (at-label .label-part-end .ensures .is) ∙ c .enum-told .given .1)
 
 shared-slice-read-name-start : tie.Need-shared-slice-read-name-start
 shared-slice-read-name-start c =
     let at-e = to-e c in
-    let h = at-e .before .before .label-after .ensures .on (e-of at-e) (at-e .e .given .1) in
+    let h = at-e .before .before .label-part-end .ensures .on (e-of at-e) (at-e .e .given .1) in
     omega arith
 
 add-t11 : tie.Need-add-t11
