@@ -11,7 +11,7 @@ from timetable_office.tree import read_table
 
 
 def replace_policy(session: Session, given: Lines) -> Run:
-    """What a store with the tree of a session is under the policy of the given lines, which are of stages A and B alone.
+    """What a store with the session's tree is under the policy of the given lines, all of them of stages A and B.
 
     The library makes the new state from these lines, then from the root's line and, where the store has had one, a
     child line. It stands with the table as it is, and the library has to take both together for a store.
