@@ -1,4 +1,4 @@
-/* The timetable tree and its readers: one call for every line.
+/* The timetable tree and its readers: one call for every line, and one that loads the solver's file.
  *
  * The store is lent by the caller with each call: a state and a table. Both start as zeros. Keep them as they are
  * left, in memory or in a file; docs/FORMAT.md tells their bytes.
@@ -31,18 +31,18 @@ extern "C" {
 /* The version of this header: as text, and as a number for #if (1,000,000 for the first part, 1,000 for the second).
  *
  * The library tells no version when it runs. A library that does not fit is found in three ways:
- * - The name that a program asks the system's loader for has the first two parts (liblouvretansy.so.0.1). They change
- *   whenever a form, an answer or a byte of state or table changes its meaning.
+ * - The name that a program asks the system's loader for has the first two parts (liblouvretansy.so.0.2). They change
+ *   whenever a call, a form, an answer or a byte of state or table is added or changes its meaning.
  * - timetable_library_fits() is 0 if the library's state is of another size.
  * - A state of TIMETABLE_STATE_BYTES that such a library is lent is refused with 13, whatever the line.
  */
-#define TIMETABLE_VERSION "0.1.0"
-#define TIMETABLE_VERSION_NUMBER 1000
+#define TIMETABLE_VERSION "0.2.0"
+#define TIMETABLE_VERSION_NUMBER 2000
 
 /* The most bytes of a line, without its line feed. */
 #define TIMETABLE_MAX_LINE_BYTES 1024
 
-/* The most records that a table uses. A node takes one. */
+/* The most records that a table uses. A node takes one; in a document, each element and each text. */
 #define TIMETABLE_MAX_RECORDS 16384
 
 /* The bytes of a state. */
@@ -63,8 +63,9 @@ extern "C" {
  */
 #define TIMETABLE_STACK_BYTES 1310720
 
-/* Why a line is refused. 13 is tested first; of the others that apply, the smallest is given. Later versions may have
- * more: a program should be ready for a number that is not listed.
+/* Why a line or a document is refused. 13 is tested first, then the others in the order of their numbers, except for
+ * 14, which comes after 4: the first that applies is given. Later versions may have more: a program should be ready for
+ * a number that is not listed.
  */
 enum timetable_refusal {
     TIMETABLE_REFUSED_BAD_LINE = 1,
@@ -79,11 +80,12 @@ enum timetable_refusal {
     TIMETABLE_REFUSED_TOO_DEEP = 10,
     TIMETABLE_REFUSED_TABLE_FULL = 11,
     TIMETABLE_REFUSED_AREA_SHORT = 12,
-    TIMETABLE_REFUSED_BAD_STORE = 13
+    TIMETABLE_REFUSED_BAD_STORE = 13,
+    TIMETABLE_REFUSED_NO_DOCUMENT = 14
 };
 
-/* Why the line is refused, in words that follow "the line is refused, since". The number is minus what timetable_line
- * returned. Any other number has a text too: the result is never null.
+/* Why it is refused, in words that follow "refused, since". The number is minus what the call returned. Any other
+ * number has a text too: the result is never null.
  */
 static inline const char *timetable_refusal_text(int64_t number) {
     switch (number) {
@@ -92,7 +94,7 @@ static inline const char *timetable_refusal_text(int64_t number) {
     case TIMETABLE_REFUSED_NO_FORM:
         return "it is none of the forms: a wrong word, a bad label or tree, a space too many or too few";
     case TIMETABLE_REFUSED_WRONG_STAGE:
-        return "its form does not fit the stage: policy, root, children, work";
+        return "it does not fit the stage: policy, root, children, work";
     case TIMETABLE_REFUSED_BAD_PATH:
         return "its path is not well formed";
     case TIMETABLE_REFUSED_BAD_NAME:
@@ -110,11 +112,14 @@ static inline const char *timetable_refusal_text(int64_t number) {
     case TIMETABLE_REFUSED_TOO_DEEP:
         return "a node would come to a level above 11";
     case TIMETABLE_REFUSED_TABLE_FULL:
-        return "the whole line needs more free records than there are";
+        return "the whole of it needs more free records than there are";
     case TIMETABLE_REFUSED_AREA_SHORT:
         return "the answer area is shorter than the answer";
     case TIMETABLE_REFUSED_BAD_STORE:
         return "the lent state or table is none, or the two do not agree";
+    case TIMETABLE_REFUSED_NO_DOCUMENT:
+        return "the document is not of the kind that is taken: one root element, tags that match, "
+               "labels as names and texts, and nothing else";
     default:
         return "the library gives a number that this version of timetable.h does not know";
     }
@@ -142,6 +147,25 @@ static inline int timetable_library_fits(void) {
  */
 int64_t timetable_line(uint8_t *state, size_t state_length, uint8_t *table, size_t table_length, const uint8_t *line,
                        size_t line_length, uint8_t *area, size_t area_length);
+
+/* The solver's file, whole, in place of root and child lines: after the policy, where no root is there yet.
+ *
+ *     <school>
+ *       <mon><lesson><class>10B</class><room>R12</room></lesson></mon>
+ *       <tue/>
+ *     </school>
+ *
+ * It is one XML 1.0 document of a narrow kind. Names and texts are labels; a name does not begin with a digit, a hyphen
+ * or a full stop. Spaces, tabs and line ends may stand around the root and around a text, none inside a tag. A text
+ * becomes a leaf: the lines of the document above are (root school), (child (mon (lesson (class (10B)) (room (R12)))))
+ * and (child (tue)). Anything else is refused with 14: attributes, comments, declarations, a byte order mark.
+ *
+ * Returns what timetable_line returns for such lines: 5, with "(ok)" and a line feed at the front of the area; or minus
+ * the number of a refusal: 13, 3, 14, 9, 10, 11 or 12. Then nothing is taken in. The caller sees to the same things as
+ * for a line; a document may be of any length.
+ */
+int64_t timetable_load_xml(uint8_t *state, size_t state_length, uint8_t *table, size_t table_length, const uint8_t *xml,
+                           size_t xml_length, uint8_t *area, size_t area_length);
 
 #ifdef __cplusplus
 }

@@ -1,6 +1,6 @@
 /* Tests of the library through its C interface: answers, areas that are too short (12), damaged states and tables (13),
- * and the stack that calls take. Every lent area lies between guard bytes. Prints the number of calls and the most
- * stack, or the first failure. The places of bytes are those of docs/FORMAT.md.
+ * documents, and the stack that calls take. Every lent area lies between guard bytes. Prints the number of calls and
+ * the most stack, or the first failure. The places of bytes are those of docs/FORMAT.md.
  *
  *     library [refusals]
  *
@@ -108,20 +108,26 @@ static void give_back_store(struct store store) {
 
 /* Calls */
 
-/* One line, with what holds for every call: guards and line are kept, the answer lies in the area and what is behind it
+enum { REFUSALS = 14 };
+
+/* timetable_line or timetable_load_xml */
+typedef int64_t function(uint8_t *state, size_t state_length, uint8_t *table, size_t table_length, const uint8_t *text,
+                         size_t text_length, uint8_t *area, size_t area_length);
+
+/* One call, with what holds for every one: guards and text are kept, the answer lies in the area and what is behind it
  * is kept, a refusal keeps every byte.
  */
-static int64_t call(struct store store, const char *text, struct lent area) {
+static int64_t call(function *called, struct store store, const char *text, struct lent area) {
     struct store before = copy_store(store);
     struct lent old = lend_copy(area.bytes, area.length);
-    struct lent line = lend_copy(text, strlen(text));
-    int64_t returned = timetable_line(store.state.bytes, store.state.length, store.table.bytes, store.table.length,
-                                      line.bytes, line.length, area.bytes, area.length);
+    struct lent given = lend_copy(text, strlen(text));
+    int64_t returned = called(store.state.bytes, store.state.length, store.table.bytes, store.table.length, given.bytes,
+                              given.length, area.bytes, area.length);
     calls++;
-    CHECK(text, guarded(store.state) && guarded(store.table) && guarded(line) && guarded(area));
-    CHECK(text, memcmp(line.bytes, text, line.length) == 0);
+    CHECK(text, guarded(store.state) && guarded(store.table) && guarded(given) && guarded(area));
+    CHECK(text, memcmp(given.bytes, text, given.length) == 0);
     if (returned < 0) {
-        CHECK(text, returned >= -13);
+        CHECK(text, returned >= -REFUSALS);
         CHECK(text, same(store.state, before.state) && same(store.table, before.table) && same(area, old));
     } else {
         size_t length = (size_t)returned;
@@ -130,29 +136,38 @@ static int64_t call(struct store store, const char *text, struct lent area) {
     }
     give_back_store(before);
     give_back(old);
-    give_back(line);
+    give_back(given);
     return returned;
 }
 
-static void expect_refusal(struct store store, const char *text, size_t room, int number, const char *what) {
+static void expect_refused(function *called, struct store store, const char *text, size_t room, int number,
+                           const char *what) {
     struct lent area = lend(room, OLD);
-    int64_t returned = call(store, text, area);
+    int64_t returned = call(called, store, text, area);
     if (returned != -number) {
-        fprintf(stderr, "FAILED: %s: %s returns %ld, not %d\n", what, text, (long)returned, -number);
+        fprintf(stderr, "FAILED: %s: %.60s returns %ld, not %d\n", what, text, (long)returned, -number);
         exit(1);
     }
     give_back(area);
 }
 
-static void expect_answer(struct store store, const char *text, size_t room, const char *answer) {
+static void expect_refusal(struct store store, const char *line, size_t room, int number, const char *what) {
+    expect_refused(timetable_line, store, line, room, number, what);
+}
+
+static void expect_answered(function *called, struct store store, const char *text, size_t room, const char *answer) {
     struct lent area = lend(room, OLD);
-    int64_t returned = call(store, text, area);
+    int64_t returned = call(called, store, text, area);
     if (returned != (int64_t)strlen(answer) || memcmp(area.bytes, answer, strlen(answer)) != 0) {
-        fprintf(stderr, "FAILED: %s returns %ld: %.*s", text, (long)returned, returned > 0 ? (int)returned : 0,
+        fprintf(stderr, "FAILED: %.60s returns %ld: %.*s", text, (long)returned, returned > 0 ? (int)returned : 0,
                 (const char *)area.bytes);
         exit(1);
     }
     give_back(area);
+}
+
+static void expect_answer(struct store store, const char *line, size_t room, const char *answer) {
+    expect_answered(timetable_line, store, line, room, answer);
 }
 
 /* The small school of document 01 */
@@ -216,7 +231,7 @@ static void short_areas(void) {
     give_back_store(store);
 }
 
-/* 13, whatever the line and the area are; 13 comes first */
+/* 13, whatever the line or the document and the area are; 13 comes first */
 static void expect_damaged(struct store store, const char *what) {
     char long_line[TIMETABLE_MAX_LINE_BYTES + 2];
     memset(long_line, 'x', sizeof long_line - 1);
@@ -225,6 +240,8 @@ static void expect_damaged(struct store store, const char *what) {
     for (size_t i = 0; i < sizeof lines / sizeof lines[0]; i++) {
         expect_refusal(store, lines[i], i % 2 == 0 ? 100 : 0, TIMETABLE_REFUSED_BAD_STORE, what);
     }
+    expect_refused(timetable_load_xml, store, "<school/>", 100, TIMETABLE_REFUSED_BAD_STORE, what);
+    expect_refused(timetable_load_xml, store, "<school>", 0, TIMETABLE_REFUSED_BAD_STORE, what);
 }
 
 static void damaged_byte(struct store sound, int in_table, size_t at, uint8_t value, const char *what) {
@@ -463,9 +480,9 @@ static void largest_table(void) {
     size_t root = strlen("(root )\n") + 24;
     size_t child = strlen("(child ())\n") + 24;
     size_t length = root + (TIMETABLE_MAX_RECORDS - 1) * child + strlen("(end 16384)\n");
-    CHECK("the longest view", call(store, "(view)", area) == (int64_t)length && length <= area.length);
+    CHECK("the longest view", call(timetable_line, store, "(view)", area) == (int64_t)length && length <= area.length);
     expect_refusal(store, "(view)", length - 1, TIMETABLE_REFUSED_AREA_SHORT, "the longest view");
-    CHECK("the longest query", call(store, "(query //*)", area) > 0);
+    CHECK("the longest query", call(timetable_line, store, "(query //*)", area) > 0);
 
     char path[256];
     char nested[TIMETABLE_MAX_LINE_BYTES];
@@ -479,6 +496,60 @@ static void largest_table(void) {
     give_back_store(store);
 }
 
+/* Documents */
+
+/* So many elements in each other. All are closed or none is; the one in the middle may be closed by another name. */
+static char *nested(size_t levels, int closed, int mismatched) {
+    char *made = malloc(levels * 7 + 1);
+    CHECK("memory", made != NULL);
+    char *end = made;
+    for (size_t i = 0; i < levels; i++, end += 3) {
+        memcpy(end, "<a>", 3);
+    }
+    for (size_t i = 0; i < levels && closed; i++, end += 4) {
+        memcpy(end, mismatched && i == levels / 2 ? "</b>" : "</a>", 4);
+    }
+    *end = '\0';
+    return made;
+}
+
+/* The school of document 01 by its document is that by its lines. Each refusal comes before those after it. */
+static void documents(void) {
+    static const char *const document =
+        "\r\n<school>\n\t<mon><lesson> <class>10B</class><room>\nR12 </room><note>ill</note></lesson></mon>\n"
+        "</school>\n";
+    struct store typed = school(TREE_LINES, TIMETABLE_TABLE_BYTES(SCHOOL_NODES));
+    struct store loaded = school(POLICY_LINES, TIMETABLE_TABLE_BYTES(SCHOOL_NODES));
+    for (size_t room = 0; room < 5; room++) {
+        expect_refused(timetable_load_xml, loaded, document, room, TIMETABLE_REFUSED_AREA_SHORT, "a short area");
+    }
+    expect_answered(timetable_load_xml, loaded, document, 5, "(ok)\n");
+    CHECK("a document and its lines", same(loaded.state, typed.state) && same(loaded.table, typed.table));
+    expect_refused(timetable_load_xml, loaded, "", 0, TIMETABLE_REFUSED_WRONG_STAGE, "a root that is there");
+    give_back_store(typed);
+    give_back_store(loaded);
+
+    struct store empty = new_store(TIMETABLE_TABLE_BYTES(2));
+    static const struct {
+        const char *document;
+        int number;
+    } refused[] = {
+        {"<a><RESTRICTED></a>", TIMETABLE_REFUSED_NO_DOCUMENT},
+        {"<a><b><c/>RESTRICTED</b></a><d/>", TIMETABLE_REFUSED_NO_DOCUMENT},
+        {"<a><b><c><d><e><f><g><h><i><j><k><l><m/>RESTRICTED</l></k></j></i></h></g></f></e></d></c></b></a>",
+         TIMETABLE_REFUSED_BAD_LABEL},
+        {"<a><b><c><d><e><f><g><h><i><j><k><l><m/></l></k></j></i></h></g></f></e></d></c></b></a>",
+         TIMETABLE_REFUSED_TOO_DEEP},
+        {"<a>b<c/></a>", TIMETABLE_REFUSED_TABLE_FULL},
+        {"<a>b</a>", TIMETABLE_REFUSED_AREA_SHORT},
+    };
+    for (size_t i = 0; i < sizeof refused / sizeof refused[0]; i++) {
+        expect_refused(timetable_load_xml, empty, refused[i].document, 4, refused[i].number, "a document");
+    }
+    expect_answered(timetable_load_xml, empty, "<a>b</a>", 5, "(ok)\n");
+    give_back_store(empty);
+}
+
 /* The stack. A call runs on one that was painted before; the lowest byte without paint tells how much it took. */
 
 enum { PAINT = 0xc5 };
@@ -487,8 +558,9 @@ static uint8_t stack[4 * 1024 * 1024];
 
 static struct {
     ucontext_t caller;
+    function *called;
     struct store store;
-    const char *line;
+    const char *text;
     struct lent area;
     int64_t returned;
 } painted;
@@ -496,24 +568,24 @@ static struct {
 static void call_on_paint(void) {
     struct store store = painted.store;
     painted.returned =
-        timetable_line(store.state.bytes, store.state.length, store.table.bytes, store.table.length,
-                       (const uint8_t *)painted.line, strlen(painted.line), painted.area.bytes, painted.area.length);
+        painted.called(store.state.bytes, store.state.length, store.table.bytes, store.table.length,
+                       (const uint8_t *)painted.text, strlen(painted.text), painted.area.bytes, painted.area.length);
 }
 
-/* The bytes of stack that an accepted line takes */
-static size_t stack_of(struct store store, const char *line) {
+/* The bytes of stack that a call takes, and what it returned in `painted` */
+static size_t stack_of_call(function *called, struct store store, const char *text) {
     ucontext_t callee;
+    painted.called = called;
     painted.store = copy_store(store);
-    painted.line = line;
+    painted.text = text;
     painted.area = lend(TIMETABLE_AREA_BYTES(20), OLD);
     memset(stack, PAINT, sizeof stack);
-    CHECK(line, getcontext(&callee) == 0);
+    CHECK(text, getcontext(&callee) == 0);
     callee.uc_stack.ss_sp = stack;
     callee.uc_stack.ss_size = sizeof stack;
     callee.uc_link = &painted.caller;
     makecontext(&callee, call_on_paint, 0);
-    CHECK(line, swapcontext(&painted.caller, &callee) == 0);
-    CHECK(line, painted.returned > 0);
+    CHECK(text, swapcontext(&painted.caller, &callee) == 0);
     calls++;
     give_back_store(painted.store);
     give_back(painted.area);
@@ -521,8 +593,35 @@ static size_t stack_of(struct store store, const char *line) {
     while (stack[kept] == PAINT) {
         kept++;
     }
-    CHECK(line, kept > 0);
+    CHECK(text, kept > 0);
     return sizeof stack - kept;
+}
+
+/* The same of an accepted line */
+static size_t stack_of(struct store store, const char *line) {
+    size_t used = stack_of_call(timetable_line, store, line);
+    CHECK(line, painted.returned > 0);
+    return used;
+}
+
+/* The most that documents of 100,000 nested elements take */
+static size_t stack_of_documents(void) {
+    static const struct {
+        int closed, mismatched, number;
+    } documents[] = {{1, 0, TIMETABLE_REFUSED_TOO_DEEP},
+                     {1, 1, TIMETABLE_REFUSED_NO_DOCUMENT},
+                     {0, 0, TIMETABLE_REFUSED_NO_DOCUMENT}};
+    struct store empty = new_store(TIMETABLE_TABLE_BYTES(20));
+    size_t most = 0;
+    for (size_t i = 0; i < sizeof documents / sizeof documents[0]; i++) {
+        char *deep = nested(100000, documents[i].closed, documents[i].mismatched);
+        size_t used = stack_of_call(timetable_load_xml, empty, deep);
+        CHECK("100,000 nested elements", painted.returned == -documents[i].number);
+        most = used > most ? used : most;
+        free(deep);
+    }
+    give_back_store(empty);
+    return most;
 }
 
 /* The most that any form takes, with paths of 16 steps in brackets nested so deep */
@@ -550,6 +649,7 @@ static void stack_of_calls(void) {
     size_t without = most_stack(store, 0);
     size_t most = most_stack(store, 3);
     CHECK("the stack that the header asks for", most > without);
+    CHECK("the stack of a document is within that of a line", stack_of_documents() <= without);
     CHECK("the stack that the header asks for", most + most / 8 <= TIMETABLE_STACK_BYTES);
     CHECK("the stack that the header asks for", TIMETABLE_STACK_BYTES < 2 * most);
     printf("stack: %lu KiB, without brackets %lu KiB\n", (unsigned long)(most + 1023) / 1024,
@@ -558,8 +658,6 @@ static void stack_of_calls(void) {
 }
 
 /* The header */
-
-enum { REFUSALS = 13 };
 
 static void texts_of_refusals(void) {
     const char *unknown = timetable_refusal_text(0);
@@ -605,6 +703,7 @@ int main(int argc, char **argv) {
     sound_stores();
     longest_lines();
     largest_table();
+    documents();
     stack_of_calls();
     printf("%lu calls as expected\n", calls);
     return 0;

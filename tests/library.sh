@@ -166,7 +166,7 @@ install_tree() {
     made "$root" PROGRAM="$work/none" install > /dev/null && installed_is "${files[@]}" &&
         made "$root" PROGRAM="$work/view_c" install && installed_is bin/timetable "${files[@]}" &&
         readelf -d "$so" | grep -qF "Library soname: [$soname]" &&
-        [ "$(nm -D --defined-only "$so" | cut -d ' ' -f 3 | xargs)" = 'timetable_line timetable_state_bytes' ] &&
+        [ "$(nm -D --defined-only "$so" | cut -d ' ' -f 3 | xargs)" = 'timetable_line timetable_load_xml timetable_state_bytes' ] &&
         [ "$(in_tree pkg-config --modversion louvretansy)" = "$version" ]
 }
 

@@ -430,7 +430,7 @@ class New(Office):
         self.office("new", "store", "--records", "2", says="for 2 nodes")
         full = ["(root a)", "(child (b))", "(child (c))"]
         self.office(
-            "run", "store", given=full, status=1, says="standard input:3: refused 11: the whole line needs more"
+            "run", "store", given=full, status=1, says="standard input:3: refused 11: the whole of it needs more"
         )
         self.assertIn("the table has 2 records, and 2 are in use", self.errors)
 

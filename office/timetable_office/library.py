@@ -7,7 +7,7 @@
     try:
         session.line(b"(view)")
     except Refused as refused:
-        print(refused)                           # refused 3: its form does not fit the stage: ..
+        print(refused)                           # refused 3: it does not fit the stage: ..
 
 A call needs 1,280 KiB of stack, which the main thread has unless `ulimit -s` is set below that.
 """

@@ -1,7 +1,7 @@
-"""The reasons why a line is refused: the one table of them.
+"""The reasons why a line or a document is refused: the one table of them.
 
 `constant` is the name in include/timetable.h after `TIMETABLE_REFUSED_`; `reason` is the sentence of README.md, to be
-read after "the line is refused, since".
+read after "refused, since".
 """
 
 from typing import NamedTuple
@@ -18,7 +18,7 @@ class Refusal(NamedTuple):
 TABLE: tuple[Refusal, ...] = (
     Refusal(1, "BAD_LINE", "it has more than 1,024 bytes, or a byte that is no plain ASCII character"),
     Refusal(2, "NO_FORM", "it is none of the forms: a wrong word, a bad label or tree, a space too many or too few"),
-    Refusal(3, "WRONG_STAGE", "its form does not fit the stage: policy, root, children, work"),
+    Refusal(3, "WRONG_STAGE", "it does not fit the stage: policy, root, children, work"),
     Refusal(4, "BAD_PATH", "its path is not well formed"),
     Refusal(
         5,
@@ -35,13 +35,19 @@ TABLE: tuple[Refusal, ...] = (
         "or a policy word is the new label of a rename or update",
     ),
     Refusal(10, "TOO_DEEP", "a node would come to a level above 11"),
-    Refusal(11, "TABLE_FULL", "the whole line needs more free records than there are"),
+    Refusal(11, "TABLE_FULL", "the whole of it needs more free records than there are"),
     Refusal(12, "AREA_SHORT", "the answer area is shorter than the answer"),
     Refusal(13, "BAD_STORE", "the lent state or table is none, or the two do not agree"),
+    Refusal(
+        14,
+        "NO_DOCUMENT",
+        "the document is not of the kind that is taken: one root element, tags that match, "
+        "labels as names and texts, and nothing else",
+    ),
 )
 
 BAD_LINE, NO_FORM, WRONG_STAGE, BAD_PATH, BAD_NAME, RULE_BRACKET, POLICY_FULL = range(1, 8)
-NO_USER, BAD_LABEL, TOO_DEEP, TABLE_FULL, AREA_SHORT, BAD_STORE = range(8, 14)
+NO_USER, BAD_LABEL, TOO_DEEP, TABLE_FULL, AREA_SHORT, BAD_STORE, NO_DOCUMENT = range(8, 15)
 
 _BY_NUMBER = {refusal.number: refusal for refusal in TABLE}
 

@@ -42,14 +42,25 @@ extern "C" {
         area: *mut u8,
         area_length: usize,
     ) -> i64;
+    fn timetable_load_xml(
+        state: *mut u8,
+        state_length: usize,
+        table: *mut u8,
+        table_length: usize,
+        xml: *const u8,
+        xml_length: usize,
+        area: *mut u8,
+        area_length: usize,
+    ) -> i64;
 }
 
-/// Makes `Refusal` from its table: number, name and the reason, which follows "the line is refused, since".
+/// Makes `Refusal` from its table: number, name and the reason, which follows "refused, since".
 macro_rules! refusals {
     ($($number:literal $name:ident $reason:literal)*) => {
-        /// Why a line is refused. 13 is tested first; of the others that apply, the smallest is given.
+        /// Why a line or a document is refused. 13 is tested first, then the others in the order of their numbers,
+        /// except for 14, which comes after 4: the first that applies is given.
         ///
-        /// Each of them says what follows "the line is refused, since".
+        /// Each of them says what follows "refused, since".
         #[derive(Clone, Copy, PartialEq, Eq, Hash, Debug)]
         #[non_exhaustive]
         pub enum Refusal {
@@ -74,7 +85,7 @@ macro_rules! refusals {
                 }
             }
 
-            /// The reason in words, which follow "the line is refused, since".
+            /// The reason in words, which follow "refused, since".
             #[must_use]
             pub const fn reason(self) -> &'static str {
                 match self {
@@ -101,7 +112,7 @@ macro_rules! refusals {
 refusals! {
     1 BadLine "it has more than 1,024 bytes, or a byte that is no plain ASCII character"
     2 NoForm "it is none of the forms: a wrong word, a bad label or tree, a space too many or too few"
-    3 WrongStage "its form does not fit the stage: policy, root, children, work"
+    3 WrongStage "it does not fit the stage: policy, root, children, work"
     4 BadPath "its path is not well formed"
     5 BadName "a name is unknown or declared twice, an isa line is repeated, \
                or a role is not declared before who has it"
@@ -111,9 +122,11 @@ refusals! {
     9 BadLabel "RESTRICTED is a new label or name in it, or stands in a tree or a rule's path; \
                 or a policy word is the new label of a rename or update"
     10 TooDeep "a node would come to a level above 11"
-    11 TableFull "the whole line needs more free records than there are"
+    11 TableFull "the whole of it needs more free records than there are"
     12 AreaShort "the answer area is shorter than the answer"
     13 BadStore "the lent state or table is none, or the two do not agree"
+    14 NoDocument "the document is not of the kind that is taken: one root element, tags that match, \
+                   labels as names and texts, and nothing else"
 }
 
 impl fmt::Display for Refusal {
@@ -202,6 +215,30 @@ pub fn line(state: &mut [u8], table: &mut [u8], line: &[u8], area: &mut [u8]) ->
     })
 }
 
+/// The solver's file, whole, on lent bytes, which may be any: in place of root and child lines, where no root is there
+/// yet. include/timetable.h tells which documents are taken.
+///
+/// The answer's length, 5, with `(ok)` and a line feed at the front of the area; the area after them is as it was.
+///
+/// # Errors
+///
+/// Why the document is refused. Then every byte is as it was.
+pub fn load_xml(state: &mut [u8], table: &mut [u8], xml: &[u8], area: &mut [u8]) -> Result<usize, Refusal> {
+    // SAFETY: as for a line.
+    length_or_refusal(unsafe {
+        timetable_load_xml(
+            state.as_mut_ptr(),
+            state.len(),
+            table.as_mut_ptr(),
+            table.len(),
+            xml.as_ptr(),
+            xml.len(),
+            area.as_mut_ptr(),
+            area.len(),
+        )
+    })
+}
+
 /// A state and a table, with an area for every answer.
 #[derive(Clone)]
 pub struct Store {
@@ -245,6 +282,21 @@ impl Store {
         let length = line(&mut self.state, &mut self.table, text.as_ref(), &mut self.area)?;
         Ok(self.area[..length].to_vec())
     }
+
+    /// The answer to the solver's file: the whole document, in place of root and child lines.
+    ///
+    /// ```
+    /// let mut store = louvretansy::Store::new(16);
+    /// assert_eq!(store.load_xml("<school><mon>R12</mon></school>"), Ok(b"(ok)\n".to_vec()));
+    /// ```
+    ///
+    /// # Errors
+    ///
+    /// Why the document is refused. Then nothing has changed.
+    pub fn load_xml(&mut self, document: impl AsRef<[u8]>) -> Result<Vec<u8>, Refusal> {
+        let length = load_xml(&mut self.state, &mut self.table, document.as_ref(), &mut self.area)?;
+        Ok(self.area[..length].to_vec())
+    }
 }
 
 /// Sizes alone: labels are not for every log.
@@ -266,7 +318,8 @@ mod tests {
         assert_eq!(length_or_refusal(5), Ok(5));
         assert_eq!(length_or_refusal(-1), Err(Refusal::BadLine));
         assert_eq!(length_or_refusal(-13), Err(Refusal::BadStore));
-        assert_eq!(length_or_refusal(-14), Err(Refusal::Unknown(14)));
+        assert_eq!(length_or_refusal(-14), Err(Refusal::NoDocument));
+        assert_eq!(length_or_refusal(-99), Err(Refusal::Unknown(99)));
         assert_eq!(length_or_refusal(i64::MIN), Err(Refusal::Unknown(1 << 63)));
     }
 }

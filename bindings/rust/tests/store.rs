@@ -1,7 +1,7 @@
 //! The wrapper: answers, refusals, bytes that are not those of a store, and what it shares with header and README.md.
 
 use louvretansy::{
-    area_bytes, library_fits, line, state_bytes, table_bytes, Refusal, Store, UnknownRefusal, MAX_LINE_BYTES,
+    area_bytes, library_fits, line, load_xml, state_bytes, table_bytes, Refusal, Store, UnknownRefusal, MAX_LINE_BYTES,
     MAX_RECORDS, STACK_BYTES, STATE_BYTES, VERSION,
 };
 use std::collections::HashMap;
@@ -51,12 +51,12 @@ fn refusals_have_the_numbers_and_reasons_of_the_readme() {
 
 #[test]
 fn a_number_that_no_refusal_has_is_an_error() {
-    for number in [0, 14, u64::MAX] {
+    for number in [0, 99, u64::MAX] {
         assert_eq!(Refusal::try_from(number), Err(UnknownRefusal(number)));
         assert_eq!(Refusal::Unknown(number).number(), number);
     }
-    assert_eq!(UnknownRefusal(14).to_string(), "no refusal has the number 14");
-    assert!(Refusal::Unknown(14).to_string().starts_with("refused 14: "));
+    assert_eq!(UnknownRefusal(99).to_string(), "no refusal has the number 99");
+    assert!(Refusal::Unknown(99).to_string().starts_with("refused 99: "));
 }
 
 #[test]
@@ -120,6 +120,43 @@ fn each_refusal_comes_with_its_number_and_changes_nothing() {
     assert_eq!(empty.line(b"(subject s64)"), Err(Refusal::PolicyFull));
     assert_eq!(empty.line(b"(root school)"), Ok(b"(ok)\n".to_vec()));
     assert_eq!(empty.line(b"(view)"), Err(Refusal::NoUser));
+}
+
+#[test]
+fn a_document_leaves_what_its_lines_leave() {
+    let (mut loaded, mut typed) = (Store::new(9), Store::new(9));
+    for store in [&mut loaded, &mut typed] {
+        assert_eq!(store.line("(subject staff)"), Ok(b"(ok)\n".to_vec()));
+    }
+    let document = "\n<school>\r\n\t<mon> 8.15 <lesson><room>R12</room></lesson></mon><tue></tue>\n</school> ";
+    assert_eq!(loaded.load_xml(document), Ok(b"(ok)\n".to_vec()));
+    for line in ["(root school)", "(child (mon (8.15) (lesson (room (R12)))))", "(child (tue))"] {
+        assert_eq!(typed.line(line), Ok(b"(ok)\n".to_vec()), "{line}");
+    }
+    assert!(loaded.state() == typed.state() && loaded.table() == typed.table());
+}
+
+#[test]
+fn each_refusal_of_a_document_comes_with_its_number_and_changes_nothing() {
+    let (school, empty) = (small_school(2), Store::new(2));
+    let damaged = Store::from_bytes(Vec::new(), Vec::new());
+    let refused = [
+        (&damaged, "<a/>".to_string(), Refusal::BadStore),
+        (&school, "<a/>".to_string(), Refusal::WrongStage),
+        (&empty, "<a><b></a></b>".to_string(), Refusal::NoDocument),
+        (&empty, "<a b=\"c\"/>".to_string(), Refusal::NoDocument),
+        (&empty, "<a><RESTRICTED/></a>".to_string(), Refusal::BadLabel),
+        (&empty, "<a>".repeat(13) + &"</a>".repeat(13), Refusal::TooDeep),
+        (&empty, "<a><b/>c</a>".to_string(), Refusal::TableFull),
+    ];
+    for (store, document, refusal) in refused {
+        let mut after = store.clone();
+        assert_eq!(after.load_xml(&document), Err(refusal), "{document}");
+        assert!(after.state() == store.state() && after.table() == store.table(), "{document}");
+    }
+    let (mut state, mut table, mut area) = (empty.state().to_vec(), empty.table().to_vec(), [7; 4]);
+    assert_eq!(load_xml(&mut state, &mut table, b"<a/>", &mut area), Err(Refusal::AreaShort));
+    assert!(state == empty.state() && table == empty.table() && area == [7; 4]);
 }
 
 #[test]

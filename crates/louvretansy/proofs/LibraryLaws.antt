@@ -1,7 +1,7 @@
 -- Lengths and refusals as the numbers returned. Assumes nothing.
 use Prim.Native.Nat.{ℕ, zero, suc, _^_, _<_}
 use mathlib.Core.Bool.{true}
-use mathlib.Core.Path.{_≡_, sym, ap, subst, _∙_}
+use mathlib.Core.Path.{_≡_, refl, sym, ap, subst, _∙_}
 use mathlib.Core.List.{List}
 use native.Mathlib.Omega.{arith}
 use lib.IntN.{ℤ, pos, negℤ, _-ℤ_, +ℤ-idl}
@@ -14,8 +14,9 @@ use Rattle.lines.specs.declared.line.Answer.{Answer}
 use Rattle.lines.specs.declared.line.Answer.the-variants.{Accepted, Refused}
 use Rattle.lines.specs.State.{storeOk}
 use Rattle.lines.specs.Outcome.{Reply, says, refuses, Outcome, Made, answerOf}
+use Rattle.lines.proofs.OutcomeLaws.{accepted-within}
 use Rattle.lines.proofs.StateLaws.{store-held}
-use Rattle.louvretansy.specs.Library.{stateBytes, returnValue, Returned}
+use Rattle.louvretansy.specs.Library.{stateBytes, returnValue, Returned, returnedFor, Short}
 
 -- a length that fits an area is one that 64 bits with a sign hold
 pub length-fits : {n : ℕ} → n < 2 ^ 63 → SFits w64 (pos n)
@@ -39,21 +40,26 @@ module _ (n : ℕ) (h : n < 256) where
   pub minus-is : toZ w64 (ofZ w64 (pos 0 -ℤ toZ w64 n)) ≡ negℤ (pos n)
   minus-is = toZ-ofZ minus-fits ∙ minus-at
 
--- what is returned for an answer
-module _ {o : Outcome} {before s' t' after : List ℕ} {r : Answer} (m : Made o before r s' t' after) where
-  pub accepted : {n : ℕ} → r ≡ Accepted n → n < 2 ^ 63 → Returned o before (toZ w64 n) s' t' after
-  accepted {n} e h = record { number = toZ-pos w64 h ∙ go (o .reply) (sym e ∙ m .answer); state = m .state; table = m .table; area = m .area }
-    where
-      go : (p : Reply) → Accepted n ≡ answerOf p → pos n ≡ returnValue p
-      go (says b) q = let z : n ≡ length b = cc in ap pos z
-      go (refuses k) q = let z : _≡_ {A = ℕ} 0 1 = cc in absurd (omega arith)
+-- an answer whose number fits
+pub fitting : {a : Answer} {n : ℕ} → a ≡ Accepted n → Short a → n < 2 ^ 63
+fitting e h = subst Short e h
 
-  pub turned-down : {n : ℕ} → r ≡ Refused n → {z : ℤ} → SFits w64 z → z ≡ negℤ (pos n) → Returned o before (toZ w64 (ofZ w64 z)) s' t' after
-  turned-down {n} e f q = record { number = toZ-ofZ f ∙ q ∙ go (o .reply) (sym e ∙ m .answer); state = m .state; table = m .table; area = m .area }
+-- what is made of an outcome, as it is returned
+module _ {o : Outcome} {before s' t' after : List ℕ} {r : Answer} (m : Made o before r s' t' after) where
+  -- an answer lies within its area, whose bytes are fewer than 2 ^ 63
+  pub short : length after < 2 ^ 63 → Short r
+  short h = go r refl
     where
-      go : (p : Reply) → Refused n ≡ answerOf p → negℤ (pos n) ≡ returnValue p
-      go (says b) w = let z : _≡_ {A = ℕ} 0 1 = cc in absurd (omega arith)
-      go (refuses k) w = let z : n ≡ k = cc in ap (λ x. negℤ (pos x)) z
+      go : (a : Answer) → r ≡ a → Short a
+      go (Accepted n) e = omega (arith, accepted-within m e, h)
+      go (Refused n) e = tt
+
+  pub returned-for : {z : ℤ} → SFits w64 z → z ≡ returnedFor r → Returned o before (toZ w64 (ofZ w64 z)) s' t' after
+  returned-for f e = record { number = toZ-ofZ f ∙ e ∙ ap returnedFor (m .answer) ∙ go (o .reply); state = m .state; table = m .table; area = m .area }
+    where
+      go : (p : Reply) → returnedFor (answerOf p) ≡ returnValue p
+      go (says b) = refl
+      go (refuses k) = refl
 
 -- 13 lets a state of these bytes alone pass
 pub store-bytes : (s t : List ℕ) → storeOk s t ≡ true → length s ≡ stateBytes

@@ -1,9 +1,11 @@
 -- What the library returns and leaves (document 01, "What is written", "Who can be turned down").
-use Prim.Native.Nat.{ℕ}
+use Prim.Native.Nat.{ℕ, _^_, _<_}
 use mathlib.Core.Path.{_≡_}
 use mathlib.Core.List.{List}
 use lib.IntN.{ℤ, pos, negℤ}
 use lib.ListN.{length}
+use Rattle.lines.specs.declared.line.Answer.{Answer}
+use Rattle.lines.specs.declared.line.Answer.the-variants.{Accepted, Refused}
 use Rattle.lines.specs.Outcome.{Reply, says, refuses, Outcome, areaAfter}
 
 -- the bytes of a state: of the length that 13 asks for (crates/lines/specs/State.antt, `storeOk`)
@@ -21,3 +23,12 @@ pub record Returned (o : Outcome) (before : List ℕ) (r : ℤ) (state' table' a
   pub state : state' ≡ o .state
   pub table : table' ≡ o .table
   pub area : area' ≡ areaAfter (o .reply) before
+
+-- The same of an answer, where the number of its bytes is one that 64 bits with a sign hold: so is that of any area's.
+abbrev pub returnedFor : Answer → ℤ
+returnedFor (Accepted n) = pos n
+returnedFor (Refused n) = negℤ (pos n)
+
+abbrev pub Short : Answer → Type 0
+Short (Accepted n) = n < 2 ^ 63
+Short (Refused n) = Unit {0}
