@@ -4,6 +4,7 @@ pub mod TokenLaws
 pub mod DocumentComplete
 pub mod DocumentSound
 pub mod DocumentLaws
+pub mod WrittenLaws
 pub mod KindLaws
 pub mod LexerLaws
 pub mod NameLaws
