@@ -54,6 +54,9 @@ class Store:
     def line(self, text):
         return self.call("timetable_line", (self.state, self.table, self.area), Slice(text))
 
+    def load_xml(self, document):
+        return self.call("timetable_load_xml", (self.state, self.table, self.area), Slice(document))
+
     def answer(self, result):
         """The bytes that the program would print."""
         return b"(refused %d)\n" % -result if result < 0 else bytes(self.area.memory)[:result]
