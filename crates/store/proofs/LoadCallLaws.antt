@@ -15,8 +15,7 @@ use Rattle.rights.proofs.ListLaws.{byCase}
 use Rattle.views.proofs.TableLaws.{facts}
 use Rattle.answers.specs.Answer.{okText}
 use Rattle.answers.specs.How.AnswerArea.{Answered}
-use Rattle.xml.specs.How.Loading as loading
-use Rattle.xml.specs.How.Loading.{deepest, tallyOf}
+use Rattle.xml.specs.How.Loading.{deepest, tallyOf, Writable}
 use Rattle.xml.specs.How.Tokens.{isDocument, documentNodes}
 use Rattle.xml.specs.declared.document.Tally.{Tally}
 use Rattle.lines.specs.Outcome.{Made}
@@ -95,7 +94,7 @@ module _ (s t xml : List ℕ) where
         own-passed = passed ownChecks _ refl (e ∙ own-checks) z
 
         -- what the writer of the document asks
-        pub document-fits : loading.Loadable xml t
+        pub document-fits : Writable xml t
         document-fits =
             let p = own-passed in
             let low = ltb-false 11 (deepest (documentNodes xml)) (deepest-told (documentNodes xml) ∙ p .1 .1 .1 .1 .0) in

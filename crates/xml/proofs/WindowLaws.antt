@@ -6,16 +6,14 @@ use mathlib.Core.Bool.{Bool, true, false, cond, _&&_, _||_, and-true, and-false,
 use native.Mathlib.Omega.{arith}
 use native.Mathlib.Nat.{le-max-left, le-max-right, max-zero, zero-mul, suc-mul, add-zero, zero-add, max-comm}
 use lib.Dec.{ltb}
-use lib.ListN.{length, drop}
+use lib.ListN.{length}
 use borrow.Author.Tests.{ltb-true, ltb-false, le-leb, lt-leb, lt-ltb, le-ltb}
-use Rattle.rights.specs.Bytes.{all, isZero}
-use Rattle.rights.specs.Limits.{recordsMax}
 use Rattle.rights.specs.Nodes.{Node, levelOf}
 use Rattle.rights.specs.Policy.{some}
 use Rattle.rights.proofs.ListLaws.{byCase}
 use Rattle.rights.proofs.TableLaws.{both}
 use Rattle.xml.specs.How.Tokens.{Token, opens, closes, empty, text, Tokens, got, bad, tokens, nested, sameBytes, matchedIn, tokenNodes, goodTokens, nodesOfTokens, isDocument, documentNodes}
-use Rattle.xml.specs.How.Loading.{deepest, isRestricted, tallyOf, documentKind, Loadable}
+use Rattle.xml.specs.How.Loading.{deepest, isRestricted, tallyOf, documentKind}
 use Rattle.xml.specs.How.Scan.{tallied, tallyAll, noNodes, inWindow, matchedWithin, window, kindWithin, FirstWindow}
 use Rattle.xml.specs.declared.document.Kind.{Kind}
 use Rattle.xml.specs.declared.document.Kind.the-variants.{NoDocument, Document}
@@ -199,7 +197,3 @@ told-document s t e =
 pub told-no-document : (s : List ℕ) → NoDocument ≡ documentKind s → isDocument s ≡ false
 unfolding documentKind
 told-no-document s e = byCase (isDocument s) (λ b. absurd (let q = rw b at e in let z : _≡_ {A = ℕ} 0 1 = cc in omega arith)) (λ b. b)
-
--- and when the document may be loaded
-pub told-loadable : (s table : List ℕ) (t : Tally) → Told s t → t .deepest ≤ 11 → t .nodes ≤ recordsMax → 4 + t .nodes * 32 ≤ length table → all isZero (drop 4 table) ≡ true → Loadable s table
-told-loadable s table t w d n r z = record { document = w .document; levels = rw (w .tally) at d; few = rw (w .tally) at n; room = rw (w .tally) at r; clear = z }

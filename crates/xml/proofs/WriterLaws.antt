@@ -19,7 +19,7 @@ use Rattle.rights.proofs.RecordOfLaws.{length-node}
 use Rattle.rights.proofs.TableLaws.{both}
 use Rattle.xml.specs.How.Tokens.{Token, opens, closes, empty, text, Lexed, token, end, bad, lex, Tokens, got, withToken, onLexed, tokensFrom, tokens, tokenNodes, goodTokens, nodesOfTokens, isDocument, documentNodes}
 use Rattle.xml.specs.How.Lexer.{between, Spot, LexedAt}
-use Rattle.xml.specs.How.Loading.{deepest, Loadable}
+use Rattle.xml.specs.How.Loading.{deepest, Writable}
 use Rattle.xml.specs.How.Writer.{ownNodes, depthAfter, onToken, nodesFrom, allNodes, nodesAt, recordsOf, Counted, Roomy, Put, PutNext, PutAll}
 use Rattle.xml.specs.declared.lexer.Lexeme.{Lexeme}
 use Rattle.xml.specs.declared.lexer.Lexeme.the-variants.{Opens, Closes, Empty, Label, End, Bad}
@@ -253,7 +253,7 @@ document-nodes s e = go (tokens s) refl e
     go (got xs) r q = nodes-read (suc (length s)) 0 s xs r
     go bad r q = absurd (let z : _≡_ {A = ℕ} 0 1 = cc in omega arith)
 
-module _ (s before : List ℕ) (h : Loadable s before) where
+module _ (s before : List ℕ) (h : Writable s before) where
   pub loads : (deepest (allNodes s) ≤ 11) × (4 + length (allNodes s) * 32 ≤ length before)
   loads = rw (document-nodes s (h .document)) (h .levels, h .room)
 

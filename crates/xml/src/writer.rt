@@ -13,7 +13,7 @@ ghost use Rattle.rights.specs.Held.{tableBytes, nodeBytes};
 ghost use Rattle.rights.specs.Record.{pasted, nodeRecord};
 ghost use Rattle.xml.specs.How.Lexer.{between};
 ghost use Rattle.xml.specs.How.Tokens.{documentNodes};
-ghost use Rattle.xml.specs.How.Loading.{deepest, Loadable};
+ghost use Rattle.xml.specs.How.Loading.{deepest, Writable};
 ghost use Rattle.xml.specs.How.Writer.{allNodes, Roomy, PutNext, PutAll};
 
 // How far the pass has come: the place, how many elements are open there, and how many records stand.
@@ -126,9 +126,9 @@ fn put_nodes(xml: &[u8], table: &mut [u8]) -> usize
     }
 }
 
-// Loads a document into an empty table.
+// Writes a document into an empty table.
 pub fn write_document(xml: &[u8], table: &mut [u8])
-    requires { ⌜ Loadable (now xml) (now table) ⌝ }
+    requires { ⌜ Writable (now xml) (now table) ⌝ }
     ensures { λ _. ⌜ now (table .exit) ≡ tableBytes (length (now (table .entry))) (map nodeBytes (documentNodes (now (xml .entry)))) ⌝ }
 {
     let n = put_nodes(xml, table);

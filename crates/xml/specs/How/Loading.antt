@@ -1,4 +1,4 @@
--- What is told of a document before it is loaded, and when it may be loaded: what the two functions promise and ask that a caller sees.
+-- What is told of a document before it is loaded, and when it may be written: what the two functions promise and ask that a caller sees.
 use Prim.Native.Nat.{ℕ, _+_, _*_, _≤_, max}
 use mathlib.Core.Path.{_≡_}
 use mathlib.Core.Bool.{Bool, true, cond}
@@ -31,8 +31,8 @@ tallyOf xs = record { nodes = length xs; deepest = deepest xs; restricted = some
 unfoldable pub documentKind : List ℕ → Kind
 documentKind s = cond (isDocument s) (Document (tallyOf (documentNodes s))) NoDocument
 
--- A document that may be loaded into the bytes of a table: its levels run to 11, all its nodes have room, and behind the count every byte is zero.
-pub record Loadable (s table : List ℕ) : Type 0 where
+-- A document that may be written into the bytes of a table: its levels run to 11, all its nodes have room, and behind the count every byte is zero.
+pub record Writable (s table : List ℕ) : Type 0 where
   pub document : isDocument s ≡ true
   pub levels : deepest (documentNodes s) ≤ 11
   pub few : length (documentNodes s) ≤ recordsMax
