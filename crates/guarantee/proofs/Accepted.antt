@@ -15,7 +15,8 @@ use Rattle.lines.specs.Outcome.{Reply, says, refuses, Outcome, answerOf}
 use Rattle.lines.specs.declared.line.Answer.the-variants as answer
 use Rattle.lines.specs.Refusal.{areaCheck}
 use Rattle.store.specs.Line.{stageOf, inStage, lineChecks, step}
-use Rattle.guarantee.proofs.CheckLaws.{passed-both, Refused, Went, checked-cases}
+use Rattle.lines.proofs.CheckLaws.{passed-both, Refused, Went, checked-cases, refused-is}
+use Rattle.lines.proofs.OutcomeLaws.{said-refused}
 use Rattle.guarantee.proofs.Sound.{EffectSound}
 use Rattle.guarantee.proofs.FormLaws.{workIn, read-law}
 
@@ -64,19 +65,17 @@ module _ (s t line : List ℕ) where
 
     -- "The number is returned; state, tables and answer area keep their bytes."
     pub refused-same : (n : ℕ) → step s t line room .reply ≡ refuses n → (step s t line room .state ≡ s) × (step s t line room .table ≡ t)
-    refused-same n e = go line-cases
-      where
-        go : Refused s t (step s t line room) ⊎ Accepted room → (step s t line room .state ≡ s) × (step s t line room .table ≡ t)
-        go (inl x) = (ap (λ (o : Outcome). o .state) (x .is), ap (λ (o : Outcome). o .table) (x .is))
-        go (inr x) =
-            absurd (let q : says (lineWork .text) ≡ refuses n = sym (ap (λ (o : Outcome). o .reply) (x .is)) ∙ e in let z : _≡_ {A = ℕ} 0 1 = cc in omega arith)
+    unfolding step performed
+    refused-same n e =
+        let r = refused-is (checksIn room guardedWork) s t done refl e in
+        (ap (λ (o : Outcome). o .state) r, ap (λ (o : Outcome). o .table) r)
 
     -- a line that answers is accepted
     pub accepted : (b : List ℕ) → step s t line room .reply ≡ says b → Accepted room
     accepted b e = go line-cases
       where
         go : Refused s t (step s t line room) ⊎ Accepted room → Accepted room
-        go (inl x) = absurd (let q : refuses (x .number) ≡ says b = sym (ap (λ (o : Outcome). o .reply) (x .is)) ∙ e in let z : _≡_ {A = ℕ} 0 1 = cc in omega arith)
+        go (inl x) = said-refused (sym e ∙ ap (λ (o : Outcome). o .reply) (x .is))
         go (inr x) = x
 
     -- and says what the work of its form says

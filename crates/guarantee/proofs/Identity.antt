@@ -31,7 +31,7 @@ use Rattle.guarantee.specs.Identity.{Tagged, taggedLevel, new, afterEffe
 use Rattle.guarantee.specs.Identity.{Follows, NodesKept, NodesRemoved, InsertedNew, NoneBack, OrderKept}
 use Rattle.lines.proofs.StateLaws.{store-held}
 use Rattle.rights.specs.Record.{nodeRecord}
-use Rattle.guarantee.proofs.CheckLaws.{Refused}
+use Rattle.lines.proofs.CheckLaws.{Refused}
 use Rattle.guarantee.proofs.Sound.{EffectSound}
 use Rattle.guarantee.proofs.Accepted.{Accepted, line-cases}
 use Rattle.guarantee.proofs.TableAfter.{table-after}

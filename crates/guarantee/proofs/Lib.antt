@@ -5,7 +5,6 @@ pub mod Scan
 pub mod DoneSeen
 pub mod LowTable
 pub mod Low
-pub mod CheckLaws
 pub mod Sound
 pub mod TreeRecords
 pub mod FormSound

@@ -20,7 +20,7 @@ use Rattle.lines.proofs.StateLaws.{store-held}
 use Rattle.guarantee.specs.Alike.{Input, outcome}
 use Rattle.guarantee.specs.Identity.{Tagged, afterEffect, afterReply, effectOf, follow, followAll, stateAfterAll, tableAfterAll, tagAll, tagAt, Was, rightsAt, SameRights}
 use Rattle.lines.specs.Effect.{Effect, policy, root, insertion, renaming, removal, login, reading}
-use Rattle.guarantee.proofs.CheckLaws.{Refused}
+use Rattle.lines.proofs.CheckLaws.{Refused}
 use Rattle.guarantee.proofs.Sound.{EffectSound}
 use Rattle.guarantee.proofs.Accepted.{Accepted, line-cases}
 use Rattle.guarantee.proofs.SessionKept.{policy-kept, rooted-kept}

@@ -18,7 +18,7 @@ use Rattle.lines.specs.PolicyEdit.{numberIn}
 use Rattle.store.specs.Line.{workOf, step}
 use Rattle.lines.proofs.StateLaws.{store-held}
 use Rattle.guarantee.specs.Alike.{UserIs, LogsIn}
-use Rattle.guarantee.proofs.CheckLaws.{Refused}
+use Rattle.lines.proofs.CheckLaws.{Refused}
 use Rattle.guarantee.proofs.Sound.{LoginSound, EffectSound}
 use Rattle.guarantee.proofs.StoreKept.{policy-staged, policy-logged, later-staged, session-kept, held-passes, held-after}
 use Rattle.guarantee.proofs.Accepted.{lineWork, Accepted, line-cases, taken, after-line}

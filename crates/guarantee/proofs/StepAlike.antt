@@ -17,7 +17,7 @@ use Rattle.lines.specs.Refusal.{areaCheck, checked}
 use Rattle.lines.proofs.StateLaws.{store-held}
 use Rattle.store.specs.Line.{stageOf, inStage, lineChecks, step}
 use Rattle.guarantee.specs.Alike.{UserIs}
-use Rattle.guarantee.proofs.CheckLaws.{passed-both}
+use Rattle.lines.proofs.CheckLaws.{passed-both}
 use Rattle.guarantee.proofs.FormSound.{agree}
 use Rattle.guarantee.proofs.FormLaws.{read-law}
 use Rattle.guarantee.proofs.Accepted.{lineWork, done}

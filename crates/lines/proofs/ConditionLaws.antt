@@ -12,6 +12,7 @@ use Rattle.rights.specs.Bytes.{within}
 use Rattle.rights.proofs.ListLaws.{byCase}
 use Rattle.lines.specs.Outcome.{Reply, says, refuses, Outcome}
 use Rattle.lines.specs.Refusal.{Check, checked, order, indexIn, rank, rising}
+use Rattle.lines.proofs.OutcomeLaws.{said-refused}
 use Rattle.lines.proofs.RefusalLaws.{rank-small}
 use Rattle.lines.specs.Conditions.{Conditions, Holds, Before, First}
 
@@ -47,9 +48,6 @@ index-same (m ∷ ms) a b e h =
 
 pub clash : {C : Type 0} {b : Bool} → b ≡ true → b ≡ false → C
 clash p q = absurd (let z : true ≡ false = sym p ∙ q in let y : _≡_ {A = ℕ} 0 1 = cc in omega arith)
-
-said-refused : {C : Type 0} {x : List ℕ} {n : ℕ} → says x ≡ refuses n → C
-said-refused e = absurd (let y : _≡_ {A = ℕ} 0 1 = cc in omega arith)
 
 -- a number of the paper's
 abbrev Known : ℕ → Type 0

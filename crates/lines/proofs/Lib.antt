@@ -14,6 +14,7 @@ pub mod ChangeLaws
 pub mod ViewReadBack
 pub mod StoreXPathLaws
 pub mod AllowedStoreLaws
+pub mod CheckLaws
 pub mod ConditionLaws
 pub mod NameRows
 pub mod TreeRows

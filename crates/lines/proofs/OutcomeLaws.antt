@@ -12,6 +12,10 @@ use Rattle.lines.specs.Outcome.{Reply, says, refuses, Outcome, Made, ans
 pub made-at : {o p : Outcome} {area s t area' : List ℕ} {r : Answer} → o ≡ p → Made p area r s t area' → Made o area r s t area'
 made-at e m = rw e m
 
+-- an answer is no refusal
+pub said-refused : {C : Type 0} {x : List ℕ} {n : ℕ} → says x ≡ refuses n → C
+said-refused e = absurd (let y : _≡_ {A = ℕ} 0 1 = cc in omega arith)
+
 -- an accepted line's answer lies within the area
 pub accepted-within : {o : Outcome} {before s' t' after : List ℕ} {r : Answer} {n : ℕ} → Made o before r s' t' after → r ≡ Accepted n → n ≤ length after
 accepted-within {o} {before} {s'} {t'} {after} {r} {n} m e = go (o .reply) (sym e ∙ m .answer) (m .area)

@@ -30,11 +30,12 @@ use Rattle.lines.specs.Allowed.{Session, sessionIn, HoldsSession, HoldsStore}
 use Rattle.lines.specs.Clause.{treeBytes, clause}
 use Rattle.lines.specs.Conditions.{IsRestricted, TreeRestricted, DeepAt}
 use Rattle.lines.specs.Effect.{stateAfter, tableAfter, guarded, checksIn, performed}
-use Rattle.lines.specs.Outcome.{Outcome, says, refuses}
-use Rattle.lines.specs.Refusal.{Check, checked, Passed}
+use Rattle.lines.specs.Outcome.{Outcome, says}
+use Rattle.lines.specs.Refusal.{Check, Passed}
 use Rattle.lines.specs.State.{stageC, stage, withStage, stateOk, storeOk}
 use Rattle.lines.specs.Work.{treeRestricted, rootAlone}
 use Rattle.lines.proofs.AllowedStoreLaws.{state-allowed, allowed-store}
+use Rattle.lines.proofs.CheckLaws.{answered-passed}
 use Rattle.lines.proofs.ConditionLaws.{clash}
 use Rattle.lines.proofs.RefusalLaws.{checked-passed}
 use Rattle.lines.proofs.StateLaws.{store-held}
@@ -114,17 +115,9 @@ module _ (n : ℕ) (head : 4 ≤ n) (xs : Nodes) (allowed : AllowedNodes xs) (fi
 abbrev checksOf : List ℕ → List ℕ → Command → ℕ → List Check
 checksOf s t c room = checksIn room (guarded (unlimitedChecks c s t) (clause c s t))
 
-pub says-passed : (cs : List Check) (s t : List ℕ) (o : Outcome) (text : List ℕ) → checked cs s t o .reply ≡ says text → Passed cs
-unfolding checked
-says-passed [] s t o text e = tt
-says-passed (c ∷ cs) s t o text e =
-    byCase (c .fails)
-    (λ q. let z : refuses (c .number) ≡ says text = rw q at e in let y : _≡_ {A = ℕ} 0 1 = cc in absurd (omega arith))
-    (λ q. (q, says-passed cs s t o text (rw q at e)))
-
 answered : (s t : List ℕ) (c : Command) (room : ℕ) (text : List ℕ) → stepUnlimited s t c room .reply ≡ says text → Passed (checksOf s t c room)
 unfolding performed
-answered s t c room text e = says-passed (checksOf s t c room) s t _ text e
+answered s t c room text e = answered-passed (checksOf s t c room) s t _ e
 
 abbrev leaving : List ℕ → List ℕ → List ℕ → Outcome
 leaving text s' t' = record { reply = says text; state = s'; table = t' }

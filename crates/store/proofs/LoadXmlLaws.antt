@@ -24,25 +24,16 @@ use Rattle.xml.proofs.DocumentSound.{read-document}
 use Rattle.xml.proofs.DocumentLaws.{document-good}
 use Rattle.lines.specs.Conditions.{Some, TreeRestricted, DeepAt, Holds, First}
 use Rattle.lines.specs.Outcome.{Outcome, says, refuses, refusal}
-use Rattle.lines.specs.Refusal.{Check, checked, Passed, rising, indexIn}
+use Rattle.lines.specs.Refusal.{Passed, rising, indexIn}
 use Rattle.lines.specs.State.{stageC, stage, withStage, storeOk}
+use Rattle.lines.proofs.CheckLaws.{answered-passed, refused-is}
 use Rattle.lines.proofs.ConditionLaws.{Tells, clash, first-exactly, none-exactly}
 use Rattle.lines.proofs.NameRows.{less-told}
 use Rattle.lines.proofs.RefusalLaws.{checked-passed}
 use Rattle.store.specs.Load.{LinesLeave, matchingLines, loadedStage, loadedState, loadedTable, Loadable}
 use Rattle.store.specs.LoadXml.{DocumentWith, loadRefusals, loadChecks, nodesStage, loadXml}
-use Rattle.store.proofs.LoadLaws.{says-passed, load-lines, load-kept, lines-load}
+use Rattle.store.proofs.LoadLaws.{load-lines, load-kept, lines-load}
 use Rattle.store.proofs.RefusalsLaws.{store-told}
-
--- what is refused leaves all as it was
-refused-is : (cs : List Check) (s t : List ℕ) (o : Outcome) {text : List ℕ} {n : ℕ} → o .reply ≡ says text → checked cs s t o .reply ≡ refuses n
-    → checked cs s t o ≡ refusal n s t
-unfolding checked
-refused-is [] s t o {text} {n} a e = absurd (let z : says text ≡ refuses n = sym a ∙ e in let y : _≡_ {A = ℕ} 0 1 = cc in omega arith)
-refused-is (c ∷ cs) s t o {text} {n} a e =
-    byCase (c .fails)
-    (λ q. rw q (let z : refuses (c .number) ≡ refuses n = rw q at e in let k : c .number ≡ n = cc in ap (λ m. refusal m s t) k))
-    (λ q. rw q (refused-is cs s t o a (rw q at e)))
 
 -- some element passes a test
 some-told : {A : Type 0} (P : A → Type 0) (f : A → Bool) → ((x : A) → P x ↔ (f x ≡ true)) → (xs : List A) → Some P xs ↔ (some f xs ≡ true)
@@ -110,7 +101,7 @@ module _ (s t xml : List ℕ) (room : ℕ) where
 
   taken : {text : List ℕ} → loadXml s t xml room .reply ≡ says text → Passed (loadChecks s t xml room)
   unfolding loadXml
-  taken {text} e = says-passed (loadChecks s t xml room) s t answer text e
+  taken e = answered-passed (loadChecks s t xml room) s t answer e
 
   -- nothing turns the tree of an accepted document away
   taken-loadable : Passed (loadChecks s t xml room) → (u : Tree) → documentNodes xml ≡ nodesOf 0 u → Loadable room t u
