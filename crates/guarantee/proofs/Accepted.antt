@@ -24,6 +24,11 @@ abbrev saidBy : Reply → List ℕ
 saidBy (says b) = b
 saidBy (refuses n) = []
 
+-- what is accepted was answered
+pub accepted-said : (r : Reply) (n : ℕ) → answerOf r ≡ answer.Accepted n → (b : List ℕ) × (r ≡ says b)
+accepted-said (says b) n e = (b, refl)
+accepted-said (refuses k) n e = absurd (let z : _≡_ {A = ℕ} 0 1 = cc in omega arith)
+
 module _ (s t line : List ℕ) where
   -- the work of the form that was read
   abbrev pub lineWork : Work
@@ -83,11 +88,7 @@ module _ (s t line : List ℕ) where
     answer-is b e = ap saidBy (sym e ∙ ap (λ (o : Outcome). o .reply) (accepted b e .is))
 
     pub taken : (n : ℕ) → answerOf (step s t line room .reply) ≡ answer.Accepted n → Accepted room
-    taken n e = go (step s t line room .reply) refl
-      where
-        go : (r : Reply) → step s t line room .reply ≡ r → Accepted room
-        go (says b) q = accepted b q
-        go (refuses k) q = absurd (let y : answer.Refused k ≡ answer.Accepted n = sym (ap answerOf q) ∙ e in let z : _≡_ {A = ℕ} 0 1 = cc in omega arith)
+    taken n e = let (b, q) = accepted-said (step s t line room .reply) n e in accepted b q
 
     -- What holds of the store before, and of the store after every effect that is sound, holds after every line.
     pub after-line : (Q : List ℕ → List ℕ → Type 0) → Q s t

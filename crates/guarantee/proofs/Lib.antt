@@ -28,4 +28,5 @@ pub mod Cases
 pub mod Schools
 pub mod Witness
 pub mod Demand3
+pub mod Loading
 pub mod AreaSuffices

@@ -99,7 +99,7 @@ module _ (n : ℕ) (head : 4 ≤ n) (xs : Nodes) (allowed : AllowedNodes xs) (fi
 
   -- 13 lets it pass beside such a state
   made-passes : (s : List ℕ) → stateOk s ≡ true → stage s < 2 → 0 < length xs → (g : ℕ) → 2 ≤ g → g ≤ 3
-      → (storeOk (withStage g s) made ≡ true) × (storedNodes made ≡ xs)
+      → (storeOk (withStage g s) made ≡ true) × (storedNodes made ≡ xs) × (records made ≡ map nodeBytes xs)
   made-passes s ok early some g low high =
       let h : HoldsStore (withStage g s) made (staged g s) xs = record {
         state = staged-held s ok early g low high;
@@ -108,7 +108,7 @@ module _ (n : ℕ) (head : 4 ≤ n) (xs : Nodes) (allowed : AllowedNodes xs) (fi
         root-line = λ h. some;
       } in
       let x = allowed-store (withStage g s) made (staged g s) xs h in
-      (x .0, x .2)
+      (x .0, x .2, records-made)
 
 -- A line's checks, without a length limit: it is answered exactly if they pass
 
@@ -325,6 +325,7 @@ module _ (room : ℕ) (s t : List ℕ) where
 
   kept : (u : Tree) → GoodTree u → storeOk s t ≡ true → stage s < 2 → Loadable room t u
       → (storeOk (loadedState u s) (loadedTable u t) ≡ true) × (storedNodes (loadedTable u t) ≡ nodesOf 0 u)
+      × (records (loadedTable u t) ≡ map nodeBytes (nodesOf 0 u))
   unfolding nodesOf
   kept (tree l us) good ok early h =
       let a = loadable-allowed room t (tree l us) good h in
@@ -363,9 +364,10 @@ module _ (room : ℕ) (s t : List ℕ) (u : Tree) (good : GoodTree u) where
       → LinesLeave room (matchingLines u) s t (loadedState u s) (loadedTable u t)
   load-lines = loaded room s t u good
 
-  -- A store that passes 13 still does after it, and its nodes are those of the tree.
+  -- A store that passes 13 still does after it, and its nodes are those of the tree, each in its record.
   pub load-kept : storeOk s t ≡ true → stage s < stageC → Loadable room t u
       → (storeOk (loadedState u s) (loadedTable u t) ≡ true) × (storedNodes (loadedTable u t) ≡ nodesOf 0 u)
+      × (records (loadedTable u t) ≡ map nodeBytes (nodesOf 0 u))
   load-kept = kept room s t u good
 
   -- The other way: if its lines are all answered `(ok)`, no root is there, nothing turns the tree away, and this is what they leave.

@@ -13,7 +13,7 @@ use Rattle.rights.specs.Held.{nodeBytes, tableBytes, storedNodes}
 use Rattle.rights.specs.Labels.{sameLabel, restricted}
 use Rattle.rights.specs.Nodes.{levelOf, labelOf}
 use Rattle.rights.specs.Policy.{some}
-use Rattle.rights.specs.Table.{capacity}
+use Rattle.rights.specs.Table.{capacity, records}
 use Rattle.rights.specs.Tree.{Tree, tree, none, more, nodesOf, nodesIn, sizeOf}
 use Rattle.rights.proofs.ListLaws.{byCase}
 use Rattle.answers.specs.Answer.{okText}
@@ -118,6 +118,7 @@ module _ (s t xml : List ℕ) (room : ℕ) where
     pub lines : LinesLeave room (matchingLines u) s t (o .state) (o .table)
     pub passes : storeOk (o .state) (o .table) ≡ true
     pub nodes : storedNodes (o .table) ≡ nodesOf 0 u
+    pub held : records (o .table) ≡ map nodeBytes (nodesOf 0 u)
 
   pub load-accepted : {text : List ℕ} → loadXml s t xml room .reply ≡ says text → (u : Tree) × Loads u (loadXml s t xml room) × (text ≡ okText)
   unfolding loadXml
@@ -132,7 +133,7 @@ module _ (s t xml : List ℕ) (room : ℕ) where
       let k = load-kept room s t u good ok early h in (
         u,
         rw (o ∙ answer-is u d)
-            (record { document = d; lines = load-lines room s t u good ok early h; passes = k .0; nodes = k .1 }),
+            (record { document = d; lines = load-lines room s t u good ok early h; passes = k .0; nodes = k .1; held = k .2 }),
         (let z : says okText ≡ says text = sym (ap (λ (x : Outcome). x .reply) o) ∙ e in cc),
       )
 
