@@ -20,7 +20,7 @@ use Rattle.rights.proofs.TextLaws.{drop-take}
 use Rattle.forms.specs.Part.{labelEnd}
 use Rattle.xml.specs.Document.{blankByte, nameStart}
 use Rattle.xml.specs.How.Tokens.{Lexed, bad, closing, opening, texting, lexAfter, lex}
-use Rattle.xml.specs.How.Lexer.{between, Placed, LexedAs, LexedAt}
+use Rattle.xml.specs.How.Lexer.{between, Spot, Placed, LexedAs, LexedAt}
 use Rattle.xml.specs.declared.lexer.Lexeme.{Lexeme}
 use Rattle.xml.specs.declared.lexer.Lexeme.the-variants.{Opens, Closes, Empty, Label, End, Bad}
 
@@ -62,6 +62,13 @@ module _ (s : List ℕ) (i j : ℕ) where
 pub byte-from : (s : List ℕ) (i e : ℕ) → i ≤ e → byteAt (drop i s) (e - i) ≡ byteAt s e
 byte-from s i e h = getD-drop i s (e - i) 0 ∙ (let z : i + (e - i) ≡ e = omega arith in rw z)
 
+-- where a token's label stands, whichever place before it the token is read from
+spot : (s : List ℕ) (i j e t : ℕ) → Labelled s i j e → e ≤ t → t ≤ length s → Spot s i (i + j) e t
+spot s i j e t l a w = record { from = omega arith; run = l .run; some = l .some; most = l .most; after = a; within = w }
+
+spot-from : {s : List ℕ} {at i a e t : ℕ} → at ≤ i → Spot s i a e t → Spot s at a e t
+spot-from h p = record { from = omega (arith, p .from); run = p .run; some = p .some; most = p .most; after = p .after; within = p .within }
+
 -- what is no token
 pub lexed-bad : (want : ℕ → List ℕ → Lexed) (s : List ℕ) (i : ℕ) → ((k : ℕ) → want k (drop i s) ≡ bad) → LexedAs want s i Bad
 lexed-bad want s i h = record { is = λ at l. h (i - at); on = tt }
@@ -84,7 +91,7 @@ module _ (s : List ℕ) (i : ℕ) where
           is = λ at h.
               let z : i - at + (e - i + 1) ≡ e + 1 - at = omega arith in
               rw (l .there, byte-from s i e (omega arith), q, name-from s i 2 e (omega arith), z);
-          on = record { from = omega arith; run = l .run; some = l .some; most = l .most; after = omega arith; within = omega arith };
+          on = spot s i 2 e (e + 1) l (omega arith) (omega arith);
         }
 
   -- `<`
@@ -108,7 +115,7 @@ module _ (s : List ℕ) (i : ℕ) where
             is = λ at h.
                 let z : i - at + (e - i + 1) ≡ e + 1 - at = omega arith in
                 rw (l .there, getD-drop i s 1 0, n, byte-from s i e (omega arith), q, name-from s i 1 e (omega arith), z);
-            on = record { from = omega arith; run = l .run; some = l .some; most = l .most; after = omega arith; within = omega arith };
+            on = spot s i 1 e (e + 1) l (omega arith) (omega arith);
           }
 
       module _ (o : eqb (byteAt s e) 62 ≡ false) where
@@ -128,7 +135,7 @@ module _ (s : List ℕ) (i : ℕ) where
                 is = λ at h.
                     let z : i - at + (e - i + 2) ≡ e + 2 - at = omega arith in
                     rw (l .there, getD-drop i s 1 0, n, byte-from s i e (omega arith), o, q, next-byte, r, name-from s i 1 e (omega arith), z);
-                on = record { from = omega arith; run = l .run; some = l .some; most = l .most; after = omega arith; within = omega arith };
+                on = spot s i 1 e (e + 2) l (omega arith) (omega arith);
               }
 
   -- a text
@@ -158,7 +165,7 @@ module _ (s : List ℕ) (i : ℕ) where
         let y : i + 0 ≡ i = omega arith in
         record {
           is = λ at h. let z : i - at + (t - i) ≡ t - at = omega arith in rw (l .there, behind, byte-from s i t (omega arith), q, z);
-          on = record { from = omega arith; run = rw y at (l .run); some = omega arith; most = omega arith; after = f; within = g };
+          on = rw y at (spot s i 0 e t l f g);
         }
 
 -- Which of them: after the blanks from `at` to i
@@ -177,10 +184,10 @@ module _ (s : List ℕ) (at i : ℕ) (w : Ends blankByte s at i) where
   lex-end h = record { is = blanks ∙ rw (drop-of-length-le s h); on = tt }
 
   placed : (r : Lexeme) → Placed s i r → Placed s at r
-  placed (Opens a e t) p = let f = w .from in record { from = omega arith; run = p .run; some = p .some; most = p .most; after = p .after; within = p .within }
-  placed (Closes a e t) p = let f = w .from in record { from = omega arith; run = p .run; some = p .some; most = p .most; after = p .after; within = p .within }
-  placed (Empty a e t) p = let f = w .from in record { from = omega arith; run = p .run; some = p .some; most = p .most; after = p .after; within = p .within }
-  placed (Label a e t) p = let f = w .from in record { from = omega arith; run = p .run; some = p .some; most = p .most; after = p .after; within = p .within }
+  placed (Opens a e t) p = spot-from (w .from) p
+  placed (Closes a e t) p = spot-from (w .from) p
+  placed (Empty a e t) p = spot-from (w .from) p
+  placed (Label a e t) p = spot-from (w .from) p
   placed End p = tt
   placed Bad p = tt
 
@@ -203,3 +210,7 @@ module _ (s : List ℕ) (at i : ℕ) (w : Ends blankByte s at i) where
       pub lex-opening : eqb (byteAt s (i + 1)) 47 ≡ false → LexedAs opening s i r → LexedAt s at r
       unfolding lexAfter
       lex-opening q x = lex-as opening r (rw (drop-cons s i 0 h, eq-eqb _ 60 e, next, q)) x
+
+-- What was read at a place, once it is known which token it is
+pub lexed-is : {s : List ℕ} {at : ℕ} {r x : Lexeme} → LexedAt s at r → r ≡ x → LexedAt s at x
+lexed-is l e = rw e at l

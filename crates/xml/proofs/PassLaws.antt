@@ -8,7 +8,6 @@ use Rattle.rights.specs.Nodes.{node}
 use Rattle.xml.specs.How.Tokens.{Token, opens, closes, empty, text, token, lex, Tokens, withToken, tokensFrom, tokens}
 use Rattle.xml.specs.How.Lexer.{between, Spot, LexedAt}
 use Rattle.xml.specs.How.Scan.{tallied, noNodes, kindWithin, nameAt, toldAt, Ready}
-use Rattle.xml.specs.declared.lexer.Lexeme.{Lexeme}
 use Rattle.xml.specs.declared.lexer.Lexeme.the-variants.{Opens, Closes, Empty, Label, End, Bad}
 use Rattle.xml.specs.declared.document.Kind.{Kind}
 use Rattle.xml.specs.declared.document.Kind.the-variants.{NoDocument}
@@ -25,23 +24,19 @@ below zero a t k h = omega arith
 below (suc w) a t zero h = h
 below (suc w) a t (suc k) h = below w a t k h
 
-pub record First (s : List ℕ) : Type 0 where
-  pub seen : Lexeme
-  pub lexed : LexedAt s 0 seen
-
-module _ {s : List ℕ} (low w : ℕ) (here : First s) where
+module _ (s : List ℕ) (low w : ℕ) where
   -- the tokens, by the first
   first : (x : Token) (t : ℕ) → lex s ≡ token x (t - 0) → tokens s ≡ withToken x (tokensFrom (length s) (drop t s))
   unfolding tokensFrom
   first x t e = let z : t - 0 ≡ t = omega arith in rw (e, z)
 
-  pub pass-end : here .seen ≡ End → NoDocument ≡ kindWithin low w (tokens s)
+  pub pass-end : LexedAt s 0 End → NoDocument ≡ kindWithin low w (tokens s)
   unfolding tokensFrom
-  pass-end q = let l' = rw q at (here .lexed) in rw (l' .is) (sym (kind-none low w))
+  pass-end l = rw (l .is) (sym (kind-none low w))
 
-  pub pass-bad : here .seen ≡ Bad → NoDocument ≡ kindWithin low w (tokens s)
+  pub pass-bad : LexedAt s 0 Bad → NoDocument ≡ kindWithin low w (tokens s)
   unfolding tokensFrom
-  pass-bad q = let l' = rw q at (here .lexed) in rw (l' .is)
+  pass-bad l = rw (l .is)
 
   module _ (a e t : ℕ) where
     abbrev name : List ℕ
@@ -50,17 +45,11 @@ module _ {s : List ℕ} (low w : ℕ) (here : First s) where
     abbrev rest : Tokens
     rest = tokensFrom (length s) (drop t s)
 
-    pub pass-closes : here .seen ≡ Closes a e t → NoDocument ≡ kindWithin low w (tokens s)
-    pass-closes q = let l' = rw q at (here .lexed) in rw (first (closes name) t (l' .is)) (sym (kind-closes low w name rest))
+    pub pass-closes : LexedAt s 0 (Closes a e t) → NoDocument ≡ kindWithin low w (tokens s)
+    pass-closes l = rw (first (closes name) t (l .is)) (sym (kind-closes low w name rest))
 
-    pub pass-label : here .seen ≡ Label a e t → NoDocument ≡ kindWithin low w (tokens s)
-    pass-label q = let l' = rw q at (here .lexed) in rw (first (text name) t (l' .is)) (sym (kind-text low w name rest))
-
-    pub root-spot-opens : here .seen ≡ Opens a e t → Spot s 0 a e t
-    root-spot-opens q = let l' = rw q at (here .lexed) in l' .on
-
-    pub root-spot-empty : here .seen ≡ Empty a e t → Spot s 0 a e t
-    root-spot-empty q = let l' = rw q at (here .lexed) in l' .on
+    pub pass-label : LexedAt s 0 (Label a e t) → NoDocument ≡ kindWithin low w (tokens s)
+    pass-label l = rw (first (text name) t (l .is)) (sym (kind-text low w name rest))
 
     module _ (tally : Tally) (c : tally ≡ tallied noNodes (node 0 name)) where
       pub root-ready : Spot s 0 a e t → (d : ℕ) → d ≤ 1 → Ready s (replicate w a) (record { at = t; depth = d; tally = tally })
@@ -69,18 +58,16 @@ module _ {s : List ℕ} (low w : ℕ) (here : First s) where
       names : Spot s 0 a e t → map (nameAt s) (replicate w a) ≡ replicate w name
       names p = map-replicate (nameAt s) w a ∙ ap (replicate w) (sym (named s a e (p .run)))
 
-      pub pass-opens : here .seen ≡ Opens a e t → (r : Kind) → ((f : ℕ) → length s - t < f → r ≡ toldAt s low (replicate w a) f (record { at = t; depth = 1; tally = tally })) → r ≡ kindWithin low w (tokens s)
-      pass-opens q r h =
-          let l' = rw q at (here .lexed) in
-          let p = l' .on in
+      pub pass-opens : LexedAt s 0 (Opens a e t) → (r : Kind) → ((f : ℕ) → length s - t < f → r ≡ toldAt s low (replicate w a) f (record { at = t; depth = 1; tally = tally })) → r ≡ kindWithin low w (tokens s)
+      pass-opens l r h =
+          let p = l .on in
           let k = kind-opens low (replicate w name) name rest (root-open low w name) in
           h (length s) (omega arith)
-          ∙ rw (names p, c, first (opens name) t (l' .is)) (sym (rw (length-replicate {A = List ℕ} w name) at k))
+          ∙ rw (names p, c, first (opens name) t (l .is)) (sym (rw (length-replicate {A = List ℕ} w name) at k))
 
-      pub pass-empty : here .seen ≡ Empty a e t → (r : Kind) → ((f : ℕ) → length s - t < f → r ≡ toldAt s low (replicate w a) f (record { at = t; depth = 0; tally = tally })) → r ≡ kindWithin low w (tokens s)
-      pass-empty q r h =
-          let l' = rw q at (here .lexed) in
-          let p = l' .on in
+      pub pass-empty : LexedAt s 0 (Empty a e t) → (r : Kind) → ((f : ℕ) → length s - t < f → r ≡ toldAt s low (replicate w a) f (record { at = t; depth = 0; tally = tally })) → r ≡ kindWithin low w (tokens s)
+      pass-empty l r h =
+          let p = l .on in
           let k = kind-empty low (replicate w name) name rest in
           h (length s) (omega arith)
-          ∙ rw (names p, c, first (empty name) t (l' .is)) (sym (rw (length-replicate {A = List ℕ} w name) at k))
+          ∙ rw (names p, c, first (empty name) t (l .is)) (sym (rw (length-replicate {A = List ℕ} w name) at k))

@@ -17,7 +17,6 @@ use Rattle.rights.proofs.PassLaws.{map-at}
 use Rattle.xml.specs.How.Tokens.{Token, opens, closes, empty, text, token, lex, Tokens, got, bad as none, withToken, tokensFrom, sameBytes}
 use Rattle.xml.specs.How.Lexer.{between, Spot, LexedAt}
 use Rattle.xml.specs.How.Scan.{tallied, inWindow, opened, closesIt, told, toldBy, nameAt, placed, leafStep, toldAt, Ready, Onwards, Steps}
-use Rattle.xml.specs.declared.lexer.Lexeme.{Lexeme}
 use Rattle.xml.specs.declared.lexer.Lexeme.the-variants.{Opens, Closes, Empty, Label, End, Bad}
 use Rattle.xml.specs.declared.document.Kind.{Kind}
 use Rattle.xml.specs.declared.document.Kind.the-variants.{NoDocument, Document}
@@ -103,12 +102,7 @@ module _ (low : ℕ) (names : List (List ℕ)) (t : Tally) (n : List ℕ) where
 
 -- The step of the code at a place
 
-pub record Seen (s places : List ℕ) (p : Pass) : Type 0 where
-  pub ready : Ready s places p
-  pub seen : Lexeme
-  pub lexed : LexedAt s (p .at) seen
-
-module _ {s places : List ℕ} {p : Pass} (low : ℕ) (here : Seen s places p) where
+module _ {s places : List ℕ} {p : Pass} (low : ℕ) (here : Ready s places p) where
   -- the tokens from the place on, by the first
   tokens-from : (x : Token) (n f : ℕ) → lex (drop (p .at) s) ≡ token x n → tokensFrom (suc f) (drop (p .at) s) ≡ withToken x (tokensFrom f (drop (p .at + n) s))
   unfolding tokensFrom
@@ -117,13 +111,13 @@ module _ {s places : List ℕ} {p : Pass} (low : ℕ) (here : Seen s places p) w
   next-from : (x : Token) (t f : ℕ) → p .at ≤ t → lex (drop (p .at) s) ≡ token x (t - p .at) → tokensFrom (suc f) (drop (p .at) s) ≡ withToken x (tokensFrom f (drop t s))
   next-from x t f h e = let z : p .at + (t - p .at) ≡ t = omega arith in tokens-from x (t - p .at) f e ∙ rw z
 
-  pub steps-end : here .seen ≡ End → (k : Kind) → k ≡ cond (eqb (p .depth) 0) (Document (p .tally)) NoDocument → Steps s low places places p (Done k)
+  pub steps-end : LexedAt s (p .at) End → (k : Kind) → k ≡ cond (eqb (p .depth) 0) (Document (p .tally)) NoDocument → Steps s low places places p (Done k)
   unfolding tokensFrom told
-  steps-end q k e = let l' = rw q at (here .lexed) in record { is = λ f. rw (l' .is) (sym e); on = tt }
+  steps-end l k e = record { is = λ f. rw (l .is) (sym e); on = tt }
 
-  pub steps-bad : here .seen ≡ Bad → Steps s low places places p (Done NoDocument)
+  pub steps-bad : LexedAt s (p .at) Bad → Steps s low places places p (Done NoDocument)
   unfolding tokensFrom
-  steps-bad q = let l' = rw q at (here .lexed) in record { is = λ f. rw (l' .is); on = tt }
+  steps-bad l = record { is = λ f. rw (l .is); on = tt }
 
   outside : (x : Token) (n : ℕ) → lex (drop (p .at) s) ≡ token x n → p .depth ≡ 0 → Steps s low places places p (Done NoDocument)
   outside x n e z = record { is = λ f. rw (tokens-from x n f e, z) (told-outside low (map (nameAt s) places) (p .tally) [] x (tokensFrom f (drop (p .at + n) s))); on = tt }
@@ -132,62 +126,47 @@ module _ {s places : List ℕ} {p : Pass} (low : ℕ) (here : Seen s places p) w
     abbrev name : List ℕ
     name = between s a e
 
-    pub spot-opens : here .seen ≡ Opens a e t → Spot s (p .at) a e t
-    spot-opens q = let l' = rw q at (here .lexed) in l' .on
+    pub opens-outside : LexedAt s (p .at) (Opens a e t) → p .depth ≡ 0 → Steps s low places places p (Done NoDocument)
+    opens-outside l = outside (opens name) (t - p .at) (l .is)
 
-    pub spot-closes : here .seen ≡ Closes a e t → Spot s (p .at) a e t
-    spot-closes q = let l' = rw q at (here .lexed) in l' .on
-
-    pub spot-empty : here .seen ≡ Empty a e t → Spot s (p .at) a e t
-    spot-empty q = let l' = rw q at (here .lexed) in l' .on
-
-    pub spot-label : here .seen ≡ Label a e t → Spot s (p .at) a e t
-    spot-label q = let l' = rw q at (here .lexed) in l' .on
-
-    pub opens-outside : here .seen ≡ Opens a e t → p .depth ≡ 0 → Steps s low places places p (Done NoDocument)
-    opens-outside q = let l' = rw q at (here .lexed) in outside (opens name) (t - p .at) (l' .is)
-
-    pub closes-outside : here .seen ≡ Closes a e t → p .depth ≡ 0 → Steps s low places places p (Done NoDocument)
-    closes-outside q = let l' = rw q at (here .lexed) in outside (closes name) (t - p .at) (l' .is)
+    pub closes-outside : LexedAt s (p .at) (Closes a e t) → p .depth ≡ 0 → Steps s low places places p (Done NoDocument)
+    closes-outside l = outside (closes name) (t - p .at) (l .is)
 
     -- what is counted lies before the next place
     ready : (after : List ℕ) (d : ℕ) (tally : Tally) → Spot s (p .at) a e t → ((k : ℕ) → getD after k 0 < t) → d ≤ p .depth + 1 → tally .nodes ≤ p .tally .nodes + 1
         → Onwards s after p (On (record { at = t; depth = d; tally = tally }))
     ready after d tally w b h n =
-        let r = here .ready .depth in
-        let m = here .ready .nodes in
+        let r = here .depth in
+        let m = here .nodes in
         (omega arith, record { within = w .within; depth = omega arith; nodes = omega arith; before = b })
 
     behind : Spot s (p .at) a e t → (k : ℕ) → getD places k 0 < t
-    behind w k = omega (arith, here .ready .before k)
+    behind w k = omega (arith, here .before k)
 
-    pub steps-opens : here .seen ≡ Opens a e t → (p .depth ≡ 0 → ⊥) → (after : List ℕ) → after ≡ placed low places (p .depth) a → (tally : Tally) → tally ≡ tallied (p .tally) (node (p .depth) name)
+    pub steps-opens : LexedAt s (p .at) (Opens a e t) → (p .depth ≡ 0 → ⊥) → (after : List ℕ) → after ≡ placed low places (p .depth) a → (tally : Tally) → tally ≡ tallied (p .tally) (node (p .depth) name)
         → Steps s low places after p (On (record { at = t; depth = p .depth + 1; tally = tally }))
-    steps-opens q h after o tally c =
-        let l' = rw q at (here .lexed) in
-        let w = l' .on in
+    steps-opens l h after o tally c =
+        let w = l .on in
         record {
           is = λ f.
-              rw (next-from (opens name) t f (omega arith) (l' .is), o, c, names-placed s low places (p .depth) a, ← named s a e (w .run))
+              rw (next-from (opens name) t f (omega arith) (l .is), o, c, names-placed s low places (p .depth) a, ← named s a e (w .run))
               (told-opens low (map (nameAt s) places) (p .tally) name (tokensFrom f (drop t s)) (p .depth) h);
           on = ready after (p .depth + 1) tally w (rw o (placed-below low places (p .depth) a t (behind w) (omega arith))) (omega arith) (rw c (omega arith));
         }
 
-    pub steps-closes : here .seen ≡ Closes a e t → (p .depth ≡ 0 → ⊥) → closesIt low (map (nameAt s) places) (p .depth - 1) name ≡ true
+    pub steps-closes : LexedAt s (p .at) (Closes a e t) → (p .depth ≡ 0 → ⊥) → closesIt low (map (nameAt s) places) (p .depth - 1) name ≡ true
         → Steps s low places places p (On (record { at = t; depth = p .depth - 1; tally = p .tally }))
-    steps-closes q h c =
-        let l' = rw q at (here .lexed) in
-        let w = l' .on in
+    steps-closes l h c =
+        let w = l .on in
         record {
-          is = λ f. rw (next-from (closes name) t f (omega arith) (l' .is)) (told-closes low (map (nameAt s) places) (p .tally) name (tokensFrom f (drop t s)) (p .depth) h c);
+          is = λ f. rw (next-from (closes name) t f (omega arith) (l .is)) (told-closes low (map (nameAt s) places) (p .tally) name (tokensFrom f (drop t s)) (p .depth) h c);
           on = ready places (p .depth - 1) (p .tally) w (behind w) (omega arith) (omega arith);
         }
 
-    pub steps-unclosed : here .seen ≡ Closes a e t → (p .depth ≡ 0 → ⊥) → closesIt low (map (nameAt s) places) (p .depth - 1) name ≡ false → Steps s low places places p (Done NoDocument)
-    steps-unclosed q h c =
-        let l' = rw q at (here .lexed) in
-        let w = l' .on in
-        record { is = λ f. rw (next-from (closes name) t f (omega arith) (l' .is)) (told-unclosed low (map (nameAt s) places) (p .tally) name (tokensFrom f (drop t s)) (p .depth) h c); on = tt }
+    pub steps-unclosed : LexedAt s (p .at) (Closes a e t) → (p .depth ≡ 0 → ⊥) → closesIt low (map (nameAt s) places) (p .depth - 1) name ≡ false → Steps s low places places p (Done NoDocument)
+    steps-unclosed l h c =
+        let w = l .on in
+        record { is = λ f. rw (next-from (closes name) t f (omega arith) (l .is)) (told-unclosed low (map (nameAt s) places) (p .tally) name (tokensFrom f (drop t s)) (p .depth) h c); on = tt }
 
     leaf-on : Spot s (p .at) a e t → (x : Token) → lex (drop (p .at) s) ≡ token x (t - p .at)
         → ((T : Tokens) (d : ℕ) → (d ≡ 0 → ⊥) → toldBy low (map (nameAt s) places) d (p .tally) (withToken x T) ≡ toldBy low (map (nameAt s) places) d (tallied (p .tally) (node d name)) T)
@@ -201,11 +180,11 @@ module _ {s places : List ℕ} {p : Pass} (low : ℕ) (here : Seen s places p) w
           on = ready places (p .depth) (tallied (p .tally) (node (p .depth) name)) w (behind w) (omega arith) (omega arith);
         }))
 
-    pub steps-empty : here .seen ≡ Empty a e t → (r : Step) → r ≡ leafStep (p .depth) (tallied (p .tally) (node (p .depth) name)) t → Steps s low places places p r
-    steps-empty q = let l' = rw q at (here .lexed) in leaf-on (l' .on) (empty name) (l' .is) (told-empty low (map (nameAt s) places) (p .tally) name)
+    pub steps-empty : LexedAt s (p .at) (Empty a e t) → (r : Step) → r ≡ leafStep (p .depth) (tallied (p .tally) (node (p .depth) name)) t → Steps s low places places p r
+    steps-empty l = leaf-on (l .on) (empty name) (l .is) (told-empty low (map (nameAt s) places) (p .tally) name)
 
-    pub steps-label : here .seen ≡ Label a e t → (r : Step) → r ≡ leafStep (p .depth) (tallied (p .tally) (node (p .depth) name)) t → Steps s low places places p r
-    steps-label q = let l' = rw q at (here .lexed) in leaf-on (l' .on) (text name) (l' .is) (told-text low (map (nameAt s) places) (p .tally) name)
+    pub steps-label : LexedAt s (p .at) (Label a e t) → (r : Step) → r ≡ leafStep (p .depth) (tallied (p .tally) (node (p .depth) name)) t → Steps s low places places p r
+    steps-label l = leaf-on (l .on) (text name) (l .is) (told-text low (map (nameAt s) places) (p .tally) name)
 
 -- A pass: what is told from the place on is what is told in the end
 

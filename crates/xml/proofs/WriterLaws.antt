@@ -21,19 +21,13 @@ use Rattle.xml.specs.How.Tokens.{Token, opens, closes, empty, text, Lexe
 use Rattle.xml.specs.How.Lexer.{between, Spot, LexedAt}
 use Rattle.xml.specs.How.Loading.{deepest, Writable}
 use Rattle.xml.specs.How.Writer.{ownNodes, depthAfter, onToken, nodesFrom, allNodes, nodesAt, recordsOf, Counted, Roomy, Put, PutNext, PutAll}
-use Rattle.xml.specs.declared.lexer.Lexeme.{Lexeme}
 use Rattle.xml.specs.declared.lexer.Lexeme.the-variants.{Opens, Closes, Empty, Label, End, Bad}
 use Rattle.xml.specs.declared.writer.Cursor.{Cursor}
 use Rattle.xml.specs.declared.writer.Next.the-variants.{Over}
 
 -- One token
 
-pub record Seen (s table : List ℕ) (p : Cursor) : Type 0 where
-  pub roomy : Roomy s table p
-  pub seen : Lexeme
-  pub lexed : LexedAt s (p .at) seen
-
-module _ {s table : List ℕ} {p : Cursor} (here : Seen s table p) where
+module _ {s table : List ℕ} {p : Cursor} (here : Roomy s table p) where
   read-token : (x : Token) (t f : ℕ) → p .at ≤ t → lex (drop (p .at) s) ≡ token x (t - p .at)
       → nodesAt s (suc f) p ≡ ownNodes (p .depth) x ++ nodesFrom f (depthAfter (p .depth) x) (drop t s)
   unfolding nodesFrom
@@ -44,11 +38,11 @@ module _ {s table : List ℕ} {p : Cursor} (here : Seen s table p) where
   none-left x e o zero = refl
   none-left x e o (suc f) = rw e (o (λ y n. ownNodes (p .depth) y ++ nodesFrom f (depthAfter (p .depth) y) (drop n (drop (p .at) s))))
 
-  pub put-end : here .seen ≡ End → PutNext s table table p Over
-  put-end q = let l' = rw q at (here .lexed) in (refl, none-left end (l' .is) (λ h. refl))
+  pub put-end : LexedAt s (p .at) End → PutNext s table table p Over
+  put-end l = (refl, none-left end (l .is) (λ h. refl))
 
-  pub put-bad : here .seen ≡ Bad → PutNext s table table p Over
-  put-bad q = let l' = rw q at (here .lexed) in (refl, none-left bad (l' .is) (λ h. refl))
+  pub put-bad : LexedAt s (p .at) Bad → PutNext s table table p Over
+  put-bad l = (refl, none-left bad (l .is) (λ h. refl))
 
   module _ (a e t : ℕ) where
     abbrev name : List ℕ
@@ -57,26 +51,23 @@ module _ {s table : List ℕ} {p : Cursor} (here : Seen s table p) where
     abbrev own : List Node
     own = node (p .depth) name ∷ []
 
-    pub record Room : Type 0 where
-      pub room : 4 + p .nodes * 32 + 32 ≤ length table
-      pub level : p .depth ≤ 11
-      pub some : a ≤ e
-      pub most : e ≤ a + 24
-      pub within : e ≤ length s
+    -- what putting its record asks
+    abbrev Room : Type 0
+    Room = (4 + p .nodes * 32 + 32 ≤ length table) × (p .depth ≤ 11) × (a ≤ e) × (e ≤ a + 24) × (e ≤ length s)
 
     room-for : (x : Token) → lex (drop (p .at) s) ≡ token x (t - p .at) → ownNodes (p .depth) x ≡ own → Spot s (p .at) a e t → Room
     room-for x i o w =
-        let r = here .roomy .room (node (p .depth) name) (nodesFrom (here .roomy .fuel) (depthAfter (p .depth) x) (drop t s)) (read-token x t (here .roomy .fuel) (omega arith) i ∙ rw o) in
-        record { room = r .0; level = r .1; some = omega arith; most = omega arith; within = omega arith }
+        let r = here .room (node (p .depth) name) (nodesFrom (here .fuel) (depthAfter (p .depth) x) (drop t s)) (read-token x t (here .fuel) (omega arith) i ∙ rw o) in
+        (r .0, r .1, omega arith, omega arith, omega arith)
 
-    pub room-opens : here .seen ≡ Opens a e t → Room
-    room-opens q = let l' = rw q at (here .lexed) in room-for (opens name) (l' .is) refl (l' .on)
+    pub room-opens : LexedAt s (p .at) (Opens a e t) → Room
+    room-opens l = room-for (opens name) (l .is) refl (l .on)
 
-    pub room-empty : here .seen ≡ Empty a e t → Room
-    room-empty q = let l' = rw q at (here .lexed) in room-for (empty name) (l' .is) refl (l' .on)
+    pub room-empty : LexedAt s (p .at) (Empty a e t) → Room
+    room-empty l = room-for (empty name) (l .is) refl (l .on)
 
-    pub room-label : here .seen ≡ Label a e t → Room
-    room-label q = let l' = rw q at (here .lexed) in room-for (text name) (l' .is) refl (l' .on)
+    pub room-label : LexedAt s (p .at) (Label a e t) → Room
+    room-label l = room-for (text name) (l .is) refl (l .on)
 
     put-own : (x : Token) → lex (drop (p .at) s) ≡ token x (t - p .at) → ownNodes (p .depth) x ≡ own → Spot s (p .at) a e t → (d : ℕ) → d ≡ depthAfter (p .depth) x → d ≤ p .depth + 1
         → (after : List ℕ) → after ≡ pasted table (4 + p .nodes * 32) (nodeRecord (p .depth) name) → Put s table after p (record { at = t; depth = d; nodes = p .nodes + 1 })
@@ -84,7 +75,7 @@ module _ {s table : List ℕ} {p : Cursor} (here : Seen s table p) where
     put-own x i o w d z h after b =
         let short : length name ≤ 24 = omega (arith, length-take (e - a) (drop a s)) in
         let one : recordsOf own ≡ nodeRecord (p .depth) name = append-nil (nodeRecord (p .depth) name) in
-        let c = here .roomy .counted in
+        let c = here .counted in
         record {
           own = own;
           read = λ f. read-token x t f (omega arith) i ∙ rw (o, z);
@@ -95,27 +86,26 @@ module _ {s table : List ℕ} {p : Cursor} (here : Seen s table p) where
           counted = record { within = w .within; depth = omega arith; nodes = omega arith };
         }
 
-    pub put-opens : here .seen ≡ Opens a e t → (after : List ℕ) → after ≡ pasted table (4 + p .nodes * 32) (nodeRecord (p .depth) name)
+    pub put-opens : LexedAt s (p .at) (Opens a e t) → (after : List ℕ) → after ≡ pasted table (4 + p .nodes * 32) (nodeRecord (p .depth) name)
         → Put s table after p (record { at = t; depth = p .depth + 1; nodes = p .nodes + 1 })
-    put-opens q = let l' = rw q at (here .lexed) in put-own (opens name) (l' .is) refl (l' .on) (p .depth + 1) refl (omega arith)
+    put-opens l = put-own (opens name) (l .is) refl (l .on) (p .depth + 1) refl (omega arith)
 
-    pub put-empty : here .seen ≡ Empty a e t → (after : List ℕ) → after ≡ pasted table (4 + p .nodes * 32) (nodeRecord (p .depth) name)
+    pub put-empty : LexedAt s (p .at) (Empty a e t) → (after : List ℕ) → after ≡ pasted table (4 + p .nodes * 32) (nodeRecord (p .depth) name)
         → Put s table after p (record { at = t; depth = p .depth; nodes = p .nodes + 1 })
-    put-empty q = let l' = rw q at (here .lexed) in put-own (empty name) (l' .is) refl (l' .on) (p .depth) refl (omega arith)
+    put-empty l = put-own (empty name) (l .is) refl (l .on) (p .depth) refl (omega arith)
 
-    pub put-label : here .seen ≡ Label a e t → (after : List ℕ) → after ≡ pasted table (4 + p .nodes * 32) (nodeRecord (p .depth) name)
+    pub put-label : LexedAt s (p .at) (Label a e t) → (after : List ℕ) → after ≡ pasted table (4 + p .nodes * 32) (nodeRecord (p .depth) name)
         → Put s table after p (record { at = t; depth = p .depth; nodes = p .nodes + 1 })
-    put-label q = let l' = rw q at (here .lexed) in put-own (text name) (l' .is) refl (l' .on) (p .depth) refl (omega arith)
+    put-label l = put-own (text name) (l .is) refl (l .on) (p .depth) refl (omega arith)
 
-    pub put-closes : here .seen ≡ Closes a e t → (d : ℕ) → d ≡ p .depth - 1 → Put s table table p (record { at = t; depth = d; nodes = p .nodes })
+    pub put-closes : LexedAt s (p .at) (Closes a e t) → (d : ℕ) → d ≡ p .depth - 1 → Put s table table p (record { at = t; depth = d; nodes = p .nodes })
     unfolding join
-    put-closes q d z =
-        let l' = rw q at (here .lexed) in
-        let w = l' .on in
-        let c = here .roomy .counted in
+    put-closes l d z =
+        let w = l .on in
+        let c = here .counted in
         record {
           own = [];
-          read = λ f. rw z (read-token (closes name) t f (omega arith) (l' .is));
+          read = λ f. rw z (read-token (closes name) t f (omega arith) (l .is));
           count = omega arith;
           wide = refl;
           bytes = pasted-none table (4 + p .nodes * 32);

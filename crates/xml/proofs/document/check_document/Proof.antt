@@ -28,11 +28,4 @@ returns-3 c = let a = answer (c .before) in sym (rw (c .if1 .left) at a)
 pub check-document-spec : {M : Type 1} → statement M
 check-document-spec =
     tie.close
-    (tie.spec
-    (λ c κs. search needs)
-    (λ c. search needs)
-    (λ c. search needs)
-    returns
-    (λ c κs. search needs)
-    returns-2
-    returns-3)
+    (tie.spec (λ c κs. search needs) (λ c. search needs) (λ c. search needs) returns (λ c κs. search needs) returns-2 returns-3)

@@ -40,11 +40,4 @@ returns-3 c =
 pub closes-open-spec : {M : Type 1} → statement M
 closes-open-spec =
     tie.close
-    (tie.spec
-    returns
-    (λ c. search needs)
-    (λ c. search needs)
-    (λ c. search needs)
-    same-name-requires
-    returns-2
-    returns-3)
+    (tie.spec returns (λ c. search needs) (λ c. search needs) (λ c. search needs) same-name-requires returns-2 returns-3)

@@ -49,14 +49,5 @@ returns c =
 pub scan-rest-spec : {M : Type 1} → statement M
 scan-rest-spec =
     tie.close
-    (tie.spec
-    Inv-loop
-    μ-loop
-    loop-holds
-    scan-step-requires
-    (λ c. search needs)
-    loop-less
-    loop-again
-    (λ c. search needs)
-    same-length
-    returns)
+    (tie.spec Inv-loop μ-loop loop-holds scan-step-requires (λ c. search needs) loop-less loop-again (λ c. search needs)
+    same-length returns)

@@ -41,12 +41,5 @@ returns-3 c =
 pub label-text-spec : {M : Type 1} → statement M
 label-text-spec =
     tie.close
-    (tie.spec
-    (λ c κs. search needs)
-    (λ c. search needs)
-    (λ c. search needs)
-    returns
-    blanks-end-requires
-    (λ c κs. search needs)
-    returns-2
-    returns-3)
+    (tie.spec (λ c κs. search needs) (λ c. search needs) (λ c. search needs) returns blanks-end-requires (λ c κs. search needs)
+    returns-2 returns-3)

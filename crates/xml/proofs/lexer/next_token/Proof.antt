@@ -43,15 +43,5 @@ returns-4 c =
 pub next-token-spec : {M : Type 1} → statement M
 next-token-spec =
     tie.close
-    (tie.spec
-    (λ c κs. search needs)
-    returns
-    (λ c. search needs)
-    (λ c κs. search needs)
-    returns-2
-    (λ c. search needs)
-    (λ c κs. search needs)
-    closing-tag-requires
-    returns-3
-    (λ c κs. search needs)
-    returns-4)
+    (tie.spec (λ c κs. search needs) returns (λ c. search needs) (λ c κs. search needs) returns-2 (λ c. search needs)
+    (λ c κs. search needs) closing-tag-requires returns-3 (λ c κs. search needs) returns-4)

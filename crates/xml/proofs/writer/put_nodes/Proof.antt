@@ -63,14 +63,5 @@ returns c =
 pub put-nodes-spec : {M : Type 1} → statement M
 put-nodes-spec =
     tie.close
-    (tie.spec
-    Inv-loop
-    μ-loop
-    loop-holds
-    put-token-requires
-    (λ c. search needs)
-    loop-less
-    loop-again
-    (λ c. search needs)
-    same-length
-    returns)
+    (tie.spec Inv-loop μ-loop loop-holds put-token-requires (λ c. search needs) loop-less loop-again (λ c. search needs)
+    same-length returns)
