@@ -22,7 +22,6 @@ use Rattle.rights.proofs.XPathLists.{or-right}
 use Rattle.views.specs.Change.{lower, hasRoom}
 use Rattle.views.specs.Done.{Asked, isRoot, renamable, does, askedOf}
 use Rattle.rights.specs.Marks.{eachFrom}
-use Rattle.views.specs.Nodes.{LabelOk}
 use Rattle.views.specs.How.Pass.{AtDone}
 use Rattle.views.specs.declared.done.Change.{Change}
 use Rattle.views.specs.declared.done.Change.the-variants as change
@@ -53,6 +52,7 @@ use Rattle.lines.proofs.StoredPaths.{plain}
 use Rattle.lines.proofs.StoredSteps.{or-none}
 use Rattle.store.specs.Line.{inStage, bytesOf, acceptByte}
 use Rattle.store.proofs.FormParts.{TreePart}
+use Rattle.store.proofs.TreeNodesLaws.{label-ok}
 use Rattle.guarantee.proofs.Sound.{NoWord, PolicySound, RootSound, InsertSound, RenameSound, RemoveSound, LoginSound}
 use Rattle.guarantee.proofs.TreeRecords.{tree-ok}
 
@@ -83,9 +83,6 @@ unknown found.Unknown e = refl
 known : (f : Found) → isUnknown f ≡ false → f ≡ found.Subject (numberIn f)
 known (found.Subject u) e = refl
 known found.Unknown e = absurd (true≢false e)
-
-label-ok : (l : List ℕ) → GoodLabel l → sameLabel l restricted ≡ false → LabelOk l
-label-ok l g e = record { some = g .0; short = g .1; bytes = g .2; free = e }
 
 path-plain : (path : List ℕ) → notPath (pathOf path) ≡ false → hasBracket path ≡ false → Plain path
 path-plain path e b = go (pathOf path) refl e

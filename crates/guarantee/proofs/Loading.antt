@@ -1,7 +1,7 @@
 -- Readers have demand 3's guarantee over a tree that was loaded (specs/Loading.antt). Assumes nothing.
 use Prim.Native.Nat.{ℕ, _≤_, _<_}
 use mathlib.Core.Path.{_≡_, refl, sym, ap, ap₂, subst, _∙_}
-use mathlib.Core.Bool.{Bool, true, false, cond}
+use mathlib.Core.Bool.{Bool, true, cond}
 use mathlib.Core.List.{List, map}
 use mathlib.Core.Logic.{inr}
 use native.Mathlib.Omega.{arith}

@@ -1,8 +1,8 @@
 -- Loading the solver's file: refused with a number exactly if the number's condition holds and that of none before it does, accepted exactly if none holds;
 -- accepted, it leaves what the lines that match the document's tree would leave. Assumes nothing.
 use Prim.Native.Nat.{ℕ, _≤_, _<_}
-use mathlib.Core.Path.{_≡_, refl, sym, ap, ap₂, _∙_}
-use mathlib.Core.Bool.{Bool, true, false, cond, not, _||_}
+use mathlib.Core.Path.{_≡_, refl, sym, ap, _∙_}
+use mathlib.Core.Bool.{Bool, true, false, not}
 use mathlib.Core.List.{List, [], _∷_, map}
 use mathlib.Core.Logic.{inl, inr, ⊎-elim, _↔_}
 use native.Mathlib.Omega.{arith}

@@ -17,7 +17,8 @@ use Rattle.rights.specs.Record.{recordOf, noSpare, nodeRecord}
 use Rattle.rights.specs.Tree.{Tree, tree, Trees, none, more, nodesOf, nodesIn}
 use Rattle.rights.proofs.ListLaws.{byCase}
 use Rattle.rights.proofs.TreeShapeLaws.{Linked, linked-nested, nested-linked}
-use Rattle.views.specs.Change.{raise, raised}
+use Rattle.views.specs.Change.{raise}
+use Rattle.views.proofs.RecordBytes.{raise-append}
 use Rattle.forms.specs.Tree.{held}
 use Rattle.forms.specs.TreeText.{GoodLabel, GoodTree}
 use Rattle.lines.specs.Conditions.{Some, IsRestricted, TreeRestricted}
@@ -145,11 +146,6 @@ pub levels-low : (ns : Nodes) → All LowLevel ns → Some (λ x. 11 < levelOf x
 levels-low ns a = all-none (λ x. 11 < levelOf x) LowLevel (λ x k p. omega arith) ns a
 
 -- The records of a tree one level deeper, as a child line inserts them
-
-raise-append : (k : ℕ) (xs ys : List (List ℕ)) → raise k (xs ++ ys) ≡ raise k xs ++ raise k ys
-unfolding raise
-raise-append k [] ys = refl
-raise-append k (x ∷ xs) ys = ap (λ (rs : List (List ℕ)). raised k x ∷ rs) (raise-append k xs ys)
 
 records-append : (xs ys : Nodes) → nodeRecords (xs ++ ys) ≡ nodeRecords xs ++ nodeRecords ys
 records-append [] ys = refl

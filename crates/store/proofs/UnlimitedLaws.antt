@@ -11,6 +11,7 @@ use Rattle.rights.specs.Bytes.{bytes, all}
 use Rattle.rights.specs.Labels.{labelByte}
 use Rattle.rights.specs.Policy.{Right, position, read, insert, update, delete}
 use Rattle.rights.specs.Tree.{Tree, tree, Trees, none, more, writeTree, writeTrees}
+use Rattle.rights.proofs.PathComplete.{all-append}
 use Rattle.rights.proofs.PathTexts.{and-left}
 use Rattle.rights.proofs.TableLaws.{both}
 use Rattle.forms.specs.Command.{Command, written, runByte, GoodPath, GoodCommand}
@@ -26,11 +27,6 @@ use Rattle.store.specs.Load.{stepUnlimited}
 use Rattle.store.proofs.ClauseLaws.{step-written}
 
 -- Each byte of a line that writes a command is 32 to 126, so 1 turns it down for its length alone
-
-joined : (p : ℕ → Bool) (xs ys : List ℕ) → all p xs ≡ true → all p ys ≡ true → all p (xs ++ ys) ≡ true
-unfolding all
-joined p [] ys a b = b
-joined p (x ∷ xs) ys a b = let f = both (p x) (all p xs) a in rw (f .0) (joined p xs ys (f .1) b)
 
 all-in : (p q : ℕ → Bool) → ((b : ℕ) → p b ≡ true → q b ≡ true) → (xs : List ℕ) → all p xs ≡ true → all q xs ≡ true
 unfolding all
@@ -65,15 +61,15 @@ mutual
 
   tree-clean : (u : Tree) → GoodTree u → all lineByte (writeTree u) ≡ true
   tree-clean (tree l us) g =
-      joined lineByte (l ++ writeTrees us) (41 ∷ []) (joined lineByte l (writeTrees us) (label-clean l (g .0)) (trees-clean us (g .1))) refl
+      all-append lineByte (l ++ writeTrees us) (41 ∷ []) (all-append lineByte l (writeTrees us) (label-clean l (g .0)) (trees-clean us (g .1))) refl
 
   trees-clean : (us : Trees) → GoodTrees us → all lineByte (writeTrees us) ≡ true
   trees-clean none g = refl
-  trees-clean (more u us) g = joined lineByte (writeTree u) (writeTrees us) (tree-clean u (g .0)) (trees-clean us (g .1))
+  trees-clean (more u us) g = all-append lineByte (writeTree u) (writeTrees us) (tree-clean u (g .0)) (trees-clean us (g .1))
 
 -- a word and a value, and what follows or the `)`
 part : (w x rest : List ℕ) → all lineByte w ≡ true → all lineByte x ≡ true → all lineByte rest ≡ true → all lineByte (w ++ (x ++ rest)) ≡ true
-part w x rest a b c = joined lineByte w (x ++ rest) a (joined lineByte x rest b c)
+part w x rest a b c = all-append lineByte w (x ++ rest) a (all-append lineByte x rest b c)
 
 last : (w x : List ℕ) → all lineByte w ≡ true → all lineByte x ≡ true → all lineByte (w ++ (x ++ bytes ")")) ≡ true
 unfolding all lineByte
