@@ -26,7 +26,7 @@ pub mod WrittenLines
 pub mod Demand
 pub mod Cases
 pub mod Schools
-pub mod Witness
 pub mod Demand3
 pub mod Loading
+pub mod Witness
 pub mod AreaSuffices

@@ -57,19 +57,19 @@ load-between n s t s' t' a xml xml' room room' = (
 
 -- What a call that takes a document in found and leaves
 
-record Left (u : Tree) (s t s' t' : List ℕ) : Type 0 where
-  passed : storeOk s t ≡ true
-  early : stage s < stageC
-  passes : storeOk s' t' ≡ true
-  rooted : stageC ≤ stage s'
-  policy : policyIn s' ≡ policyIn s
-  held : records t' ≡ map nodeBytes (nodesOf 0 u)
+pub record Left (u : Tree) (s t s' t' : List ℕ) : Type 0 where
+  pub passed : storeOk s t ≡ true
+  pub early : stage s < stageC
+  pub passes : storeOk s' t' ≡ true
+  pub rooted : stageC ≤ stage s'
+  pub policy : policyIn s' ≡ policyIn s
+  pub held : records t' ≡ map nodeBytes (nodesOf 0 u)
 
 rooted-by : (u : Tree) → stageC ≤ loadedStage u
 rooted-by (tree l none) = omega arith
 rooted-by (tree l (more v us)) = omega arith
 
-left-by : (u : Tree) (s t s' t' : List ℕ) → LoadsTree u s t s' t' → Left u s t s' t'
+pub left-by : (u : Tree) (s t s' t' : List ℕ) → LoadsTree u s t s' t' → Left u s t s' t'
 left-by u s t s' t' c =
     let room = length (c .lent) in
     let m = c .promised in

@@ -1,30 +1,46 @@
 -- Two stores that differ and are alike, and two that only look the same and are told apart (specs/Witness.antt), computed on the bytes of state, table and lines. Assumes
 -- nothing.
-use Prim.Native.Nat.{ℕ, _≤_}
+use Prim.Native.Nat.{ℕ, _≤_, _<_}
 use Prim.Native.String.{String}
 use mathlib.Core.Path.{_≡_, refl, sym, ap, ap₂, _∙_, subst}
 use mathlib.Core.Bool.{true}
 use mathlib.Core.List.{List, [], _∷_}
+use mathlib.Core.Logic.{inl, inr}
 use native.Mathlib.Omega.{arith}
-use lib.ListN.{getD}
-use Rattle.rights.specs.Bytes.{bytes}
-use Rattle.rights.specs.Policy.{Policy}
-use Rattle.rights.specs.Rights.{rightsOn}
-use Rattle.rights.specs.Table.{records}
-use Rattle.rights.specs.Marks.{keep}
-use Rattle.views.specs.Shown.{stored, shown, view}
+use borrow.Author.Tests.{leb-true, lt-leb, le-ltb}
+use lib.ListN.{length, getD, replicate}
+use Rattle.rights.specs.Bytes.{bytes, all, digitByte, run}
+use Rattle.rights.specs.Labels.{labelByte, folded, sameLabel}
+use Rattle.rights.specs.Path.{passes as passesTest}
+use Rattle.rights.specs.Policy.{Policy, some, policyWord}
+use Rattle.rights.specs.Isa.{isBy, standsFor, subjectsWhere, passesOwn}
+use Rattle.rights.specs.Record.{padded, recordOf}
+use Rattle.rights.specs.Rights.{reaches, decide, rightsBy, chains, rightsOn}
+use Rattle.rights.specs.Table.{records, capacity}
+use Rattle.rights.specs.Tree.{nodesOf, nodesIn}
+use Rattle.rights.specs.Marks.{keep, eachFrom}
+use Rattle.views.specs.Shown.{storedFrom, stored, atParent, nearestFirst, shownAfter, shown, view}
+use Rattle.forms.specs.Part.{labelEnd}
+use Rattle.forms.specs.TreeText.{GoodLabel}
+use Rattle.answers.specs.Answer.{okText}
+use Rattle.xml.specs.Document.{blankByte, nameStart, said, full, ends, Document, writeElement, writeContent, writeDocument, elementTree, contentTrees, GoodElement, GoodContent, GoodDocument}
+use Rattle.xml.specs.How.Tokens.{isDocument, documentNodes, lex, lexAfter, tokensFrom, nested, nestedIn, matchedIn, sameBytes, tokenNodes}
 use Rattle.lines.specs.State.{stageC, stage, userByte, policyIn, storeOk}
-use Rattle.lines.specs.Outcome.{Reply, says, Outcome}
+use Rattle.lines.specs.Outcome.{Reply, says, refuses, Outcome, answerOf, areaAfter}
+use Rattle.lines.specs.Refusal.{checked}
+use Rattle.store.specs.LoadXml.{loadXml}
 use Rattle.lines.specs.Effect.{renaming, recordsAfter}
 use Rattle.guarantee.specs.Alike.{Start, Alike, Behind, shownTo, look, UserIs, Input, outcome}
 use Rattle.guarantee.specs.Identity.{afterEffect, stateAfterAll, tableAfterAll, tagAll, tagAt}
 use Rattle.guarantee.specs.Cases.{newState, newTable}
-use Rattle.guarantee.specs.Witness.{typed, school, stateWith, tableWith, Hidden, ToldApart, SecondNeeded, WordsNeeded}
+use Rattle.guarantee.specs.Witness.{typed, policyLines, school, stateWith, tableWith, Hidden, fileWith, treeWith, policyState, policyTable, loadedWith, LoadsFile, HiddenInFiles, ToldApart, SecondNeeded, WordsNeeded}
+use Rattle.guarantee.specs.Loading.{TreesAlike}
 use Rattle.guarantee.proofs.Schools.{thePolicy, theTable, lookOf, shownOf, BehindBoth, look-ill-cold, look-ill-flu, look-ill-sha, behind-ill-cold, behind-ill-flu, behind-ill-sha, tables-differ}
 use Rattle.guarantee.proofs.LineAlike.{same-self}
 use Rattle.guarantee.proofs.SessionKept.{store-kept}
 use Rattle.guarantee.proofs.RunKept.{run-passes}
 use Rattle.guarantee.proofs.Cases.{given, passed, step-passed, small-passes}
+use Rattle.guarantee.proofs.Loading.{left-by}
 
 -- What is read off a store: its policy, stage and user, its table, and the reply to the line that tells notes apart
 abbrev told : List ℕ
@@ -175,3 +191,83 @@ hidden = (
 
 pub second-needed : SecondNeeded
 second-needed = (ill-flu, ill-sha)
+
+-- The solver's files
+
+abbrev afterPolicy : Read
+afterPolicy = record { policy = thePolicy; stage = 1; user = 0; table = newTable 10; reply = refuses 3 }
+
+policy-lines : readAfter newState (newTable 10) policyLines ≡ afterPolicy
+unfolding given readAfter readOff
+policy-lines = refl
+
+policy-read : readOff policyState policyTable ≡ afterPolicy
+policy-read = read-after newState (newTable 10) policyLines small-passes ∙ policy-lines
+
+-- a store without a root, that passes, takes them in
+module _ (s t : List ℕ) (ok : storeOk s t ≡ true) (early : stage s < stageC) (room : 2 ≤ capacity (length t)) where
+  file-ill : loadXml s t (fileWith "ill") 5 .reply ≡ says okText
+  unfolding loadXml checked isDocument documentNodes lex lexAfter tokensFrom nested nestedIn matchedIn sameBytes tokenNodes labelEnd run blankByte nameStart digitByte labelByte some sameLabel folded
+  file-ill = rw (ok, lt-leb 2 (stage s) early, le-ltb (capacity (length t)) 2 room)
+
+  file-cold : loadXml s t (fileWith "cold") 5 .reply ≡ says okText
+  unfolding loadXml checked isDocument documentNodes lex lexAfter tokensFrom nested nestedIn matchedIn sameBytes tokenNodes labelEnd run blankByte nameStart digitByte labelByte some sameLabel folded
+  file-cold = rw (ok, lt-leb 2 (stage s) early, le-ltb (capacity (length t)) 2 room)
+
+policy-passes : storeOk policyState policyTable ≡ true
+policy-passes = run-passes newState (newTable 10) policyLines small-passes
+
+policy-early : stage policyState < stageC
+unfolding readOff
+policy-early = let e : stage policyState ≡ 1 = ap (λ (r : Read). r .stage) policy-read in omega (arith, e)
+
+policy-room : 2 ≤ capacity (length policyTable)
+unfolding readOff
+policy-room = rw (ap (λ (r : Read). r .table) policy-read) (leb-true 2 (capacity (length (newTable 10))) refl)
+
+abbrev documentWith : String → Document
+documentWith inner = record { before = []; root = full (bytes "school") (ends (said [] (bytes inner) [])); after = [] }
+
+good-with : (inner : String) → GoodLabel (bytes inner) → GoodDocument (documentWith inner)
+unfolding GoodElement GoodContent all labelByte nameStart digitByte
+good-with inner g = record { before = refl; root = (((omega arith, omega arith, refl), refl), (refl, g, refl)); after = refl }
+
+loads-file : (inner : String) → GoodLabel (bytes inner) → fileWith inner ≡ writeDocument (documentWith inner) → loadedWith inner .reply ≡ says okText → LoadsFile inner
+unfolding elementTree contentTrees
+loads-file inner g d e = record {
+  xml = fileWith inner;
+  document = (documentWith inner, good-with inner g, d, refl);
+  lent = replicate 5 0;
+  said = 5;
+  area = areaAfter (loadedWith inner .reply) (replicate 5 0);
+  promised = record { answer = sym (ap answerOf e); state = refl; table = refl; area = refl };
+}
+
+loads-ill : LoadsFile "ill"
+unfolding writeElement writeContent all labelByte
+loads-ill = loads-file "ill" (omega arith, omega arith, refl) refl (file-ill policyState policyTable policy-passes policy-early policy-room)
+
+loads-cold : LoadsFile "cold"
+unfolding writeElement writeContent all labelByte
+loads-cold = loads-file "cold" (omega arith, omega arith, refl) refl (file-cold policyState policyTable policy-passes policy-early policy-room)
+
+trees-alike : TreesAlike thePolicy 0 (treeWith "ill") (treeWith "cold")
+unfolding nodesOf nodesIn all labelByte folded sameLabel passesTest some passesOwn policyWord isBy standsFor subjectsWhere reaches decide rightsBy chains padded recordOf storedFrom atParent nearestFirst shownAfter keep eachFrom
+trees-alike = record { looks = refl; behind = ((λ a b. inl refl), ((λ a b. inr (refl, refl)), tt)) }
+
+files-differ : loadedWith "ill" .table ≡ loadedWith "cold" .table → ⊥
+unfolding nodesOf nodesIn recordOf padded
+files-differ e =
+    let x = left-by (treeWith "ill") policyState policyTable _ _ loads-ill in
+    let y = left-by (treeWith "cold") policyState policyTable _ _ loads-cold in
+    let z : _≡_ {A = ℕ} 3 4 = ap (λ (rs : List (List ℕ)). getD (getD rs 1 []) 1 0) (sym (x .held) ∙ ap records e ∙ y .held) in
+    omega (arith, z)
+
+pub hidden-in-files : HiddenInFiles
+unfolding readOff
+hidden-in-files = (
+  loads-ill,
+  loads-cold,
+  subst (λ (P : Policy). TreesAlike P 0 (treeWith "ill") (treeWith "cold")) (sym (ap (λ (r : Read). r .policy) policy-read)) trees-alike,
+  files-differ,
+)

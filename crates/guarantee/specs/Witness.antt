@@ -1,5 +1,6 @@
 -- Witnesses to demand 3 (document 01, "What demand 3 compares"): its suppositions are met by stores that differ, the second one is needed, and so are the words that a
--- rename may not touch. Every store here is made by lines as they are typed, on a new store. The theorems stand in proofs/Witness.antt; they assume nothing.
+-- rename may not touch. Every store here is made by lines as they are typed, or by a file that is loaded, on a new store. The theorems stand in proofs/Witness.antt; they
+-- assume nothing.
 use Prim.Native.Nat.{ℕ, _+_}
 use Prim.Native.String.{String}
 use mathlib.Core.Path.{_≡_}
@@ -11,12 +12,15 @@ use Rattle.rights.specs.Bytes.{bytes}
 use Rattle.rights.specs.Policy.{bitOf, position, read}
 use Rattle.rights.specs.Rights.{rightsOn}
 use Rattle.rights.specs.Table.{records}
+use Rattle.rights.specs.Tree.{Tree, tree, none, more}
 use Rattle.lines.specs.State.{policyIn}
 use Rattle.lines.specs.Effect.{Effect, renaming, recordsAfter}
-use Rattle.lines.specs.Outcome.{says}
+use Rattle.lines.specs.Outcome.{Outcome, says}
+use Rattle.store.specs.LoadXml.{loadXml}
 use Rattle.guarantee.specs.Alike.{Start, Alike, look, UserIs, Input, outcome}
 use Rattle.guarantee.specs.Identity.{afterEffect, stateAfterAll, tableAfterAll, tagAll, tagAt, rightsAt}
 use Rattle.guarantee.specs.Cases.{newState, newTable}
+use Rattle.guarantee.specs.Loading.{LoadsTree, TreesAlike}
 
 -- a line as it is typed, with the program's area
 abbrev pub typed : List ℕ → Input
@@ -48,6 +52,32 @@ abbrev pub Hidden : Type 0
 Hidden =
     Alike 0 (stateWith "ill") (tableWith "ill") (stateWith "cold") (tableWith "cold")
     × (tableWith "ill" ≡ tableWith "cold" → ⊥)
+
+-- So with the solver's files (specs/Loading.antt): a school's file and its tree, loaded after the lines of the policy
+abbrev pub fileWith : String → List ℕ
+fileWith inner = bytes "<school>" ++ (bytes inner ++ bytes "</school>")
+
+abbrev pub treeWith : String → Tree
+treeWith inner = tree (bytes "school") (more (tree (bytes inner) none) none)
+
+abbrev pub policyState : List ℕ
+policyState = stateAfterAll newState (newTable 10) policyLines
+
+abbrev pub policyTable : List ℕ
+policyTable = tableAfterAll newState (newTable 10) policyLines
+
+abbrev pub loadedWith : String → Outcome
+loadedWith inner = loadXml policyState policyTable (fileWith inner) 5
+
+abbrev pub LoadsFile : String → Type 0
+LoadsFile inner = LoadsTree (treeWith inner) policyState policyTable (loadedWith inner .state) (loadedWith inner .table)
+
+abbrev pub HiddenInFiles : Type 0
+HiddenInFiles =
+    LoadsFile "ill"
+    × LoadsFile "cold"
+    × TreesAlike (policyIn policyState) 0 (treeWith "ill") (treeWith "cold")
+    × (loadedWith "ill" .table ≡ loadedWith "cold" .table → ⊥)
 
 -- Two schools that look the same to SHA, under the same policy, and are not alike; and a line that tells them apart
 pub record ToldApart (one other line answer answer' : String) : Type 0 where
