@@ -1,15 +1,18 @@
-//! The comparer: random lists of lines, on empty, random and damaged states and tables, through the straightforward version and a second engine. After every
-//! line the returned number and every byte of state, table and area must be the same; a refused line must leave all of them as they were.
+//! The comparer: random lists of lines and documents, on empty, random and damaged states and tables, through the straightforward version and a second engine.
+//! After each the returned number and every byte of state, table and area must be the same; a refused one must leave all of them as they were. What a document
+//! leaves must be what the second engine leaves for the root and child lines of the same tree.
 //!
 //!     compare [--seed N] [--lines N] [--library FILE.so | --wrong NAME]
 //!
 //! Without a library or a false reading the second engine is the straightforward version itself.
 
 use std::process::ExitCode;
-use timetable::form::WORDS;
-use timetable::step::{read_store, Reading};
+use timetable::form::{LINE_MAXIMUM, WORDS};
+use timetable::step::{read_store, Reading, AREA_SHORT, BAD_LABEL, BAD_STORE, NO_DOCUMENT, TABLE_FULL, TOO_DEEP, WRONG_STAGE};
+use timetable::table::{nest, Tree};
 use timetable::testing::engine::{Engine, Straightforward};
-use timetable::testing::lent::{agree, new_area, Lent};
+use timetable::testing::generate::{text_of, tree_text};
+use timetable::testing::lent::{agree, new_area, Call, Lent};
 use timetable::testing::options::Options;
 use timetable::testing::random::Random;
 use timetable::testing::sessions::{self, Start};
@@ -17,6 +20,8 @@ use timetable::testing::sessions::{self, Start};
 const DEFAULT_LINES: usize = 20_000;
 const ENOUGH_LINES: usize = 20_000; // to have seen every form accepted and every refusal
 const REFUSALS: usize = 13;
+const DOCUMENT_REFUSALS: [u8; 7] = [WRONG_STAGE, BAD_LABEL, TOO_DEEP, TABLE_FULL, AREA_SHORT, BAD_STORE, NO_DOCUMENT];
+const TOLD_BYTES: usize = 4_096; // of each line or document, where a difference is told
 
 #[derive(Default)]
 struct Counts {
@@ -26,6 +31,16 @@ struct Counts {
     refused: [usize; 16],
     refusals: [usize; REFUSALS + 1],
     effective_changes: usize,
+    documents: Documents,
+}
+
+#[derive(Default)]
+struct Documents {
+    given: usize,
+    accepted: usize,
+    by_lines: usize, // accepted, and compared with their lines
+    filling: usize,  // accepted into a table of exactly their size
+    refusals: [usize; NO_DOCUMENT as usize + 1],
 }
 
 fn form_number(line: &[u8]) -> usize {
@@ -43,19 +58,77 @@ fn compare_session(engine: &dyn Engine, random: &mut Random, start: Start, count
             one.area = new_area(random);
             other.area.clone_from(&one.area);
         }
-        before.copy_from(&one);
         let store = read_store(&one.state, &one.table);
-        let line = sessions::line(random, store.as_ref());
-        let returned = one.line(&Straightforward(Reading::Right), &line);
-        let second = other.line(engine, &line);
-        told.push(format!("{returned} {second} {}", line.escape_ascii()));
-        count(counts, &line, returned, &one.area);
+        let call = sessions::call(random, store.as_ref());
+        if matches!(call, Call::LoadXml(_)) && random.percent(8) {
+            one.area.truncate(random.below(6));
+            other.area.clone_from(&one.area);
+        }
+        before.copy_from(&one);
+        let returned = one.call(&Straightforward(Reading::Right), &call);
+        let second = other.call(engine, &call);
+        told.push(format!("{returned} {second} {}", call_text(&call)));
+        match &call {
+            Call::Line(line) => count_line(counts, line, returned, &one.area),
+            Call::LoadXml(_) => count_document(&mut counts.documents, returned),
+        }
         agree(&before, (&one, returned), (&other, second))?;
+        if matches!(call, Call::LoadXml(_)) && returned >= 0 {
+            let loaded = read_store(&other.state, &other.table).ok_or("13 does not let the loaded store pass")?;
+            counts.documents.filling += usize::from(loaded.table.nodes.len() == loaded.table.capacity);
+            counts.documents.by_lines += usize::from(as_by_lines(engine, &before, &other, &nest(&loaded.table.nodes))?);
+        }
     }
     Ok(())
 }
 
-fn count(counts: &mut Counts, line: &[u8], returned: i64, area: &[u8]) {
+fn call_text(call: &Call) -> String {
+    let (word, bytes) = match call {
+        Call::Line(line) => ("", line),
+        Call::LoadXml(xml) => ("load_xml ", xml),
+    };
+    let left = bytes.len().saturating_sub(TOLD_BYTES);
+    let behind = if left > 0 { format!(" and {left} bytes more") } else { String::new() };
+    format!("{word}{}{behind}", bytes[..bytes.len() - left].escape_ascii())
+}
+
+/// The root line and the child lines of a tree.
+fn lines_of(tree: &Tree) -> Vec<String> {
+    let mut lines = vec![format!("(root {})", text_of(&tree.label))];
+    lines.extend(tree.children.iter().map(|child| format!("(child {})", tree_text(child))));
+    lines
+}
+
+/// Whether a loaded tree was compared with what an engine leaves for its lines: not where one of them is too long. What is wrong, if they differ.
+fn as_by_lines(engine: &dyn Engine, before: &Lent, loaded: &Lent, tree: &Tree) -> Result<bool, String> {
+    let lines = lines_of(tree);
+    if lines.iter().any(|line| line.len() > LINE_MAXIMUM) {
+        return Ok(false);
+    }
+    let mut lent = before.clone();
+    for line in &lines {
+        let returned = lent.line(engine, line.as_bytes());
+        if returned < 0 {
+            return Err(format!("the document is taken, and its line {line} is refused with {}", -returned));
+        }
+    }
+    if lent == *loaded {
+        Ok(true)
+    } else {
+        Err(format!("the document leaves other bytes than its lines: {}", lines.join(" ")))
+    }
+}
+
+fn count_document(documents: &mut Documents, returned: i64) {
+    documents.given += 1;
+    if returned < 0 {
+        documents.refusals[(-returned) as usize] += 1;
+    } else {
+        documents.accepted += 1;
+    }
+}
+
+fn count_line(counts: &mut Counts, line: &[u8], returned: i64, area: &[u8]) {
     counts.lines += 1;
     let form = form_number(line);
     if returned < 0 {
@@ -69,7 +142,8 @@ fn count(counts: &mut Counts, line: &[u8], returned: i64, area: &[u8]) {
 }
 
 fn print_counts(counts: &Counts) {
-    println!("{} sessions, {} lines compared", counts.sessions, counts.lines);
+    let documents = &counts.documents;
+    println!("{} sessions, {} lines and {} documents compared", counts.sessions, counts.lines, documents.given);
     println!("{:10} {:>9} {:>9}", "form", "accepted", "refused");
     for (number, word) in WORDS.iter().chain(["(none)"].iter()).enumerate() {
         println!("{word:10} {:>9} {:>9}", counts.accepted[number], counts.refused[number]);
@@ -77,13 +151,25 @@ fn print_counts(counts: &Counts) {
     let refusals: Vec<String> = (1..=REFUSALS).map(|number| format!("{number}: {}", counts.refusals[number])).collect();
     println!("changes with at least one node done {}", counts.effective_changes);
     println!("refusals {}", refusals.join(", "));
+    let refusals = DOCUMENT_REFUSALS.map(|number| format!("{number}: {}", documents.refusals[number as usize]));
+    println!(
+        "documents accepted {}, {} compared with their lines, {} fill the table; refusals {}",
+        documents.accepted,
+        documents.by_lines,
+        documents.filling,
+        refusals.join(", ")
+    );
 }
 
 /// What a run of enough lines must have seen and has not.
 fn unseen(counts: &Counts) -> Vec<String> {
     let forms = (0..WORDS.len()).filter(|form| counts.accepted[*form] == 0).map(|form| format!("{} accepted", WORDS[form]));
     let refusals = (1..=REFUSALS).filter(|number| counts.refusals[*number] == 0).map(|number| format!("refusal {number}"));
-    forms.chain(refusals).collect()
+    let documents = &counts.documents;
+    let accepted = [("that is taken as its lines are", documents.by_lines), ("that fills the table", documents.filling)];
+    let accepted = accepted.into_iter().filter(|(_, count)| *count == 0).map(|(what, _)| format!("a document {what}"));
+    let refused = DOCUMENT_REFUSALS.iter().filter(|number| documents.refusals[**number as usize] == 0).map(|number| format!("refusal {number} of a document"));
+    forms.chain(refusals).chain(accepted).chain(refused).collect()
 }
 
 fn run(engine: &dyn Engine, seed: u64, lines: usize) -> bool {

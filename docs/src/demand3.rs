@@ -1,5 +1,6 @@
 //! The random tester for demand 3 (document 01, What demand 3 compares). Pairs of trees that look the same to a reader get the same lines; every reply up to
-//! the first refusal 11 must be equal, both suppositions must hold again after it, and in each run alone no subject's rights on a kept node may change.
+//! the first refusal 11 must be equal, both suppositions must hold again after it, and in each run alone no subject's rights on a kept node may change. Some of the
+//! trees are loaded from a document by the engine under test.
 //!
 //!     demand3 [--seed N] [--lines N] [--library FILE.so | --wrong NAME]
 //!     demand3 --self-test [--seed N] [--lines N]
@@ -12,6 +13,7 @@ use timetable::policy::Policy;
 use timetable::state::{Stage, State};
 use timetable::step::{read_store, step, Reading, Store, FALSE_READINGS, TABLE_FULL};
 use timetable::table::{flatten, nest, Node, Tree, LEVEL_MAXIMUM};
+use timetable::testing::documents::{document_of, has_document};
 use timetable::testing::engine::{Engine, Straightforward};
 use timetable::testing::generate;
 use timetable::testing::options::Options;
@@ -52,6 +54,7 @@ struct Run {
     area: Vec<u8>,
     store: Store,
     rights: Vec<Vec<u8>>, // of every subject on every node
+    loaded: bool,         // from a document
 }
 
 struct Pair {
@@ -96,23 +99,47 @@ fn mutated(random: &mut Random, tree: &Tree) -> Tree {
     tree
 }
 
-fn make_run(random: &mut Random, policy: &Policy, user: Option<usize>, tree: &Tree, tight: bool) -> Run {
+/// Takes the tree's document into an empty table, and logs the user in.
+fn load(engine: &dyn Engine, random: &mut Random, tree: &Tree, user: Option<&Label>, state: &mut [u8], table: &mut [u8]) -> Result<(), String> {
+    let mut area = [0; 5];
+    let xml = document_of(random, tree);
+    let mut returned = vec![engine.load_xml(state, table, &xml, &mut area)];
+    if let Some(user) = user {
+        let line = format!("(user {})", generate::text_of(user));
+        returned.push(engine.line(state, table, line.as_bytes(), &mut area));
+    }
+    let accepted = returned.iter().all(|returned| *returned == 5) && area == *b"(ok)\n";
+    let loaded = read_store(state, table).is_some_and(|store| store.table.nodes == flatten(tree).0);
+    if accepted && loaded {
+        Ok(())
+    } else {
+        Err(format!("document and login return {returned:?} and do not leave the tree: {}", xml.escape_ascii()))
+    }
+}
+
+fn make_run(engine: &dyn Engine, random: &mut Random, policy: &Policy, user: Option<usize>, tree: &Tree, tight: bool) -> Result<Run, String> {
     let mut policy = policy.clone();
     random.shuffle(&mut policy.isa);
-    let stage = if user.is_some() { Stage::E } else { *random.pick(&[Stage::C, Stage::D]) };
-    let mut state_bytes = vec![0; STATE_BYTES];
-    state::encode(&State { stage, user, policy: policy.clone() }, &mut state_bytes);
     let (nodes, _) = flatten(tree);
     let free = if tight { random.below(9) } else { random.within(60, 260) };
+    let mut state_bytes = vec![0; STATE_BYTES];
     let mut table_bytes = vec![0; 4 + 32 * (nodes.len() + free) + random.below(32)];
-    table::encode(&nodes, &mut table_bytes);
+    let loaded = has_document(tree) && random.percent(50);
+    if loaded {
+        state::encode(&State { stage: Stage::B, user: None, policy: policy.clone() }, &mut state_bytes);
+        load(engine, random, tree, user.map(|user| &policy.subjects[user]), &mut state_bytes, &mut table_bytes)?;
+    } else {
+        let stage = if user.is_some() { Stage::E } else { *random.pick(&[Stage::C, Stage::D]) };
+        state::encode(&State { stage, user, policy: policy.clone() }, &mut state_bytes);
+        table::encode(&nodes, &mut table_bytes);
+    }
     let store = read_store(&state_bytes, &table_bytes).expect("13 lets it pass");
     let rights = all_rights(&policy, &nodes);
-    Run { state: state_bytes, table: table_bytes, area: Vec::new(), store, rights }
+    Ok(Run { state: state_bytes, table: table_bytes, area: Vec::new(), store, rights, loaded })
 }
 
 /// Two runs whose trees differ and are alike to the reader.
-fn make_pair(random: &mut Random) -> Pair {
+fn make_pair(engine: &dyn Engine, random: &mut Random) -> Result<Pair, String> {
     loop {
         let (policy, reader) = generate::policy(random);
         let first = if random.percent(15) {
@@ -146,8 +173,8 @@ fn make_pair(random: &mut Random) -> Pair {
             true => Some(random.below(policy.subjects.len())),
         };
         let users = [user(), user()];
-        let runs = [make_run(random, &policy, users[0], &first, tight), make_run(random, &policy, users[1], &second, tight)];
-        return Pair { policy, reader, runs, login };
+        let runs = [make_run(engine, random, &policy, users[0], &first, tight)?, make_run(engine, random, &policy, users[1], &second, tight)?];
+        return Ok(Pair { policy, reader, runs, login });
     }
 }
 
@@ -176,6 +203,7 @@ fn next_line(random: &mut Random, pair: &Pair) -> String {
 #[derive(Default)]
 struct Counts {
     pairs: usize,
+    loaded: usize,
     lines: usize,
     compared: usize,
     accepted_changes: usize,
@@ -317,7 +345,14 @@ fn run(engine: &dyn Engine, seed: u64, lines: usize) -> (Counts, Option<Finding>
     while counts.lines < lines {
         let mut random = Random::part(seed, counts.pairs as u64);
         counts.pairs += 1;
-        let mut pair = make_pair(&mut random);
+        let mut pair = match make_pair(engine, &mut random) {
+            Ok(pair) => pair,
+            Err(what) => {
+                let finding = Finding { pair: counts.pairs, line: counts.lines, what, story: String::new() };
+                return (counts, Some(finding));
+            }
+        };
+        counts.loaded += pair.runs.iter().filter(|run| run.loaded).count();
         let starts = [0, 1].map(|run| nest(&pair.runs[run].store.table.nodes));
         let capacities = [0, 1].map(|run| pair.runs[run].store.table.capacity);
         let mut given = Vec::new();
@@ -331,7 +366,8 @@ fn run(engine: &dyn Engine, seed: u64, lines: usize) -> (Counts, Option<Finding>
 }
 
 fn print_counts(counts: &Counts) {
-    println!("{} pairs, {} lines, {} of them before the first 11 and compared", counts.pairs, counts.lines, counts.compared);
+    println!("{} pairs, {} of their trees loaded from a document", counts.pairs, counts.loaded);
+    println!("{} lines, {} of them before the first 11 and compared", counts.lines, counts.compared);
     let percent = |part: usize| 100 * part / counts.lines.max(1);
     println!(
         "accepted changes {} ({} %), with at least one node done {} ({} %), other accepted lines {}",
@@ -346,7 +382,7 @@ fn print_counts(counts: &Counts) {
     println!("rights compared on {} kept nodes", counts.kept_nodes);
 }
 
-/// One run; true if nothing is found and at least 30 of 100 lines are changes that do something.
+/// One run; true if nothing is found, at least 30 of 100 lines are changes that do something, and trees were loaded.
 fn test(engine: &dyn Engine, seed: u64, lines: usize) -> bool {
     let (counts, finding) = run(engine, seed, lines);
     print_counts(&counts);
@@ -355,7 +391,7 @@ fn test(engine: &dyn Engine, seed: u64, lines: usize) -> bool {
             println!("FAILED: pair {}, line {}: {}\n{}", finding.pair, finding.line, finding.what, finding.story);
             false
         }
-        None => 100 * counts.effective_changes >= 30 * counts.lines,
+        None => 100 * counts.effective_changes >= 30 * counts.lines && counts.loaded > 0,
     }
 }
 

@@ -35,14 +35,23 @@ pub enum Form<'a> {
 pub const WORDS: [&str; 15] =
     ["subject", "isa", "rule", "root", "child", "user", "view", "query", "find", "rename", "update", "append", "before", "after", "remove"];
 
-struct Reader<'a> {
-    line: &'a [u8],
+/// Bytes that are read from left to right.
+pub struct Reader<'a> {
+    bytes: &'a [u8],
     at: usize,
 }
 
 impl<'a> Reader<'a> {
-    fn skip(&mut self, byte: u8) -> Option<()> {
-        if self.line.get(self.at) != Some(&byte) {
+    pub fn new(bytes: &'a [u8]) -> Reader<'a> {
+        Reader { bytes, at: 0 }
+    }
+
+    pub fn at_end(&self) -> bool {
+        self.at == self.bytes.len()
+    }
+
+    pub fn skip(&mut self, byte: u8) -> Option<()> {
+        if self.bytes.get(self.at) != Some(&byte) {
             return None;
         }
         self.at += 1;
@@ -50,9 +59,9 @@ impl<'a> Reader<'a> {
     }
 
     /// The bytes up to the first that is not wanted; at least one.
-    fn run(&mut self, wanted: fn(u8) -> bool) -> Option<&'a [u8]> {
-        let length = self.line[self.at..].iter().take_while(|byte| wanted(**byte)).count();
-        let run = &self.line[self.at..self.at + length];
+    pub fn run(&mut self, wanted: fn(u8) -> bool) -> Option<&'a [u8]> {
+        let length = self.bytes[self.at..].iter().take_while(|byte| wanted(**byte)).count();
+        let run = &self.bytes[self.at..self.at + length];
         self.at += length;
         if length == 0 {
             None
@@ -65,7 +74,7 @@ impl<'a> Reader<'a> {
         self.run(|byte| byte.is_ascii_lowercase())
     }
 
-    fn label(&mut self) -> Option<Label> {
+    pub fn label(&mut self) -> Option<Label> {
         Label::new(self.run(is_label_byte)?)
     }
 
@@ -139,9 +148,9 @@ impl<'a> Reader<'a> {
 
 /// The form that a line is, if it is one.
 pub fn read_form(line: &[u8]) -> Option<Form<'_>> {
-    let mut reader = Reader { line, at: 0 };
+    let mut reader = Reader::new(line);
     let form = reader.form()?;
-    if reader.at == line.len() {
+    if reader.at_end() {
         Some(form)
     } else {
         None

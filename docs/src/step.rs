@@ -1,12 +1,13 @@
-//! One line on a state and a table (document 01, Lines to Who can be turned down).
+//! One line on a state and a table (document 01, Lines to Who can be turned down), and one document of the solver (document 02, card 2).
 
 use crate::form::{read_form, Form, Place, LINE_MAXIMUM};
 use crate::label::{Label, RESTRICTED};
 use crate::path::{read_path, select, Step};
 use crate::policy::{Policy, Rule, DELETE, INSERT, ISA_MAXIMUM, READ, RULES_MAXIMUM, SUBJECTS_MAXIMUM, UPDATE};
 use crate::state::{self, Stage, State};
-use crate::table::{self, flatten, nest, Node, Table, Tree, LEVEL_MAXIMUM};
+use crate::table::{self, flatten, nest, nest_inserted, Node, Table, Tree, LEVEL_MAXIMUM};
 use crate::view::{view, View};
+use crate::xml::Document;
 
 pub const LINE_BYTES: u8 = 1;
 pub const NO_FORM: u8 = 2;
@@ -21,6 +22,7 @@ pub const TOO_DEEP: u8 = 10;
 pub const TABLE_FULL: u8 = 11;
 pub const AREA_SHORT: u8 = 12;
 pub const BAD_STORE: u8 = 13;
+pub const NO_DOCUMENT: u8 = 14;
 
 /// How document 01 and the cards are read. All but the first are false, and stand here for the tests of the testers alone.
 #[derive(Clone, Copy, PartialEq, Eq, Debug)]
@@ -39,6 +41,14 @@ pub enum Reading {
     LastHit,
     NoneForOneHit,
     RoomForAllHits,
+    AnyClosingTag,
+    TextDropped,
+    TextNotTrimmed,
+    TextsJoined,
+    SecondRoot,
+    LabelsBeforeDocument,
+    RootNotCounted,
+    RootAloneAtD,
 }
 
 /// Those that make demand 3 false
@@ -59,6 +69,18 @@ pub const FALSE_READINGS: [(&str, Reading); 10] = [
 pub const OTHER_ANSWERS: [(&str, Reading); 3] =
     [("last-hit", Reading::LastHit), ("none-for-one-hit", Reading::NoneForOneHit), ("room-for-all-hits", Reading::RoomForAllHits)];
 
+/// Those of the solver's file
+pub const OTHER_TREES: [(&str, Reading); 8] = [
+    ("any-closing-tag", Reading::AnyClosingTag),
+    ("text-dropped", Reading::TextDropped),
+    ("text-not-trimmed", Reading::TextNotTrimmed),
+    ("texts-joined", Reading::TextsJoined),
+    ("second-root", Reading::SecondRoot),
+    ("labels-before-document", Reading::LabelsBeforeDocument),
+    ("root-not-counted", Reading::RootNotCounted),
+    ("root-alone-at-d", Reading::RootAloneAtD),
+];
+
 /// What 13 lets pass: a state, a table, and the two agreeing on the root.
 #[derive(Clone, Debug)]
 pub struct Store {
@@ -76,7 +98,7 @@ pub fn read_store(state: &[u8], table: &[u8]) -> Option<Store> {
     }
 }
 
-/// An accepted line: its answer, and the state and the tree where they change.
+/// What is accepted, a line or a document: its answer, and the state and the tree where they change.
 pub struct Accepted {
     pub answer: Vec<u8>,
     pub state: Option<State>,
@@ -142,22 +164,36 @@ fn rule_line(store: &Store, accept: bool, right: u8, path: &[u8], name: Label) -
     Ok(policy_edited(store, Stage::B, |policy| policy.rules.push(Rule { accept, right, subject, path })))
 }
 
+/// 9, 10 and 11 for the nodes that root, children or a document bring, so many levels below the root and with so many records free.
+fn refuse_nodes(nodes: &[Node], below: usize, free: usize) -> Result<(), u8> {
+    refuse_if(nodes.iter().any(|node| node.label == RESTRICTED), BAD_LABEL)?;
+    refuse_if(nodes.iter().any(|node| below + node.level > LEVEL_MAXIMUM), TOO_DEEP)?;
+    refuse_if(nodes.len() > free, TABLE_FULL)
+}
+
+/// What a root line leaves.
+fn rooted(state: &State, label: Label) -> (State, Tree) {
+    (State { stage: Stage::C, ..state.clone() }, Tree { label, origin: None, children: Vec::new() })
+}
+
+/// What a child line leaves.
+fn with_child((mut state, mut root): (State, Tree), child: Tree) -> (State, Tree) {
+    state.stage = Stage::D;
+    root.children.push(child);
+    (state, root)
+}
+
 fn root_line(store: &Store, label: Label) -> Result<Accepted, u8> {
     refuse_if(store.state.stage >= Stage::C, WRONG_STAGE)?;
-    refuse_if(label == RESTRICTED, BAD_LABEL)?;
-    refuse_if(store.table.capacity < 1, TABLE_FULL)?;
-    let state = State { stage: Stage::C, ..store.state.clone() };
-    Ok(ok(Some(state), Some(Tree { label, origin: None, children: Vec::new() })))
+    let (state, root) = rooted(&store.state, label);
+    refuse_nodes(&flatten(&root).0, 0, store.table.capacity)?;
+    Ok(ok(Some(state), Some(root)))
 }
 
 fn child_line(store: &Store, tree: Tree) -> Result<Accepted, u8> {
     refuse_if(store.state.stage != Stage::C && store.state.stage != Stage::D, WRONG_STAGE)?;
-    refuse_if(tree.holds(&RESTRICTED), BAD_LABEL)?;
-    refuse_if(1 + tree.height() > LEVEL_MAXIMUM, TOO_DEEP)?;
-    refuse_if(store.table.nodes.len() + tree.size() > store.table.capacity, TABLE_FULL)?;
-    let state = State { stage: Stage::D, ..store.state.clone() };
-    let mut root = nest(&store.table.nodes);
-    root.children.push(tree);
+    refuse_nodes(&flatten(&tree).0, 1, store.table.capacity - store.table.nodes.len())?;
+    let (state, root) = with_child((store.state.clone(), nest(&store.table.nodes)), tree);
     Ok(ok(Some(state), Some(root)))
 }
 
@@ -478,30 +514,133 @@ pub fn step(store: &Store, line: &[u8], area_length: usize, reading: Reading) ->
     Ok(accepted)
 }
 
-/// One line on lent bytes under a reading; also, for an accepted line that may change the tree, where each node now there was before.
-pub fn read_line(state: &mut [u8], table: &mut [u8], line: &[u8], area: &mut [u8], reading: Reading) -> (i64, Option<Vec<Option<usize>>>) {
+/// What a document does to a store that 13 lets pass: the first refusal of 3, 14, 9, 10, 11 and 12 that applies, or what its root line and its child lines would
+/// leave if lines had no length limit.
+pub fn load(store: &Store, xml: &[u8], area_length: usize, reading: Reading) -> Result<Accepted, u8> {
+    refuse_if(store.state.stage >= Stage::C, WRONG_STAGE)?;
+    let mut document = Document::new(xml, reading);
+    let read = document.read();
+    let mut nodes = document.nodes;
+    if reading == Reading::LabelsBeforeDocument {
+        refuse_if(nodes.iter().any(|node| node.label == RESTRICTED), BAD_LABEL)?;
+    }
+    read.ok_or(NO_DOCUMENT)?;
+    let capacity = store.table.capacity;
+    let uncounted = usize::from(reading == Reading::RootNotCounted && capacity > 0);
+    refuse_nodes(&nodes, 0, capacity + uncounted)?;
+    nodes.truncate(capacity); // all of them, where the root was counted
+    let tree = nest_inserted(&nodes);
+    let (mut state, root) = tree.children.into_iter().fold(rooted(&store.state, tree.label), with_child);
+    if reading == Reading::RootAloneAtD {
+        state.stage = Stage::D;
+    }
+    let accepted = ok(Some(state), Some(root));
+    refuse_if(accepted.answer.len() > area_length, AREA_SHORT)?;
+    Ok(accepted)
+}
+
+/// A call on lent bytes: 13, then what it does to the store. The answer's length, or minus the refusal's number.
+fn call_lent(state: &mut [u8], table: &mut [u8], area: &mut [u8], call: impl FnOnce(&Store, usize) -> Result<Accepted, u8>) -> i64 {
     let Some(store) = read_store(state, table) else {
-        return (-i64::from(BAD_STORE), None);
+        return -i64::from(BAD_STORE);
     };
-    match step(&store, line, area.len(), reading) {
-        Err(number) => (-i64::from(number), None),
+    match call(&store, area.len()) {
+        Err(number) => -i64::from(number),
         Ok(accepted) => {
             if let Some(new_state) = &accepted.state {
                 state::encode(new_state, state);
             }
-            let mut origins = None;
             if let Some(tree) = &accepted.tree {
-                let (nodes, before) = flatten(tree);
-                table::encode(&nodes, table);
-                origins = Some(before);
+                table::encode(&flatten(tree).0, table);
             }
             area[..accepted.answer.len()].copy_from_slice(&accepted.answer);
-            (accepted.answer.len() as i64, origins)
+            accepted.answer.len() as i64
         }
     }
 }
 
+/// One line on lent bytes under a reading.
+pub fn read_line(state: &mut [u8], table: &mut [u8], line: &[u8], area: &mut [u8], reading: Reading) -> i64 {
+    call_lent(state, table, area, |store, area_length| step(store, line, area_length, reading))
+}
+
+/// One document on lent bytes under a reading.
+pub fn load_xml(state: &mut [u8], table: &mut [u8], xml: &[u8], area: &mut [u8], reading: Reading) -> i64 {
+    call_lent(state, table, area, |store, area_length| load(store, xml, area_length, reading))
+}
+
 /// The answer's length, or minus the refusal's number.
 pub fn timetable_line(state: &mut [u8], table: &mut [u8], line: &[u8], area: &mut [u8]) -> i64 {
-    read_line(state, table, line, area, Reading::Right).0
+    read_line(state, table, line, area, Reading::Right)
+}
+
+/// The answer's length, or minus the refusal's number.
+pub fn timetable_load_xml(state: &mut [u8], table: &mut [u8], xml: &[u8], area: &mut [u8]) -> i64 {
+    load_xml(state, table, xml, area, Reading::Right)
+}
+
+#[cfg(test)]
+mod tests {
+    use super::*;
+    use crate::testing::documents::{document_of, has_document};
+    use crate::testing::generate::{self, sized_tree};
+    use crate::testing::random::Random;
+
+    fn empty_store(stage: Stage, policy: Policy, capacity: usize) -> Store {
+        Store { state: State { stage, user: None, policy }, table: Table { capacity, nodes: Vec::new() } }
+    }
+
+    /// The store that a root line and child lines of any length leave.
+    fn by_lines(store: &Store, tree: &Tree) -> Result<Store, u8> {
+        let after = |accepted: Accepted| Store {
+            state: accepted.state.expect("a state"),
+            table: Table { capacity: store.table.capacity, nodes: flatten(&accepted.tree.expect("a tree")).0 },
+        };
+        let mut store = after(root_line(store, tree.label)?);
+        for child in &tree.children {
+            store = after(child_line(&store, child.clone())?);
+        }
+        Ok(store)
+    }
+
+    #[test]
+    fn a_document_leaves_what_its_lines_leave() {
+        let mut random = Random::new(1);
+        let (mut loaded, mut refused) = (0, 0);
+        for _ in 0..20_000 {
+            let (size, height) = (random.within(1, 40), random.within(1, LEVEL_MAXIMUM + 1));
+            let tree = sized_tree(&mut random, size, height);
+            if !has_document(&tree) {
+                continue;
+            }
+            let stage = *random.pick(&[Stage::A, Stage::B]);
+            let store = empty_store(stage, generate::policy(&mut random).0, random.within(size - 1, size + 1));
+            let xml = document_of(&mut random, &tree);
+            match load(&store, &xml, 5, Reading::Right) {
+                Ok(accepted) => {
+                    let lines = by_lines(&store, &tree).expect("lines that are taken");
+                    assert_eq!(accepted.state.as_ref(), Some(&lines.state));
+                    assert_eq!(flatten(&accepted.tree.expect("a tree")).0, lines.table.nodes);
+                    loaded += 1;
+                }
+                Err(_) => {
+                    assert!(by_lines(&store, &tree).is_err());
+                    refused += 1;
+                }
+            }
+        }
+        assert!(loaded > 2_000 && refused > 1_000, "{loaded} loaded, {refused} refused");
+    }
+
+    #[test]
+    fn depth_is_refused_behind_the_whole_document() {
+        let store = empty_store(Stage::A, Policy::default(), 16_384);
+        let number = |xml: &str| load(&store, xml.as_bytes(), 5, Reading::Right).err();
+        let (opened, closed) = ("<a>".repeat(100_000), "</a>".repeat(100_000));
+        assert_eq!(number(&format!("{opened}{closed}")), Some(TOO_DEEP));
+        assert_eq!(number(&format!("{opened}RESTRICTED{closed}")), Some(BAD_LABEL));
+        assert_eq!(number(&opened), Some(NO_DOCUMENT));
+        assert_eq!(number(&format!("{opened}<b></c>{closed}")), Some(NO_DOCUMENT));
+        assert_eq!(number(&format!("{opened}RESTRICTED{}", &closed[4..])), Some(NO_DOCUMENT));
+    }
 }

@@ -52,18 +52,28 @@ pub fn flatten(tree: &Tree) -> (Vec<Node>, Vec<Option<usize>>) {
     (nodes, origins)
 }
 
-/// The nested tree of a list of nodes that is not empty; every node is its own origin.
-pub fn nest(nodes: &[Node]) -> Tree {
-    fn take(nodes: &[Node], next: &mut usize) -> Tree {
+/// The nested tree of a list of nodes that is not empty, each with the origin that it is given by its number.
+fn nest_from(nodes: &[Node], origin: fn(usize) -> Option<usize>) -> Tree {
+    fn take(nodes: &[Node], origin: fn(usize) -> Option<usize>, next: &mut usize) -> Tree {
         let number = *next;
         *next += 1;
         let mut children = Vec::new();
         while *next < nodes.len() && nodes[*next].level > nodes[number].level {
-            children.push(take(nodes, next));
+            children.push(take(nodes, origin, next));
         }
-        Tree { label: nodes[number].label, origin: Some(number), children }
+        Tree { label: nodes[number].label, origin: origin(number), children }
     }
-    take(nodes, &mut 0)
+    take(nodes, origin, &mut 0)
+}
+
+/// The nested tree of a list of nodes that is not empty; every node is its own origin.
+pub fn nest(nodes: &[Node]) -> Tree {
+    nest_from(nodes, Some)
+}
+
+/// The nested tree of a list of nodes that is not empty and comes from outside the table.
+pub fn nest_inserted(nodes: &[Node]) -> Tree {
+    nest_from(nodes, |_| None)
 }
 
 #[derive(Clone, Debug)]

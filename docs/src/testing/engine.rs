@@ -3,13 +3,18 @@
 use crate::plain_view;
 use crate::policy::RULES_MAXIMUM;
 use crate::state::{RULES_AT, RULE_BYTES, SESSION_BYTES};
-use crate::step::{read_line, Reading, FALSE_READINGS, OTHER_ANSWERS};
+use crate::step::{load_xml, read_line, Reading, FALSE_READINGS, OTHER_ANSWERS, OTHER_TREES};
 use crate::STATE_BYTES;
 use std::ffi::{c_char, c_int, c_void, CStr, CString};
 
 pub trait Engine {
     /// One line on lent bytes: the answer's length, or minus the refusal's number.
     fn line(&self, state: &mut [u8], table: &mut [u8], line: &[u8], area: &mut [u8]) -> i64;
+
+    /// One document on lent bytes, likewise. The view alone has no such call.
+    fn load_xml(&self, _state: &mut [u8], _table: &mut [u8], _xml: &[u8], _area: &mut [u8]) -> i64 {
+        panic!("the engine has no load_xml")
+    }
 
     /// How the engine reads changes, for telling which nodes it keeps.
     fn reading(&self) -> Reading;
@@ -20,7 +25,11 @@ pub struct Straightforward(pub Reading);
 
 impl Engine for Straightforward {
     fn line(&self, state: &mut [u8], table: &mut [u8], line: &[u8], area: &mut [u8]) -> i64 {
-        read_line(state, table, line, area, self.0).0
+        read_line(state, table, line, area, self.0)
+    }
+
+    fn load_xml(&self, state: &mut [u8], table: &mut [u8], xml: &[u8], area: &mut [u8]) -> i64 {
+        load_xml(state, table, xml, area, self.0)
     }
 
     fn reading(&self) -> Reading {
@@ -67,12 +76,13 @@ pub fn wrong_engine(name: &str) -> Option<Box<dyn Engine>> {
     if name == "first-rule-wins" {
         return Some(Box::new(FirstRuleWins));
     }
-    FALSE_READINGS.iter().chain(&OTHER_ANSWERS).find(|(known, _)| *known == name).map(|(_, reading)| Box::new(Straightforward(*reading)) as Box<dyn Engine>)
+    let mut readings = FALSE_READINGS.iter().chain(&OTHER_ANSWERS).chain(&OTHER_TREES);
+    readings.find(|(known, _)| *known == name).map(|(_, reading)| Box::new(Straightforward(*reading)) as Box<dyn Engine>)
 }
 
-// --- A library: `timetable_line` and `timetable_state_bytes` of a shared object, each slice as a pointer and a length ---
+// --- A library: `timetable_line`, `timetable_load_xml` and `timetable_state_bytes` of a shared object, each slice as a pointer and a length ---
 
-type LineFunction = unsafe extern "C" fn(*mut u8, usize, *mut u8, usize, *const u8, usize, *mut u8, usize) -> i64;
+type CallFunction = unsafe extern "C" fn(*mut u8, usize, *mut u8, usize, *const u8, usize, *mut u8, usize) -> i64;
 type StateBytesFunction = unsafe extern "C" fn() -> usize;
 
 extern "C" {
@@ -84,7 +94,8 @@ extern "C" {
 const RTLD_NOW: c_int = 2;
 
 pub struct Library {
-    line: LineFunction,
+    line: CallFunction,
+    load_xml: CallFunction,
 }
 
 impl Library {
@@ -105,22 +116,32 @@ impl Library {
                 return Err(failure());
             }
             let line = dlsym(handle, c"timetable_line".as_ptr());
+            let load_xml = dlsym(handle, c"timetable_load_xml".as_ptr());
             let state_bytes = dlsym(handle, c"timetable_state_bytes".as_ptr());
-            if line.is_null() || state_bytes.is_null() {
+            if line.is_null() || load_xml.is_null() || state_bytes.is_null() {
                 return Err(failure());
             }
             let state_bytes: StateBytesFunction = std::mem::transmute(state_bytes);
             if state_bytes() != STATE_BYTES {
                 return Err(format!("its states have {} bytes, not {STATE_BYTES}", state_bytes()));
             }
-            Ok(Library { line: std::mem::transmute::<*mut c_void, LineFunction>(line) })
+            let call = |symbol| std::mem::transmute::<*mut c_void, CallFunction>(symbol);
+            Ok(Library { line: call(line), load_xml: call(load_xml) })
         }
     }
 }
 
+fn lend(call: CallFunction, state: &mut [u8], table: &mut [u8], given: &[u8], area: &mut [u8]) -> i64 {
+    unsafe { call(state.as_mut_ptr(), state.len(), table.as_mut_ptr(), table.len(), given.as_ptr(), given.len(), area.as_mut_ptr(), area.len()) }
+}
+
 impl Engine for Library {
     fn line(&self, state: &mut [u8], table: &mut [u8], line: &[u8], area: &mut [u8]) -> i64 {
-        unsafe { (self.line)(state.as_mut_ptr(), state.len(), table.as_mut_ptr(), table.len(), line.as_ptr(), line.len(), area.as_mut_ptr(), area.len()) }
+        lend(self.line, state, table, line, area)
+    }
+
+    fn load_xml(&self, state: &mut [u8], table: &mut [u8], xml: &[u8], area: &mut [u8]) -> i64 {
+        lend(self.load_xml, state, table, xml, area)
     }
 
     fn reading(&self) -> Reading {

@@ -5,7 +5,7 @@ use crate::label::Label;
 use crate::path::{Step, Test};
 use crate::policy::{Policy, Rule, DELETE, INSERT, POSITION, READ, UPDATE};
 use crate::step::write_tree;
-use crate::table::{Node, Tree, LEVEL_MAXIMUM};
+use crate::table::{nest_inserted, Node, Tree, LEVEL_MAXIMUM};
 
 const LABELS: [&str; 12] = ["a", "b", "c", "note", "x", "y", "z", "k.1", "R-12", "10B", "lesson", "room"];
 const NAMES: [&str; 6] = ["ann", "bob", "cid", "staff", "music", "office"];
@@ -134,6 +134,17 @@ pub fn deep_tree(random: &mut Random, height: usize) -> Tree {
         random.shuffle(&mut children);
     }
     Tree { label: some_label(random), origin: None, children }
+}
+
+/// A tree of exactly `size` nodes and at most `height` levels below its root.
+pub fn sized_tree(random: &mut Random, size: usize, height: usize) -> Tree {
+    let mut nodes = vec![Node { level: 0, label: some_label(random), parent: None }];
+    while nodes.len() < size {
+        let deepest = (nodes[nodes.len() - 1].level + 1).min(height);
+        let level = if random.percent(60) { deepest } else { random.within(1, deepest) };
+        nodes.push(Node { level, label: some_label(random), parent: None });
+    }
+    nest_inserted(&nodes)
 }
 
 pub fn tree_text(tree: &Tree) -> String {

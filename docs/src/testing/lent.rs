@@ -1,4 +1,4 @@
-//! Lent bytes for one engine, and what two engines must agree on after a line.
+//! Lent bytes for one engine, and what two engines must agree on after a call.
 
 use super::engine::Engine;
 use super::random::Random;
@@ -10,9 +10,22 @@ pub struct Lent {
     pub area: Vec<u8>,
 }
 
+/// What is given to a store: a line, or a document to load.
+pub enum Call {
+    Line(Vec<u8>),
+    LoadXml(Vec<u8>),
+}
+
 impl Lent {
     pub fn line(&mut self, engine: &dyn Engine, line: &[u8]) -> i64 {
         engine.line(&mut self.state, &mut self.table, line, &mut self.area)
+    }
+
+    pub fn call(&mut self, engine: &dyn Engine, call: &Call) -> i64 {
+        match call {
+            Call::Line(line) => self.line(engine, line),
+            Call::LoadXml(xml) => engine.load_xml(&mut self.state, &mut self.table, xml, &mut self.area),
+        }
     }
 
     pub fn copy_from(&mut self, other: &Lent) {
@@ -47,7 +60,7 @@ fn differences(one: &Lent, other: &Lent) -> Option<String> {
         .or_else(|| first_difference("area", &one.area, &other.area))
 }
 
-/// What is wrong after a line that two engines answered with these numbers: they return or leave different things, a refused line changed something, or an
+/// What is wrong after a call that two engines answered with these numbers: they return or leave different things, a refused call changed something, or an
 /// accepted one the area behind its answer.
 pub fn agree(before: &Lent, one: (&Lent, i64), other: (&Lent, i64)) -> Result<(), String> {
     let (after, returned) = one;
@@ -58,7 +71,7 @@ pub fn agree(before: &Lent, one: (&Lent, i64), other: (&Lent, i64)) -> Result<()
         return Err(difference);
     }
     if returned < 0 && after != before {
-        return Err("a refused line changes something".to_string());
+        return Err("a refused call changes something".to_string());
     }
     if returned >= 0 && after.area[returned as usize..] != before.area[returned as usize..] {
         return Err("the area changes behind the answer".to_string());

@@ -1,5 +1,6 @@
-//! What the testers share: random numbers, random policies, trees and lines, the engines under test, and the command line.
+//! What the testers share: random numbers, random policies, trees, lines and documents, the engines under test, and the command line.
 
+pub mod documents;
 pub mod engine;
 pub mod generate;
 pub mod lent;

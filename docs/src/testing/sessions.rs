@@ -1,6 +1,8 @@
-//! Random sessions for the comparer: lines of every form, good and bad, and stores to start from, sound and damaged.
+//! Random sessions for the comparer: lines of every form and documents, good and bad, and stores to start from, sound and damaged.
 
+use super::documents::document;
 use super::generate::{self, label, path_text, text_of, tree, tree_text};
+use super::lent::Call;
 use super::random::Random;
 use crate::form::LINE_MAXIMUM;
 use crate::label::{write_record, Label, RECORD_BYTES};
@@ -92,7 +94,7 @@ fn name_text(random: &mut Random) -> String {
 }
 
 /// One byte taken out, put in or replaced.
-fn disturb(random: &mut Random, text: &mut Vec<u8>, bytes: &[u8]) {
+pub fn disturb(random: &mut Random, text: &mut Vec<u8>, bytes: &[u8]) {
     let at = random.below(text.len() + 1);
     let byte = *random.pick(bytes);
     match random.below(3) {
@@ -161,10 +163,27 @@ fn long_line(random: &mut Random, start: &str) -> String {
     line + "))"
 }
 
-// --- Lines ---
+// --- Lines and documents ---
+
+/// A line for a store, or a document: mostly where there is no root, and anywhere else too.
+pub fn call(random: &mut Random, store: Option<&Store>) -> Call {
+    let capacity = store.map_or(0, |store| store.table.capacity);
+    let chance = match store.map(|store| store.state.stage) {
+        None => 15,
+        Some(Stage::A | Stage::B) if capacity + 10 > CAPACITY_MAXIMUM => 60,
+        Some(Stage::A) => 4,
+        Some(Stage::B) => 35,
+        Some(_) => 1,
+    };
+    if random.percent(chance) {
+        Call::LoadXml(document(random, capacity))
+    } else {
+        Call::Line(line(random, store))
+    }
+}
 
 /// A line for a store; any form may come at any stage, and those that fit come more often.
-pub fn line(random: &mut Random, store: Option<&Store>) -> Vec<u8> {
+fn line(random: &mut Random, store: Option<&Store>) -> Vec<u8> {
     let stage = store.map_or(Stage::A, |store| store.state.stage);
     let mut text = match random.below(100) {
         0..=1 => (0..random.below(30)).map(|_| random.byte()).collect(),
@@ -389,6 +408,15 @@ fn large_start(random: &mut Random) -> Start {
     Start { kind: "large", state: bytes, table: table_bytes(&nodes, free, odd) }
 }
 
+/// A policy and an empty table of some records, to load a document.
+fn rootless_start(random: &mut Random, kind: &'static str, records: usize) -> Start {
+    let (policy, _) = generate::policy(random);
+    let mut bytes = vec![0; STATE_BYTES];
+    state::encode(&State { stage: Stage::B, user: None, policy }, &mut bytes);
+    let odd = random.below(RECORD_BYTES);
+    Start { kind, state: bytes, table: table_bytes(&[], records, odd) }
+}
+
 /// Few labels, and paths of up to 12 steps over them, so that many paths fit or nearly fit, in a session of stage E that shows most nodes.
 pub fn tight_start(random: &mut Random) -> Start {
     let labels = [label("a"), label("b"), label("c")];
@@ -545,13 +573,21 @@ fn damaged_start(random: &mut Random) -> Start {
 pub fn start(random: &mut Random) -> Start {
     match random.below(1_000) {
         0..=1 => large_start(random),
-        2..=350 => empty_start(random),
+        2 => {
+            let records = random.within(CAPACITY_MAXIMUM - 2, CAPACITY_MAXIMUM + 2);
+            rootless_start(random, "large", records)
+        }
+        3..=100 => {
+            let records = if random.percent(50) { random.within(0, 40) } else { random.within(60, 200) };
+            rootless_start(random, "rootless", records)
+        }
+        101..=350 => empty_start(random),
         351..=650 => sound_start(random),
         _ => damaged_start(random),
     }
 }
 
-/// How many lines a session from such a start has.
+/// How many lines and documents a session from such a start has.
 pub fn length(random: &mut Random, start: &Start) -> usize {
     match start.kind {
         "damaged" => random.within(2, 12),
