@@ -1,8 +1,10 @@
 #!/usr/bin/env python3
 """calls.py LIBRARY.so: gives the library each list of calls in tests/vectors, NAME.calls, and compares what it answers with NAME.out, byte for byte.
 
-A list begins with a new store of 1,024 records and an area of 65,536 bytes. Its lines go to `timetable_line`, except for these (HEX: bytes in hexadecimal):
+A list begins with a new store of 1,024 records and an area of 65,536 bytes. Its lines go to `timetable_line`, except for these
+(HEX: bytes in hexadecimal, none if it is missing):
 
+    @xml HEX     these bytes go to `timetable_load_xml`
     @area N      from now on an area of N bytes
     @records N   a new store of N records
     @table HEX   from now on a table of these bytes
@@ -23,6 +25,8 @@ def given(store, text):
         store.start(int(rest))
     elif word == b"@table":
         store.table = Slice(bytes.fromhex(rest.decode()))
+    elif word == b"@xml":
+        return store.answer(store.load_xml(bytes.fromhex(rest.decode())))
     elif word.startswith(b"@"):
         raise Broken(f"no call of the library: {text.decode()}")
     else:
