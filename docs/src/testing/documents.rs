@@ -30,7 +30,7 @@ const KNOWN: [&str; 14] = [
 ];
 
 /// What may stand nowhere in one.
-const FOREIGN: [&str; 62] = [
+const FOREIGN: [&str; 53] = [
     "<!-- c -->",
     "<!---->",
     "<![CDATA[x]]>",
@@ -77,15 +77,6 @@ const FOREIGN: [&str; 62] = [
     "</",
     "/>",
     ">",
-    "<7/>",
-    "<7></7>",
-    "<-a/>",
-    "<.a/>",
-    "<..></..>",
-    "<a:b/>",
-    "<a+b/>",
-    "<\u{e9}/>",
-    "<abcdefghijklmnopqrstuvwxy/>",
     "<x>abcdefghijklmnopqrstuvwxy</x>",
     "<x>a b</x>",
     "<x>a\tb</x>",
@@ -94,6 +85,35 @@ const FOREIGN: [&str; 62] = [
     "<x>a&#32;</x>",
     "<a></b>",
 ];
+
+const NO_NAMES: [&str; 12] = ["7", "7a", "0", "-", "-a", ".", ".a", "a:b", "a+b", "\u{e9}", "a\u{e9}", "abcdefghijklmnopqrstuvwxy"];
+
+/// What may stand nowhere inside a tag or a label.
+const INSIDE: [&[u8]; 20] = [
+    b" ",
+    b" ",
+    b"\t",
+    b"\n",
+    b"\r",
+    b" b=\"c\"",
+    b" b='c'",
+    b"/",
+    b"<",
+    b">",
+    b":",
+    b"=",
+    b"&lt;",
+    b"\xc3\xa9",
+    b"\x80",
+    b"\xff",
+    b"\0",
+    b"\x0c",
+    b"\x7f",
+    b"\xc2\xa0",
+];
+
+/// What may not stand beside the root.
+const BESIDE: [&str; 9] = ["\u{feff}", "<?xml version=\"1.0\"?>", "<!DOCTYPE a>", "<!-- c -->", "a", "7", "<a/>", "<a></a>", "\0"];
 
 // --- Printing ---
 
@@ -196,8 +216,16 @@ pub fn document_of(random: &mut Random, tree: &Tree) -> Vec<u8> {
 
 /// A tag with this start.
 fn tag_of(random: &mut Random, parts: &[Vec<u8>], start: &str) -> Option<usize> {
-    let places: Vec<usize> = (0..parts.len()).filter(|place| parts[*place].starts_with(start.as_bytes()) && parts[*place].len() > start.len() + 1).collect();
-    (!places.is_empty()).then(|| *random.pick(&places))
+    let tags: Vec<usize> = (0..parts.len()).filter(|place| parts[*place].starts_with(start.as_bytes()) && parts[*place].len() > start.len() + 1).collect();
+    (!tags.is_empty()).then(|| *random.pick(&tags))
+}
+
+/// Puts something into a tag or a label, often at one of its ends.
+fn put_inside(random: &mut Random, part: &mut Vec<u8>) {
+    let ends = [1, part.len() - 1, part.len().saturating_sub(2), random.below(part.len() + 1)];
+    let at = *random.pick(&ends);
+    let inside: &&[u8] = random.pick(&INSIDE);
+    part.splice(at..at, inside.iter().copied());
 }
 
 /// Another name in a tag: another letter, another case, one byte more or less.
@@ -215,36 +243,32 @@ fn other_name(random: &mut Random, tag: &mut Vec<u8>) {
 
 fn damage(random: &mut Random, parts: &mut Vec<Vec<u8>>) {
     let place = random.below(parts.len() + 1);
-    let foreign = random.pick(&FOREIGN).as_bytes().to_vec();
-    match random.below(14) {
-        0..=3 => parts.insert(place, foreign),
-        4 => {
-            let end = *random.pick(&[0, parts.len()]); // beside the root
-            let beside: &[u8] = random.pick::<&[u8]>(&[b"a", b"7", b"<a/>", b"<a></a>", &foreign]);
-            parts.insert(end, beside.to_vec());
+    match random.below(16) {
+        0..=2 => parts.insert(place, random.pick(&FOREIGN).as_bytes().to_vec()),
+        3 => {
+            let name = random.pick(&NO_NAMES);
+            let element = if random.percent(50) { format!("<{name}/>") } else { format!("<{name}></{name}>") };
+            parts.insert(place, element.into_bytes());
         }
-        5..=6 => {
-            if let Some(tag) = tag_of(random, parts, "<") {
-                let inside: &&[u8] =
-                    random.pick::<&[u8]>(&[b" ", b"\t", b"\n", b" b=\"c\"", b" b='c'", b"/", b"<", b">", b":", b"\xc3\xa9", b"\xff", b"\x80", b"\0"]);
-                let at = random.within(1, parts[tag].len() - 1);
-                parts[tag].splice(at..at, inside.iter().copied());
-            }
+        4..=5 => {
+            let end = *random.pick(&[0, parts.len()]);
+            parts.insert(end, random.pick(&BESIDE).as_bytes().to_vec());
         }
-        7..=8 => {
+        6..=8 if place < parts.len() && !parts[place].is_empty() => put_inside(random, &mut parts[place]),
+        9..=10 => {
             if let Some(tag) = tag_of(random, parts, "</").or_else(|| tag_of(random, parts, "<")) {
                 other_name(random, &mut parts[tag]);
             }
         }
-        9 if place < parts.len() => {
+        11 if place < parts.len() => {
             parts.remove(place);
         }
-        10 if place < parts.len() => parts.insert(place, parts[place].clone()),
-        11 if place < parts.len() => {
+        12 if place < parts.len() => parts.insert(place, parts[place].clone()),
+        13 if place < parts.len() => {
             let other = random.below(parts.len());
             parts.swap(place, other);
         }
-        12 => parts.truncate(place),
+        14 => parts.truncate(place),
         _ => {
             let mut bytes = parts.concat();
             disturb(random, &mut bytes, b"<>/ \ta7-.&!?\"=\x00\x0c\x7f\x80\xbf\xef\xff");
@@ -271,9 +295,9 @@ fn deep(random: &mut Random) -> Vec<u8> {
     let mut closed: Vec<String> = names.iter().rev().map(|name| format!("</{name}>")).collect();
     let closing = random.below(depth);
     match random.below(8) {
-        0 => closed[closing] = "</c>".to_string(),
-        1 => closed[closing].clear(),
-        2 => closed.truncate(closing),
+        0..=1 => closed[closing] = "</c>".to_string(),
+        2 => closed[closing].clear(),
+        3 => closed.truncate(closing),
         _ => {}
     }
     let inner = *random.pick(&["", "", "text", "<b/>", "\n", "a b", "&lt;", "RESTRICTED"]);
@@ -306,8 +330,8 @@ fn restrict(random: &mut Random, tree: &mut Tree) {
 /// A document for a table of some capacity, of the kind or not.
 pub fn document(random: &mut Random, capacity: usize) -> Vec<u8> {
     let mut parts = match random.below(100) {
-        0..=3 => return deep(random),
-        4 => vec![random.pick(&["", "", " ", "\n\t", "<"]).as_bytes().to_vec()],
+        0..=5 => return deep(random),
+        6 => vec![random.pick(&["", "", " ", "\n\t", "<"]).as_bytes().to_vec()],
         _ => {
             let mut tree = some_tree(random, capacity);
             if random.percent(8) {
@@ -343,6 +367,9 @@ mod tests {
         }
         for foreign in FOREIGN {
             assert_eq!(read(foreign), None, "{foreign:?}");
+        }
+        for name in NO_NAMES {
+            assert_eq!(read(&format!("<{name}/>")), None, "{name:?}");
         }
     }
 

@@ -172,7 +172,7 @@ pub fn call(random: &mut Random, store: Option<&Store>) -> Call {
         None => 15,
         Some(Stage::A | Stage::B) if capacity + 10 > CAPACITY_MAXIMUM => 60,
         Some(Stage::A) => 4,
-        Some(Stage::B) => 35,
+        Some(Stage::B) => 50,
         Some(_) => 1,
     };
     if random.percent(chance) {
@@ -577,12 +577,12 @@ pub fn start(random: &mut Random) -> Start {
             let records = random.within(CAPACITY_MAXIMUM - 2, CAPACITY_MAXIMUM + 2);
             rootless_start(random, "large", records)
         }
-        3..=100 => {
+        3..=250 => {
             let records = if random.percent(50) { random.within(0, 40) } else { random.within(60, 200) };
             rootless_start(random, "rootless", records)
         }
-        101..=350 => empty_start(random),
-        351..=650 => sound_start(random),
+        251..=450 => empty_start(random),
+        451..=700 => sound_start(random),
         _ => damaged_start(random),
     }
 }
@@ -591,6 +591,7 @@ pub fn start(random: &mut Random) -> Start {
 pub fn length(random: &mut Random, start: &Start) -> usize {
     match start.kind {
         "damaged" => random.within(2, 12),
+        "rootless" => random.within(8, 30),
         "large" => 12,
         _ => random.within(20, 80),
     }
