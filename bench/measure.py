@@ -9,6 +9,9 @@ ROOT = Path(__file__).resolve().parent.parent
 # callgrind counts `rep stosb` and `rep movsb` once a byte: with this the C library sets and copies by vector instructions while it counts
 NO_REP = "glibc.cpu.x86_rep_stosb_threshold=1000000000:glibc.cpu.x86_rep_movsb_threshold=1000000000"
 
+# the library's calls
+LINE, LOAD_XML = "timetable_line", "timetable_load_xml"
+
 
 def run(*command, **options):
     done = subprocess.run([str(word) for word in command], stdout=subprocess.PIPE, stderr=subprocess.STDOUT, text=True, **options)
@@ -45,18 +48,23 @@ def build(work, archive, program):
     return libraries, [Path(program), release / "timetable"]
 
 
-def lend(work, store):
-    """The driver's command on the state and table of a store."""
-    for name, content in zip(("state", "table"), store):
+def lend(work, store, given, call):
+    """The driver's command for a call with a text, on the state and table of a store."""
+    for name, content in zip(("state", "table", "given"), (*store, given.encode())):
         (work / name).write_bytes(content)
-    return [work / "store", work / "state", work / "table"]
+    return [work / "store", call, work / "state", work / "table", work / "given"]
 
 
-def times(work, libraries, store, line, runs):
-    """The CPU milliseconds of a line in each library: of the median run, and of the quartiles."""
-    out = run(*lend(work, store), line, runs, *libraries)
+def times(work, libraries, store, given, runs, call=LINE):
+    """The CPU milliseconds of a call in each library: of the median run, and of the quartiles."""
+    out = run(*lend(work, store, given, call), runs, *libraries)
     found = [[int(word) / 1e6 for word in words.split()[:3]] for words in out.splitlines()]
     return [x[0] for x in found], [x[1:] for x in found]
+
+
+def returned(work, library, store, given, call=LINE):
+    """The number that a call returns."""
+    return int(run(*lend(work, store, given, call), 1, library).split()[-1])
 
 
 def collected(work, options, command, text=""):
@@ -66,9 +74,9 @@ def collected(work, options, command, text=""):
     return int(re.search(r"Collected : (\d+)", (work / "log").read_text()).group(1))
 
 
-def count(work, library, store, line):
-    """The instructions of one line."""
-    return collected(work, ["--toggle-collect=timetable_line"], [*lend(work, store), line, 1, library])
+def count(work, library, store, given, call=LINE):
+    """The instructions of one call."""
+    return collected(work, [f"--toggle-collect={call}"], [*lend(work, store, given, call), 1, library])
 
 
 def hot(work):

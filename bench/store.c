@@ -1,8 +1,8 @@
-// Runs one line on a state and a table through each given library, and prints a line a library: the CPU nanoseconds of
-// the median run, of the lower and of the upper quartile, and the number returned.
-//   store STATE TABLE LINE RUNS LIBRARY.so..
-// STATE and TABLE are files with their bytes. The libraries take turns, each run starts from the same bytes, and all must return the same number and leave the
-// same bytes.
+// Gives one line or document to a state and a table through each given library, and prints a line a library: the CPU
+// nanoseconds of the median run, of the lower and of the upper quartile, and the number returned.
+//   store CALL STATE TABLE GIVEN RUNS LIBRARY.so..
+// CALL is timetable_line or timetable_load_xml; STATE, TABLE and GIVEN are files with their bytes. The libraries take turns, each run starts from the same bytes,
+// and all must return the same number and leave the same bytes.
 #include <dlfcn.h>
 #include <stddef.h>
 #include <stdint.h>
@@ -11,15 +11,16 @@
 #include <string.h>
 #include <time.h>
 
-enum { STATE_MAX = 1 << 17, TABLE_MAX = 1 << 20, AREA_BYTES = 1 << 20, RUNS_MAX = 1000, LIBRARIES_MAX = 2 };
+enum { STATE_MAX = 1 << 17, TABLE_MAX = 1 << 20, AREA_BYTES = 1 << 20, GIVEN_MAX = 1 << 23, RUNS_MAX = 1000, LIBRARIES_MAX = 2 };
 
-typedef int64_t line_function(uint8_t *state, size_t state_n, uint8_t *table, size_t table_n, const uint8_t *line, size_t line_n, uint8_t *area, size_t area_n);
+typedef int64_t call_function(uint8_t *state, size_t state_n, uint8_t *table, size_t table_n, const uint8_t *given, size_t given_n, uint8_t *area, size_t area_n);
 
 typedef struct {
     uint8_t state[STATE_MAX], table[TABLE_MAX], area[AREA_BYTES];
 } Store;
 
 static Store start, after[LIBRARIES_MAX];
+static uint8_t given[GIVEN_MAX];
 
 // The bytes of a file, and how many.
 static size_t read_file(const char *name, uint8_t *bytes, size_t max) {
@@ -44,27 +45,28 @@ static int ascending(const void *a, const void *b) {
     return (x > y) - (x < y);
 }
 
-// The function `timetable_line` of a library.
-static line_function *open_library(const char *name) {
+// A function of a library.
+static call_function *open_library(const char *name, const char *function) {
     void *handle = dlopen(name, RTLD_NOW | RTLD_LOCAL);
-    void *symbol = handle ? dlsym(handle, "timetable_line") : 0;
+    void *symbol = handle ? dlsym(handle, function) : 0;
     if (!symbol) {
         fprintf(stderr, "%s\n", dlerror());
         exit(2);
     }
-    line_function *line;
-    memcpy(&line, &symbol, sizeof symbol);
-    return line;
+    call_function *call;
+    memcpy(&call, &symbol, sizeof symbol);
+    return call;
 }
 
 int main(int argc, char **argv) {
-    int libraries = argc - 5;
+    int libraries = argc - 6;
     if (libraries < 1 || libraries > LIBRARIES_MAX) return 2;
-    size_t state_n = read_file(argv[1], start.state, STATE_MAX), table_n = read_file(argv[2], start.table, TABLE_MAX), line_n = strlen(argv[3]);
-    int runs = atoi(argv[4]);
+    size_t state_n = read_file(argv[2], start.state, STATE_MAX), table_n = read_file(argv[3], start.table, TABLE_MAX);
+    size_t given_n = read_file(argv[4], given, GIVEN_MAX);
+    int runs = atoi(argv[5]);
     if (runs < 1 || runs > RUNS_MAX) return 2;
-    line_function *line[LIBRARIES_MAX];
-    for (int k = 0; k < libraries; k++) line[k] = open_library(argv[5 + k]);
+    call_function *call[LIBRARIES_MAX];
+    for (int k = 0; k < libraries; k++) call[k] = open_library(argv[6 + k], argv[1]);
     static int64_t ns[LIBRARIES_MAX][RUNS_MAX];
     int64_t returned[LIBRARIES_MAX];
     for (int run = 0; run < runs; run++)
@@ -72,7 +74,7 @@ int main(int argc, char **argv) {
             Store *s = &after[k];
             *s = start;
             int64_t began = cpu_ns();
-            returned[k] = line[k](s->state, state_n, s->table, table_n, (const uint8_t *)argv[3], line_n, s->area, AREA_BYTES);
+            returned[k] = call[k](s->state, state_n, s->table, table_n, given, given_n, s->area, AREA_BYTES);
             ns[k][run] = cpu_ns() - began;
         }
     for (int k = 1; k < libraries; k++)

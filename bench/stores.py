@@ -8,7 +8,7 @@ import re
 RECORD, LABEL_MAX, LEVEL_MAX, NODES_MAX = 32, 24, 11, 16384
 SUBJECTS_MAX, ISA_MAX, RULES_MAX, STEPS_MAX = 64, 128, 128, 16
 RULE_BYTES = 8 + RECORD * STEPS_MAX
-STAGE_E = 4
+STAGE_B, STAGE_E = 1, 4
 RIGHTS = {"position": 1, "read": 2, "insert": 4, "update": 8, "delete": 16}
 
 
@@ -43,6 +43,39 @@ def state(names, policy):
     lines = b"".join(bytes(line) for line in isa).ljust(2 * ISA_MAX, b"\0")
     rules = b"".join(rule(*words, k // 2 % len(names)) for k, words in enumerate(policy)).ljust(RULE_BYTES * RULES_MAX, b"\0")
     return bytes([STAGE_E, len(names), 0, 0, 0, 0, 0, 0]) + counts + subjects + lines + rules
+
+
+def before_root(with_user):
+    """The state as it was before the root line."""
+    return bytes([STAGE_B, 0]) + with_user[2:]
+
+
+# --- Documents (document 02, card 2) ---
+
+
+def document(tree, indent=""):
+    """The tree as a solver writes it: a node without children is a text if it has no siblings, and else an element without content."""
+    out, names = [], []
+    levels = [level for level, _ in tree] + [0]
+
+    def put(text, level, apart):
+        out.append(("\n" + indent * level if indent and apart and out else "") + text)
+
+    for i, (level, label) in enumerate(tree):
+        leaf, text = levels[i + 1] <= level, levels[i - 1] < level > levels[i + 1]
+        put(label if text else f"<{label}/>" if leaf else f"<{label}>", level, not text)
+        if not leaf:
+            names.append(label)
+        while len(names) > levels[i + 1]:
+            name = names.pop()
+            put(f"</{name}>", len(names), not text)
+            text = False
+    return "".join(out)
+
+
+def nested(depth, innermost="a"):
+    """So many elements, each within the one before it; the innermost one closed by this name."""
+    return "<a>" * depth + f"</{innermost}>" + "</a>" * (depth - 1)
 
 
 # --- Shapes of trees: levels in document order ---
