@@ -1,11 +1,5 @@
 /* The small school of document 01, and what the reader SHA sees of it. */
-#include "timetable.h"
-
-#include <stdio.h>
-#include <stdlib.h>
-#include <string.h>
-
-#define RECORDS 1024
+#include "store.h"
 
 static const char *const SCHOOL[] = {
     "(subject staff)",
@@ -20,30 +14,10 @@ static const char *const SCHOOL[] = {
     "(user SHA)",
 };
 
-static uint8_t state[TIMETABLE_STATE_BYTES];
-static uint8_t table[TIMETABLE_TABLE_BYTES(RECORDS)];
-static uint8_t area[TIMETABLE_AREA_BYTES(RECORDS)];
-
-/* The length of the answer to a line. Ends the program where the line is refused. */
-static size_t answer(const char *line) {
-    int64_t returned = timetable_line(state, sizeof state, table, sizeof table, (const uint8_t *)line, strlen(line),
-                                      area, sizeof area);
-    if (returned < 0) {
-        fprintf(stderr, "%s: refused %d: %s\n", line, (int)-returned, timetable_refusal_text(-returned));
-        exit(1);
-    }
-    return (size_t)returned;
-}
-
 int main(void) {
-    if (!timetable_library_fits()) {
-        fprintf(stderr, "the library is not one for timetable.h %s\n", TIMETABLE_VERSION);
-        return 1;
-    }
+    need_library();
     for (size_t i = 0; i < sizeof SCHOOL / sizeof SCHOOL[0]; i++) {
         answer(SCHOOL[i]);
     }
-    size_t length = answer("(view)");
-    size_t written = fwrite(area, 1, length, stdout);
-    return written == length && fflush(stdout) == 0 ? 0 : 1;
+    return print_view();
 }

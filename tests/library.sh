@@ -24,6 +24,35 @@ prints_view() {
     "$@" > "$work/printed" && diff "$work/view" "$work/printed"
 }
 
+# turns_away SAID COMMAND..: whether it says something that begins so, prints nothing and ends with status 1
+turns_away() {
+    local said=$1 status
+    shift
+    "$@" > "$work/printed" 2> "$work/said"
+    status=$?
+    [ "$status" -eq 1 ] && [ ! -s "$work/printed" ] && [[ $(< "$work/said") == "$said"* ]] && return
+    echo "status $status, not '$said': $(head -n 3 "$work/said")"
+    return 1
+}
+
+# loads COMMAND..: whether it prints what SHA sees of examples/week.xml, and tells what is refused by file, line and
+# words
+loads() {
+    local policy=$root/examples/policy.lines week=$root/examples/week.xml file
+    printf '%s' "$(< "$week")" > "$work/unended.xml"
+    sed 's|</tue>|</mon>|' "$week" > "$work/damaged.xml"
+    sed 's/^(isa SHA staff)$/(isa SHA music)/' "$policy" > "$work/unknown.lines"
+    printf '%s\n(root school)' "$(< "$policy")" > "$work/rooted.lines"
+    for file in "$week" "$work/unended.xml"; do
+        "$@" "$policy" "$file" SHA > "$work/printed" && diff "$work/week" "$work/printed" || return 1
+    done
+    turns_away "$work/damaged.xml: refused 14: the document is not" "$@" "$policy" "$work/damaged.xml" SHA &&
+        turns_away "$work/unknown.lines:3: refused 5: a name is unknown" "$@" "$work/unknown.lines" "$week" SHA &&
+        turns_away "$week: refused 3: it does not fit the stage" "$@" "$work/rooted.lines" "$week" SHA &&
+        turns_away '(user MEI): refused 5: a name is unknown' "$@" "$policy" "$week" MEI &&
+        turns_away "$work/none.xml: No such file" "$@" "$policy" "$work/none.xml" SHA
+}
+
 # The header and the archive, in C and C++
 
 narrow_header() {
@@ -36,15 +65,29 @@ archive_alone() {
         size -A "$archive" | awk '$1 ~ /^\.(t?data|t?bss)($|\.[^r])/ { bytes += $2 } END { exit bytes > 0 }'
 }
 
+# in_c EXAMPLE, in_cpp EXAMPLE: builds it as $work/EXAMPLE_c, $work/EXAMPLE_cpp
+in_c() {
+    gcc -std=c99 "${strict[@]}" -I "$root/include" -o "$work/$1_c" "$root/examples/$1.c" "$archive"
+}
+
+in_cpp() {
+    g++ -std=c++11 "${strict[@]}" -I "$root/include" -o "$work/$1_cpp" -x c++ "$root/examples/$1.c" -x none "$archive"
+}
+
 view_in_c() {
-    gcc -std=c99 "${strict[@]}" -I "$root/include" -o "$work/view_c" "$root/examples/view.c" "$archive" &&
-        prints_view "$work/view_c"
+    in_c view && prints_view "$work/view_c"
 }
 
 view_in_cpp() {
-    cp "$root/examples/view.c" "$work/view.cpp" &&
-        g++ -std=c++11 "${strict[@]}" -I "$root/include" -o "$work/view_cpp" "$work/view.cpp" "$archive" &&
-        prints_view "$work/view_cpp"
+    in_cpp view && prints_view "$work/view_cpp"
+}
+
+load_in_c() {
+    in_c load && loads "$work/load_c"
+}
+
+load_in_cpp() {
+    in_cpp load && loads "$work/load_cpp"
 }
 
 # A library whose state is of another size: the example says so, and asks it nothing.
@@ -219,6 +262,13 @@ cat > "$work/view" << 'END'
 (end 9)
 END
 
+cat > "$work/week" << 'END'
+(root school)
+(child (mon (p1 (lesson (class (10B)) (room (R12)) (teacher (SHA)) (note (RESTRICTED)))) (p2)))
+(child (tue (p1) (p2 (lesson (class (10C)) (room (hall)) (teacher (MEI)) (note)))))
+(end 24)
+END
+
 archive=$root/target/staticlib/liblouvretansy.a
 if [ $# -gt 0 ]; then
     archive=$(realpath "$1")
@@ -231,11 +281,14 @@ run 'the header is 120 columns wide' narrow_header
 run 'the archive holds nothing between calls' archive_alone
 run 'a view in C' view_in_c
 run 'a view in C++' view_in_cpp
+run "the solver's file in C" load_in_c
+run "the solver's file in C++" load_in_cpp
 run 'a library of another version' view_of_another_version
 run 'calls, short areas and damaged stores in C, on the stack that the header asks for' calls_in_c
 run 'the stack is what the header tells' stack_as_told
 run 'the texts of the refusals are those of README.md' texts_as_told
 run 'a view in Rust' prints_view rust run --example view
+run "the solver's file in Rust" loads rust run --example load --
 run 'the wrapper in Rust' rust test
 run 'the wrapper is tidy' wrapper_tidy
 run 'the wrapper without the archive' wrapper_alone

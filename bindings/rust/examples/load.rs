@@ -36,8 +36,8 @@ fn main() -> ExitCode {
         eprintln!("load POLICY FILE.xml READER");
         return ExitCode::from(2);
     };
-    let printed = view(policy, solver, reader)
-        .and_then(|view| io::stdout().write_all(&view).map_err(about("standard output")));
+    let printed =
+        view(policy, solver, reader).and_then(|view| io::stdout().write_all(&view).map_err(about("standard output")));
     match printed {
         Ok(()) => ExitCode::SUCCESS,
         Err(words) => {
