@@ -4,11 +4,13 @@
 
 A block of `lines` is given to PROGRAM, and the block of `answers` behind it is what the program must print; an `(ok)` for each line up to the first that is
 answered otherwise is left out there. Blocks of `sh` and indented blocks are commands, run from the top folder; they must succeed, but for the test command
-itself, which is running. A block of any other kind is a failure. In the table of refusals the line of row N must be refused with N; rows 12 and 13 need the
-library, and stay out without it. Ends with `N passed, M failed`.
+itself, which is running, and the last one must print the block of `answers` behind them, if there is one. A block of `xml` is a file of examples/. A block of
+any other kind is a failure. In the table of refusals the line of row N must be refused with N, and so must a document in any other table; documents and rows 12
+to 14 need the library, and stay out without it. Ends with `N passed, M failed`.
 """
 
 import argparse
+import glob
 import os
 import re
 import subprocess
@@ -41,8 +43,9 @@ BEFORE = {
     11: FULL_TABLE,
     12: LOGGED_IN,
     13: LOGGED_IN,
+    14: POLICY,
 }
-LIBRARY_ONLY = {12: {"area": 8}, 13: {"table": 3}}
+LIBRARY_ONLY = {12: {"area": 8}, 13: {"table": 3}, 14: {}}
 
 counts = {True: 0, False: 0}
 
@@ -97,30 +100,44 @@ def check_lines(name, program, lines, answers):
     report(name, good, "\n".join(printed))
 
 
+def run_commands(name, commands):
+    """What the last of them prints, or none where it does not run."""
+    printed = None
+    for command in commands.strip().split("\n"):
+        if command in TEST_COMMANDS:
+            continue
+        done = subprocess.run(["bash", "-c", command], cwd=ROOT, capture_output=True, text=True)
+        report(f"{name}: {command}", done.returncode == 0, done.stdout + done.stderr)
+        printed = done.stdout
+    return printed
+
+
+def example_files():
+    for path in glob.glob(os.path.join(ROOT, "examples", "*")):
+        with open(path, encoding="utf-8") as file:
+            yield file.read()
+
+
 def check_page(page, program, lines_only):
     with open(os.path.join(ROOT, page), encoding="utf-8") as file:
         text = file.read()
-    waiting = None
-    for number, kind, content in blocks(text):
+    behind = given = None  # the block before this one: its kind, and its name with its lines or with what its commands print
+    for number, kind, content in [*blocks(text), (0, "end", "")]:
         name = f"{page}:{number}"
-        if waiting is not None and kind != "answers":
-            report(waiting[0], False, "no answers behind these lines")
-            waiting = None
-        if kind == "lines":
-            waiting = (name, content)
-        elif kind == "answers" and waiting is not None:
-            check_lines(waiting[0], program, waiting[1], content)
-            waiting = None
-        elif kind == "sh":
-            for command in content.strip().split("\n"):
-                if command in TEST_COMMANDS or lines_only:
-                    continue
-                done = subprocess.run(["bash", "-c", command], cwd=ROOT, capture_output=True, text=True)
-                report(f"{name}: {command}", done.returncode == 0, done.stdout + done.stderr)
-        else:
+        if behind == "lines" and kind != "answers":
+            report(given[0], False, "no answers behind these lines")
+        if kind == "sh":
+            content = None if lines_only else run_commands(name, content)
+        elif kind == "xml":
+            report(f"{name}: a file of examples/", content in example_files())
+        elif kind == "answers" and behind == "lines":
+            check_lines(given[0], program, given[1], content)
+        elif kind == "answers" and behind == "sh":
+            if given[1] is not None:
+                report(f"{name}: what the last command prints", given[1] == content, given[1])
+        elif kind not in ("lines", "end"):
             report(name, False, f"a block of kind '{kind}'")
-    if waiting is not None:
-        report(waiting[0], False, "no answers behind these lines")
+        behind, given = kind, (name, content)
     return text
 
 
@@ -135,7 +152,7 @@ def check_man_page(program):
 
 
 def call_library(path, lines, last, table=None, area=None):
-    """What `timetable_line` returns for the last line, with so many bytes of table and area then."""
+    """What the library returns for the last line, or a document, with so many bytes of table and area then."""
     store = library.Store(path)
     for line in lines:
         store.line(line.encode())
@@ -143,7 +160,14 @@ def call_library(path, lines, last, table=None, area=None):
         store.table.length = table
     if area is not None:
         store.area.length = area
-    return store.line(last.encode())
+    return (store.load_xml if last.startswith("<") else store.line)(last.encode())
+
+
+def check_documents(page, text, shared):
+    """Rows `| `document` | N | .. |`."""
+    for document, number in re.findall(r"^\| `(<[^`]*)` \| (\d+) \|", text, re.M):
+        returned = call_library(shared, POLICY, document)
+        report(f"{page}: refusal {number}: {document}", returned == -int(number), f"returns {returned}")
 
 
 def check_refusals(page, text, program, shared):
@@ -159,7 +183,7 @@ def check_refusals(page, text, program, shared):
         elif shared is not None:
             report(name, call_library(shared, BEFORE[number], line, **LIBRARY_ONLY[number]) == -number)
     if rows:
-        report(f"{page}: every refusal has a row", [int(number) for number, _ in rows] == list(range(1, 14)))
+        report(f"{page}: every refusal has a row", [int(number) for number, _ in rows] == sorted(BEFORE))
     return bool(rows)
 
 
@@ -170,11 +194,14 @@ def main():
     parser.add_argument("--library", help="a shared object with timetable_line")
     options = parser.parse_args()
     program = os.path.abspath(options.program)
+    shared = options.library and os.path.abspath(options.library)
     tables = 0
     for page in PAGES:
         if os.path.exists(os.path.join(ROOT, page)):
             text = check_page(page, program, options.lines_only)
-            tables += check_refusals(page, text, program, options.library and os.path.abspath(options.library))
+            tables += check_refusals(page, text, program, shared)
+            if shared is not None:
+                check_documents(page, text, shared)
     check_man_page(program)
     report("there is one table of refusals", tables == 1)
     print(f"{counts[True]} passed, {counts[False]} failed")
