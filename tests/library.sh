@@ -35,6 +35,15 @@ turns_away() {
     return 1
 }
 
+# shows_week COMMAND..: whether it shows SHA every element and text of a secondary school's week
+shows_week() {
+    local nodes
+    python3 "$root/tests/week.py" > "$work/school.xml" || return 1
+    nodes=$(sed 's/<[^>]*>/\n&\n/g' "$work/school.xml" | grep -cE '^<[^/]|^ *[^ <]')
+    "$@" "$root/examples/policy.lines" "$work/school.xml" SHA > "$work/printed" &&
+        [ "$(tail -n 1 "$work/printed")" = "(end $nodes)" ] && [ "$nodes" -gt 5000 ]
+}
+
 # loads COMMAND..: whether it prints what SHA sees of examples/week.xml, and tells what is refused by file, line and
 # words
 loads() {
@@ -46,7 +55,8 @@ loads() {
     for file in "$week" "$work/unended.xml"; do
         "$@" "$policy" "$file" SHA > "$work/printed" && diff "$work/week" "$work/printed" || return 1
     done
-    turns_away "$work/damaged.xml: refused 14: the document is not" "$@" "$policy" "$work/damaged.xml" SHA &&
+    shows_week "$@" &&
+        turns_away "$work/damaged.xml: refused 14: the document is not" "$@" "$policy" "$work/damaged.xml" SHA &&
         turns_away "$work/unknown.lines:3: refused 5: a name is unknown" "$@" "$work/unknown.lines" "$week" SHA &&
         turns_away "$week: refused 3: it does not fit the stage" "$@" "$work/rooted.lines" "$week" SHA &&
         turns_away '(user MEI): refused 5: a name is unknown' "$@" "$policy" "$week" MEI &&
