@@ -51,10 +51,10 @@ HEAD = f"""
 
 Document 02, card 2: documents of 16,384 nodes into an empty table of as many records, under the policy of one subject and five rules. At most {USER_BOUND} times the
 instructions of `{LOGIN}` on the table that the document leaves and {BYTE_BOUND} for each of its bytes are allowed. Instructions are millions, times the median of {RUNS} runs
-(and quartiles).
+(and quartiles); those of Rust, from the straightforward version of docs/src, are beside them, and both left the same bytes.
 
-| document | bytes | instr. | `{LOGIN}` | allowed | share | instr. a byte | ms | most of it in |
-|---|---|---|---|---|---|---|---|---|
+| document | bytes | instr. | `{LOGIN}` | allowed | share | a byte | Rust instr. | ms | Rust ms | most of it in |
+|---|---|---|---|---|---|---|---|---|---|---|
 """
 NESTED_HEAD = f"""
 ### Nested elements
@@ -83,22 +83,22 @@ def expect(work, library, bounds, name, empty, text, number):
         bounds.hold(False, f"load, {name}: returns {got}, not {number}")
 
 
-def measured(work, library, text):
-    """The instructions of loading a document into the empty table, and its time."""
-    (ms,), (quartiles,) = times(work, [library], (BEFORE, EMPTY), text, RUNS, LOAD_XML)
-    return count(work, library, (BEFORE, EMPTY), text, LOAD_XML), ms, spread(ms, quartiles)
+def measured(work, libraries, text):
+    """The instructions of loading a document into the empty table, and the times, for each library."""
+    ms, quartiles = times(work, libraries, (BEFORE, EMPTY), text, RUNS, LOAD_XML)
+    return [count(work, library, (BEFORE, EMPTY), text, LOAD_XML) for library in reversed(libraries)][::-1], ms, list(map(spread, ms, quartiles))
 
 
-def full_text(work, library, bounds):
+def full_text(work, libraries, bounds):
     text = HEAD
     for name, tree, written in FULL:
-        expect(work, library, bounds, name, EMPTY, written, OK)
-        user = count(work, library, (FIVE, table(tree)), LOGIN)
-        found, _, took = measured(work, library, written)
+        expect(work, libraries[0], bounds, name, EMPTY, written, OK)
+        user = count(work, libraries[0], (FIVE, table(tree)), LOGIN)
+        (found, rust), _, took = measured(work, libraries, written)
         allowed = USER_BOUND * user + BYTE_BOUND * len(written)
         share = found / allowed
-        bounds.hold(share <= 1, f"load, {name}: {len(written):,} bytes, {found:,} instructions, {share:.2f} of the {allowed:,} allowed")
-        cells = [f"{len(written):,}", *map(millions, (found, user, allowed)), f"{share:.2f}", f"{found / len(written):.1f}", took, hot(work)]
+        bounds.hold(share <= 1, f"load, {name}: {len(written):,} bytes, {found:,} instructions, {share:.2f} of the {allowed:,} allowed; Rust {rust:,}")
+        cells = [f"{len(written):,}", *map(millions, (found, user, allowed)), f"{share:.2f}", f"{found / len(written):.1f}", millions(rust), *took, hot(work)]
         text += f"| {name} | {' | '.join(cells)} |\n"
     return text
 
@@ -107,7 +107,7 @@ def nested_text(work, library, bounds):
     text = NESTED_HEAD
     for name, written, passes, number in NESTED:
         expect(work, library, bounds, name, EMPTY, written, number)
-        found, ms, took = measured(work, library, written)
+        (found,), (ms,), (took,) = measured(work, [library], written)
         a_byte = found / len(written)
         told = f"load, {name}: {found:,} instructions, {a_byte / passes:.1f} a byte and pass, at most {BYTE_BOUND}; {ms:.2f} ms, at most {MS_BOUND:,}"
         bounds.hold(a_byte <= BYTE_BOUND * passes and ms <= MS_BOUND, told)
@@ -130,6 +130,6 @@ def long_text(work, library, bounds):
     return text
 
 
-def loads(work, library, bounds):
-    """The report's section."""
-    return full_text(work, library, bounds) + nested_text(work, library, bounds) + long_text(work, library, bounds)
+def loads(work, libraries, bounds):
+    """The report's section. libraries: Rattle's and the straightforward one."""
+    return full_text(work, libraries, bounds) + nested_text(work, libraries[0], bounds) + long_text(work, libraries[0], bounds)

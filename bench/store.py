@@ -195,7 +195,7 @@ def main():
                 above.append(("the program", hot(work)))
             text = HEAD + about + lines_text(rows, spreads) + program_text(cpu, wall, counts) + above_text(above)
             views_text, view_rows = views(work, [rattle, view_alone], bounds)
-            text += views_text + where(work, rattle) + loads(work, rattle, bounds) + "\n![CPU times and growth](benchmark.svg)\n"
+            text += views_text + where(work, rattle) + loads(work, [rattle, rust], bounds) + "\n![CPU times and growth](benchmark.svg)\n"
             (ROOT / "docs/BENCHMARK.md").write_text(text)
             (ROOT / "docs/benchmark.svg").write_text(plot(rows, FEW, MOST, view_rows))
     sys.exit(bounds.failed)
