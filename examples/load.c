@@ -56,5 +56,6 @@ int main(int argc, char **argv) {
     load_xml(argv[2]);
     snprintf(login, sizeof login, "(user %s)", argv[3]);
     answer(login);
-    return print_view();
+    print_view();
+    return 0;
 }

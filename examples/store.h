@@ -39,11 +39,13 @@ static inline size_t answer(const char *line) {
     return answer_to(line, line, strlen(line));
 }
 
-/* Prints what the user sees. The program's status: 0, or 1 if not all of it could be written. */
-static inline int print_view(void) {
+/* Prints what the user sees. Ends the program where not all of it could be written. */
+static inline void print_view(void) {
     size_t length = answer("(view)");
-    size_t written = fwrite(area, 1, length, stdout);
-    return written == length && fflush(stdout) == 0 ? 0 : 1;
+    if (fwrite(area, 1, length, stdout) != length || fflush(stdout) != 0) {
+        perror("standard output");
+        exit(1);
+    }
 }
 
 #endif

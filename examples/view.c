@@ -19,5 +19,6 @@ int main(void) {
     for (size_t i = 0; i < sizeof SCHOOL / sizeof SCHOOL[0]; i++) {
         answer(SCHOOL[i]);
     }
-    return print_view();
+    print_view();
+    return 0;
 }

@@ -35,6 +35,11 @@ turns_away() {
     return 1
 }
 
+# to_full_disk COMMAND..
+to_full_disk() {
+    "$@" > /dev/full
+}
+
 # shows_week COMMAND..: whether it shows SHA every element and text of a secondary school's week
 shows_week() {
     local nodes
@@ -60,7 +65,8 @@ loads() {
         turns_away "$work/unknown.lines:3: refused 5: a name is unknown" "$@" "$work/unknown.lines" "$week" SHA &&
         turns_away "$week: refused 3: it does not fit the stage" "$@" "$work/rooted.lines" "$week" SHA &&
         turns_away '(user MEI): refused 5: a name is unknown' "$@" "$policy" "$week" MEI &&
-        turns_away "$work/none.xml: No such file" "$@" "$policy" "$work/none.xml" SHA
+        turns_away "$work/none.xml: No such file" "$@" "$policy" "$work/none.xml" SHA &&
+        turns_away 'standard output: No space left' to_full_disk "$@" "$policy" "$week" SHA
 }
 
 # The header and the archive, in C and C++
