@@ -1,6 +1,7 @@
 #!/usr/bin/env python3
-"""Docs that name what is there: each definition, law, function, file and edit that docs/TRACE.md names in its columns stands in the crates. README.md's list of
-the definitions to be believed has the lines of each, blank ones and imports apart, and their sum, below 1,500.
+"""Docs that name what is there: each definition, law, function, file and edit that docs/TRACE.md names in its columns stands in the crates. docs/PROOF.md's list of
+the definitions to be believed has the lines of each, blank ones and imports apart, and their sums, below BELIEVED_MAX; the laws that it names stand in the files beside their names. Links in
+the pages lead to what is there.
 
 A name in backquotes that is one word is a definition or a law (`specs/`, `proofs/`) or a function (`src/`); `module::function` is a function of that module; CRATE/NAME in the last
 column is an edit. The last line is `N passed, M failed`, a name counted once.
@@ -31,6 +32,8 @@ for path in glob.glob("crates/*/src/*.rt"):
 edits = {path.split("/")[1] + "/" + os.path.basename(path)[:-5] for path in glob.glob("crates/*/edits/*.edit")}
 crates = {os.path.basename(path) for path in glob.glob("crates/*")}
 
+# the most lines of definitions to be believed
+BELIEVED_MAX = 1650
 # words of the language, no names of ours
 WORDS = {"ensures", "requires"}
 seen, wrong = set(), []
@@ -68,27 +71,74 @@ def declared(block, name):
     return re.search(r"(?m)^\s*(?:abbrev |unfoldable )?(?:pub )?(?:data |record )?%s(?: |$)" % re.escape(name), block)
 
 
-# README.md's list: a file, `whole` or the definitions of it that are to be read, what they say, their lines
+# docs/PROOF.md's list: a file, `whole` or the definitions of it that are to be read, what they say, their lines. A file may have several rows, of different
+# definitions. The rows of each section have a sum, and all together.
+page = open("docs/PROOF.md").read()
 total = 0
-rows = re.findall(r"(?m)^\| ([a-z]+/specs/\w+) \| ([^|]*) \| [^|]* \| (\d+) \|$", open("README.md").read())
-for name, which, said in rows:
-    path = "crates/%s.antt" % name
-    text = open(path).read() if os.path.isfile(path) else ""
-    blocks = ["\n".join(line for line in block.split("\n") if line and not re.match(r"(pub )?use ", line)) for block in re.split(r"\n\s*\n", text)]
-    if which != "whole":
+counted = set()
+for section in re.split(r"(?m)^### ", page):
+    rows = re.findall(r"(?m)^\| \[([a-z]+/specs/\w+)\] \| ([^|]*) \| [^|]* \| (\d+) \|$", section)
+    subtotal = 0
+    for name, which, said in rows:
+        path = "crates/%s.antt" % name
+        text = open(path).read() if os.path.isfile(path) else ""
+        blocks = ["\n".join(line for line in block.split("\n") if line and not re.match(r"(pub )?use ", line)) for block in re.split(r"\n\s*\n", text)]
         names = re.findall(r"`([^`]+)`", which)
+        chosen = range(len(blocks)) if which == "whole" else [at for at, block in enumerate(blocks) if any(declared(block, one) for one in names)]
         missing = [one for one in names if not any(declared(block, one) for block in blocks)]
-        wrong.extend("README.md: %s has no `%s`" % (name, one) for one in missing)
-        blocks = [block for block in blocks if any(declared(block, one) for one in names)]
-    count = sum(len([line for line in block.split("\n") if line.strip()]) for block in blocks)
-    total += count
-    seen.add(("README", name))
-    if count != int(said):
-        wrong.append("README.md: %s has %d lines, not %s" % (name, count, said))
-together = re.search(r"Together ([\d,]+) lines", open("README.md").read())
-seen.add(("README", "together"))
-if not rows or not together or int(together.group(1).replace(",", "")) != total or total >= 1500:
-    wrong.append("README.md: the list of definitions has %d lines together" % total)
+        wrong.extend("docs/PROOF.md: %s has no `%s`" % (name, one) for one in missing)
+        twice = [at for at in chosen if (name, at) in counted]
+        if twice:
+            wrong.append("docs/PROOF.md: %s: a definition of `%s` is counted twice" % (name, which))
+        counted.update((name, at) for at in chosen)
+        count = sum(len([line for line in blocks[at].split("\n") if line.strip()]) for at in chosen)
+        subtotal += count
+        seen.add(("PROOF", name, which))
+        if count != int(said):
+            wrong.append("docs/PROOF.md: %s, %s has %d lines, not %s" % (name, which, count, said))
+    if rows:
+        told = re.search(r"(?m)^Here: ([\d,]+) lines", section)
+        seen.add(("PROOF", section.split("\n")[0]))
+        if not told or int(told.group(1).replace(",", "")) != subtotal:
+            wrong.append("docs/PROOF.md: %s: %d lines" % (section.split("\n")[0], subtotal))
+    total += subtotal
+together = re.search(r"Together ([\d,]+) lines", page)
+seen.add(("PROOF", "together"))
+if not counted or not together or int(together.group(1).replace(",", "")) != total or total >= BELIEVED_MAX:
+    wrong.append("docs/PROOF.md: the list of definitions has %d lines together" % total)
+
+# `NAME`, .. ([FILE](LINK)): definitions, laws or functions of that file
+for names, link in re.findall(r"((?:`[\w'-]+`,?\s)+)\s*\(\[[\w.]+\]\(\.\./([^)]+)\)\)", page):
+    text = open(link).read() if os.path.isfile(link) else ""
+    for name in re.findall(r"`([^`]+)`", names):
+        seen.add(("PROOF", link, name))
+        if not declared(text, name) and not re.search(r"(?m)^\s*(?:pub )?(?:extern \"C\" )?fn %s\b" % name, text):
+            wrong.append("docs/PROOF.md: %s has no `%s`" % (link, name))
+
+
+# Links: a file or folder that is there, and in a page a heading.
+def anchors(path):
+    """The names that a link can end with, as they are made of the headings of a page."""
+    text = re.sub(r"(?ms)^```.*?^```$", "", open(path).read())
+    return {re.sub(r"[^\w\- ]", "", heading.lower()).replace(" ", "-") for heading in re.findall(r"(?m)^#+ (.*)$", text)}
+
+
+PAGES = sorted(glob.glob("*.md") + glob.glob("docs/*.md") + glob.glob("office/*.md"))
+for name in PAGES:
+    text = re.sub(r"(?ms)^```.*?^```$", "", open(name).read())
+    for target in re.findall(r"\]\(([^)\s]+)\)", text) + re.findall(r"(?m)^\[[^\]]+\]: (\S+)$", text):
+        if re.match(r"https?://", target):
+            continue
+        file, _, anchor = target.partition("#")
+        path = os.path.normpath(os.path.join(os.path.dirname(name), file)) if file else name
+        seen.add((name, target))
+        if not os.path.exists(path):
+            wrong.append("%s: no file %s" % (name, target))
+        elif anchor and (not path.endswith(".md") or anchor not in anchors(path)):
+            wrong.append("%s: no heading %s" % (name, target))
+    for word in re.findall(r"(?m)\| \[([^\]]+)\](?= \|)", text):
+        if not re.search(r"(?m)^\[%s\]: " % re.escape(word), text):
+            wrong.append("%s: [%s] leads nowhere" % (name, word))
 
 for line in wrong:
     print(line)
