@@ -1,16 +1,15 @@
-"""Runs every code block of README.md and docs/GUIDE.md, the example of the man page, and the example line of each refusal.
+"""Runs every code block of README.md, docs/GUIDE.md and docs/MODEL.md, the example of the man page, and the example of each refusal.
 
     guide.py PROGRAM [--lines-only] [--library FILE.so]
 
-A block of `lines` is given to PROGRAM, and the block of `answers` behind it is what the program must print; an `(ok)` for each line up to the first that is
-answered otherwise is left out there. Blocks of `sh` and indented blocks are commands, run from the top folder; they must succeed, but for the test command
-itself, which is running, and the last one must print the block of `answers` behind them, if there is one. A block of `xml` is a file of examples/. A block of
-any other kind is a failure. In the table of refusals the line of row N must be refused with N, and so must a document in any other table; documents and rows 12
-to 14 need the library, and stay out without it. Ends with `N passed, M failed`.
+A block of `lines` is given to PROGRAM, and the block of `answers` after it is what the program must print; an `(ok)` for each line up to the first that is
+answered otherwise is left out there. A block of `xml` is loaded, and must leave what the lines of the block of `matching` after it leave. Blocks of `sh` and
+indented blocks are commands, each block a script that is run from the top folder and must succeed; lines of it that are the test command, which is running,
+are left out. A block of any other kind is a failure. In the table of refusals the example of row N must be refused with N. Rows 12 to 14 and documents need
+the library, and stay out without it. Ends with `N passed, M failed`.
 """
 
 import argparse
-import glob
 import os
 import re
 import subprocess
@@ -21,7 +20,7 @@ import library  # noqa: E402
 import timetable  # noqa: E402
 
 ROOT = timetable.ROOT
-PAGES = ["README.md", "docs/GUIDE.md"]
+PAGES = ["README.md", "docs/GUIDE.md", "docs/MODEL.md"]
 MAN_PAGE = "docs/timetable.1"
 TEST_COMMANDS = {"bash tests/all", "bash bench/run"}
 SETTING_UP = ("(subject ", "(isa ", "(rule ", "(root ", "(child ", "(user ")
@@ -45,7 +44,8 @@ BEFORE = {
     13: LOGGED_IN,
     14: POLICY,
 }
-LIBRARY_ONLY = {12: {"area": 8}, 13: {"table": 3}, 14: {}}
+LIBRARY_ONLY = {12: {"area": 8}, 13: {"table": 3}, 14: {"document": True}}
+PAIRS = {"lines": "answers", "xml": "matching"}
 
 counts = {True: 0, False: 0}
 
@@ -100,44 +100,47 @@ def check_lines(name, program, lines, answers):
     report(name, good, "\n".join(printed))
 
 
-def run_commands(name, commands):
-    """What the last of them prints, or none where it does not run."""
-    printed = None
-    for command in commands.strip().split("\n"):
-        if command in TEST_COMMANDS:
-            continue
-        done = subprocess.run(["bash", "-c", command], cwd=ROOT, capture_output=True, text=True)
-        report(f"{name}: {command}", done.returncode == 0, done.stdout + done.stderr)
-        printed = done.stdout
-    return printed
+def check_document(name, shared, document, lines):
+    """The document leaves the state and the table that the lines leave."""
+    loaded, given = library.Store(shared), library.Store(shared)
+    results = [loaded.load_xml(document.encode())] + [given.line(line.encode()) for line in lines.split("\n")[:-1]]
+    good = min(results) > 0 and bytes(loaded.state.memory) == bytes(given.state.memory) and bytes(loaded.table.memory) == bytes(given.table.memory)
+    report(name, good, str(results))
 
 
-def example_files():
-    for path in glob.glob(os.path.join(ROOT, "examples", "*")):
-        with open(path, encoding="utf-8") as file:
-            yield file.read()
+def run_commands(name, content):
+    """The commands of a block, as one script."""
+    commands = [line for line in content.split("\n") if line not in TEST_COMMANDS]
+    if any(line.strip() for line in commands):
+        done = subprocess.run(["bash", "-e", "-c", "\n".join(commands)], cwd=ROOT, capture_output=True, text=True)
+        report(f"{name}: commands", done.returncode == 0, done.stdout + done.stderr)
 
 
-def check_page(page, program, lines_only):
+def check_page(page, program, lines_only, shared):
     with open(os.path.join(ROOT, page), encoding="utf-8") as file:
         text = file.read()
-    behind = given = None  # the block before this one: its kind, and its name with its lines or with what its commands print
-    for number, kind, content in [*blocks(text), (0, "end", "")]:
+    waiting = None
+    for number, kind, content in blocks(text) + [(0, "end", "")]:
         name = f"{page}:{number}"
-        if behind == "lines" and kind != "answers":
-            report(given[0], False, "no answers behind these lines")
-        if kind == "sh":
-            content = None if lines_only else run_commands(name, content)
-        elif kind == "xml":
-            report(f"{name}: a file of examples/", content in example_files())
-        elif kind == "answers" and behind == "lines":
-            check_lines(given[0], program, given[1], content)
-        elif kind == "answers" and behind == "sh":
-            if given[1] is not None:
-                report(f"{name}: what the last command prints", given[1] == content, given[1])
-        elif kind not in ("lines", "end"):
+        if waiting is not None:
+            first, begun, held = waiting
+            waiting = None
+            if kind != PAIRS[first]:
+                report(begun, False, f"no {PAIRS[first]} after this block")
+            elif first == "lines":
+                check_lines(begun, program, held, content)
+                continue
+            else:
+                if shared is not None:
+                    check_document(begun, shared, held, content)
+                continue
+        if kind in PAIRS:
+            waiting = (kind, name, content)
+        elif kind == "sh":
+            if not lines_only:
+                run_commands(name, content)
+        elif kind != "end":
             report(name, False, f"a block of kind '{kind}'")
-        behind, given = kind, (name, content)
     return text
 
 
@@ -151,8 +154,8 @@ def check_man_page(program):
         report(MAN_PAGE, False, "lines and answers are wanted")
 
 
-def call_library(path, lines, last, table=None, area=None):
-    """What the library returns for the last line, or a document, with so many bytes of table and area then."""
+def call_library(path, lines, last, table=None, area=None, document=False):
+    """What the library returns for the last line, with so many bytes of table and area then; or for a document in its place."""
     store = library.Store(path)
     for line in lines:
         store.line(line.encode())
@@ -160,14 +163,7 @@ def call_library(path, lines, last, table=None, area=None):
         store.table.length = table
     if area is not None:
         store.area.length = area
-    return (store.load_xml if last.startswith("<") else store.line)(last.encode())
-
-
-def check_documents(page, text, shared):
-    """Rows `| `document` | N | .. |`."""
-    for document, number in re.findall(r"^\| `(<[^`]*)` \| (\d+) \|", text, re.M):
-        returned = call_library(shared, POLICY, document)
-        report(f"{page}: refusal {number}: {document}", returned == -int(number), f"returns {returned}")
+    return (store.load_xml if document else store.line)(last.encode())
 
 
 def check_refusals(page, text, program, shared):
@@ -198,10 +194,8 @@ def main():
     tables = 0
     for page in PAGES:
         if os.path.exists(os.path.join(ROOT, page)):
-            text = check_page(page, program, options.lines_only)
+            text = check_page(page, program, options.lines_only, shared)
             tables += check_refusals(page, text, program, shared)
-            if shared is not None:
-                check_documents(page, text, shared)
     check_man_page(program)
     report("there is one table of refusals", tables == 1)
     print(f"{counts[True]} passed, {counts[False]} failed")
