@@ -4,8 +4,8 @@
 
 A block of `lines` is given to PROGRAM, and the block of `answers` after it is what the program must print; an `(ok)` for each line up to the first that is
 answered otherwise is left out there. A block of `xml` is loaded, and must leave what the lines of the block of `matching` after it leave. Blocks of `sh` and
-indented blocks are commands, each block a script that is run from the top folder and must succeed; lines of it that are the test command, which is running,
-are left out. A block of any other kind is a failure. In the table of refusals the example of row N must be refused with N. Rows 12 to 14 and documents need
+indented blocks are commands, each block a script that is run from the top folder and must succeed; what a block exports holds in the later ones of its page.
+Lines of it that are the test command, which is running, are left out. A block of any other kind is a failure. In the table of refusals the example of row N must be refused with N. Rows 12 to 14 and documents need
 the library, and stay out without it. Ends with `N passed, M failed`.
 """
 
@@ -108,18 +108,19 @@ def check_document(name, shared, document, lines):
     report(name, good, str(results))
 
 
-def run_commands(name, content):
-    """The commands of a block, as one script."""
+def run_commands(name, content, exports):
+    """The commands of a block, as one script, after the exports of the blocks before; its own are added to them."""
     commands = [line for line in content.split("\n") if line not in TEST_COMMANDS]
     if any(line.strip() for line in commands):
-        done = subprocess.run(["bash", "-e", "-c", "\n".join(commands)], cwd=ROOT, capture_output=True, text=True)
+        done = subprocess.run(["bash", "-e", "-c", "\n".join(exports + commands)], cwd=ROOT, capture_output=True, text=True)
         report(f"{name}: commands", done.returncode == 0, done.stdout + done.stderr)
+    exports.extend(line for line in commands if line.startswith("export "))
 
 
 def check_page(page, program, lines_only, shared):
     with open(os.path.join(ROOT, page), encoding="utf-8") as file:
         text = file.read()
-    waiting = None
+    waiting, exports = None, []
     for number, kind, content in blocks(text) + [(0, "end", "")]:
         name = f"{page}:{number}"
         if waiting is not None:
@@ -138,7 +139,7 @@ def check_page(page, program, lines_only, shared):
             waiting = (kind, name, content)
         elif kind == "sh":
             if not lines_only:
-                run_commands(name, content)
+                run_commands(name, content, exports)
         elif kind != "end":
             report(name, False, f"a block of kind '{kind}'")
     return text
