@@ -3,17 +3,20 @@
     guide.py PROGRAM [--lines-only] [--library FILE.so]
 
 A block of `lines` is given to PROGRAM, and the block of `answers` after it is what the program must print; an `(ok)` for each line up to the first that is
-answered otherwise is left out there. A block of `xml` is loaded, and must leave what the lines of the block of `matching` after it leave. Blocks of `sh` and
-indented blocks are commands, each block a script that is run from the top folder and must succeed; what a block exports holds in the later ones of its page.
-Lines of it that are the test command, which is running, are left out. A block of any other kind is a failure. In the table of refusals the example of row N must be refused with N. Rows 12 to 14 and documents need
-the library, and stay out without it. Ends with `N passed, M failed`.
+answered otherwise is left out there. A block of `xml` is loaded, and must leave what the lines of the block of `matching` after it leave; without such a block it
+is a file of examples/. Blocks of `sh` and indented blocks are commands, each block a script that is run from the top folder and must succeed; what it exports
+holds in the later blocks of its page, and what it prints ends with the block of `answers` after it, if there is one. Lines of it that are the test command,
+which is running, are left out. A block of any other kind is a failure. In the table of refusals the example of row N must be refused with N, and so must a
+document in any other table. Documents and rows 12 to 14 need the library, and stay out without it. Ends with `N passed, M failed`.
 """
 
 import argparse
+import glob
 import os
 import re
 import subprocess
 import sys
+from itertools import takewhile
 
 sys.path.insert(0, os.path.dirname(os.path.abspath(__file__)))
 import library  # noqa: E402
@@ -44,8 +47,7 @@ BEFORE = {
     13: LOGGED_IN,
     14: POLICY,
 }
-LIBRARY_ONLY = {12: {"area": 8}, 13: {"table": 3}, 14: {"document": True}}
-PAIRS = {"lines": "answers", "xml": "matching"}
+LIBRARY_ONLY = {12: {"area": 8}, 13: {"table": 3}, 14: {}}
 
 counts = {True: 0, False: 0}
 
@@ -91,12 +93,12 @@ def run_program(program, lines):
 
 
 def check_lines(name, program, lines, answers):
+    """Each of the first lines, which set up, has one answer; those before the first refused one are left out."""
     lines, answers = lines.split("\n")[:-1], answers.split("\n")[:-1]
     printed = run_program(program, lines)
-    left_out = 0
-    while left_out < len(lines) and lines[left_out].startswith(SETTING_UP):
-        left_out += 1
-    good = printed[:left_out] == ["(ok)"] * left_out and printed[left_out:] == answers
+    first = [answer for line, answer in zip(takewhile(lambda line: line.startswith(SETTING_UP), lines), printed)]
+    left_out = len(list(takewhile(lambda answer: answer == "(ok)", first)))
+    good = all(re.fullmatch(r"\(ok\)|\(refused \d+\)", answer) for answer in first) and printed[left_out:] == answers
     report(name, good, "\n".join(printed))
 
 
@@ -108,40 +110,48 @@ def check_document(name, shared, document, lines):
     report(name, good, str(results))
 
 
+def example_files():
+    for path in glob.glob(os.path.join(ROOT, "examples", "*")):
+        with open(path, encoding="utf-8") as file:
+            yield file.read()
+
+
 def run_commands(name, content, exports):
-    """The commands of a block, as one script, after the exports of the blocks before; its own are added to them."""
+    """What the commands of a block print, as one script after the exports of the blocks before; its own are added to them."""
     commands = [line for line in content.split("\n") if line not in TEST_COMMANDS]
+    printed = ""
     if any(line.strip() for line in commands):
         done = subprocess.run(["bash", "-e", "-c", "\n".join(exports + commands)], cwd=ROOT, capture_output=True, text=True)
         report(f"{name}: commands", done.returncode == 0, done.stdout + done.stderr)
+        printed = done.stdout
     exports.extend(line for line in commands if line.startswith("export "))
+    return printed
 
 
 def check_page(page, program, lines_only, shared):
     with open(os.path.join(ROOT, page), encoding="utf-8") as file:
         text = file.read()
-    waiting, exports = None, []
+    exports = []
+    before, begun, held = "", "", ""  # the block before this one: its kind, its name, and its content or what its commands print
     for number, kind, content in blocks(text) + [(0, "end", "")]:
         name = f"{page}:{number}"
-        if waiting is not None:
-            first, begun, held = waiting
-            waiting = None
-            if kind != PAIRS[first]:
-                report(begun, False, f"no {PAIRS[first]} after this block")
-            elif first == "lines":
-                check_lines(begun, program, held, content)
-                continue
-            else:
-                if shared is not None:
-                    check_document(begun, shared, held, content)
-                continue
-        if kind in PAIRS:
-            waiting = (kind, name, content)
-        elif kind == "sh":
+        if before == "lines" and kind != "answers":
+            report(begun, False, "no answers after these lines")
+        if before == "xml" and kind != "matching":
+            report(f"{begun}: a file of examples/", held in example_files())
+        if kind == "answers" and before == "lines":
+            check_lines(begun, program, held, content)
+        elif kind == "answers" and before == "sh":
             if not lines_only:
-                run_commands(name, content, exports)
-        elif kind != "end":
+                report(f"{name}: what the commands print", ("\n" + held).endswith("\n" + content), held)
+        elif kind == "matching" and before == "xml":
+            if shared is not None:
+                check_document(begun, shared, held, content)
+        elif kind == "sh":
+            content = "" if lines_only else run_commands(name, content, exports)
+        elif kind not in ("lines", "xml", "end"):
             report(name, False, f"a block of kind '{kind}'")
+        before, begun, held = kind, name, content
     return text
 
 
@@ -155,8 +165,8 @@ def check_man_page(program):
         report(MAN_PAGE, False, "lines and answers are wanted")
 
 
-def call_library(path, lines, last, table=None, area=None, document=False):
-    """What the library returns for the last line, with so many bytes of table and area then; or for a document in its place."""
+def call_library(path, lines, last, table=None, area=None):
+    """What the library returns for the last line, or a document, with so many bytes of table and area then."""
     store = library.Store(path)
     for line in lines:
         store.line(line.encode())
@@ -164,7 +174,14 @@ def call_library(path, lines, last, table=None, area=None, document=False):
         store.table.length = table
     if area is not None:
         store.area.length = area
-    return (store.load_xml if document else store.line)(last.encode())
+    return (store.load_xml if last.startswith("<") else store.line)(last.encode())
+
+
+def check_documents(page, text, shared):
+    """Rows `| `document` | N | .. |`."""
+    for document, number in re.findall(r"^\| `(<[^`]*)` \| (\d+) \|", text, re.M):
+        returned = call_library(shared, POLICY, document)
+        report(f"{page}: refusal {number}: {document}", returned == -int(number), f"returns {returned}")
 
 
 def check_refusals(page, text, program, shared):
@@ -197,6 +214,8 @@ def main():
         if os.path.exists(os.path.join(ROOT, page)):
             text = check_page(page, program, options.lines_only, shared)
             tables += check_refusals(page, text, program, shared)
+            if shared is not None:
+                check_documents(page, text, shared)
     check_man_page(program)
     report("there is one table of refusals", tables == 1)
     print(f"{counts[True]} passed, {counts[False]} failed")
