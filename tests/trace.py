@@ -1,7 +1,7 @@
 #!/usr/bin/env python3
 """Docs that name what is there: each definition, law, function, file and edit that docs/TRACE.md names in its columns stands in the crates. docs/PROOF.md's list of
 the definitions to be believed has the lines of each, blank ones and imports apart, and their sums, below BELIEVED_MAX; the laws that it names stand in the files beside their names. Links in
-the pages lead to what is there.
+the pages lead to what is there, and the pages for users and newcomers have no line over 120 columns.
 
 A name in backquotes that is one word is a definition or a law (`specs/`, `proofs/`) or a function (`src/`); `module::function` is a function of that module; CRATE/NAME in the last
 column is an edit. The last line is `N passed, M failed`, a name counted once.
@@ -139,6 +139,16 @@ for name in PAGES:
     for word in re.findall(r"(?m)\| \[([^\]]+)\](?= \|)", text):
         if not re.search(r"(?m)^\[%s\]: " % re.escape(word), text):
             wrong.append("%s: [%s] leads nowhere" % (name, word))
+
+# Columns: no page for users or newcomers has a line over 120, except for the rows of the table of refusals, whose words are one text.
+NARROW = ["README.md", "CHANGELOG.md", "CONTRIBUTING.md", "office/README.md", "office/timetable-office.1"] + ["docs/" + name for name in (
+    "GUIDE.md", "MODEL.md", "DESIGN.md", "PROOF.md", "timetable.1")]
+for name in NARROW:
+    seen.add(("columns", name))
+    for number, line in enumerate(open(name), 1):
+        if len(line.rstrip("\n")) > 120 and not (name == "README.md" and re.match(r"\| \d+ \| ", line)):
+            wrong.append("%s:%d: over 120 columns" % (name, number))
+            break
 
 for line in wrong:
     print(line)
