@@ -140,6 +140,14 @@ for name in PAGES:
         if not re.search(r"(?m)^\[%s\]: " % re.escape(word), text):
             wrong.append("%s: [%s] leads nowhere" % (name, word))
 
+# The picture of the crates has each of them.
+listed = re.findall(r"(?m)^(\w+):", open("crates.txt").read())
+drawn = re.findall(r'font-weight="bold">([^<]+)<', open("docs/house.svg").read())
+for name in listed:
+    seen.add(("house", name))
+    if drawn.count(name) != 1:
+        wrong.append("docs/house.svg: no crate %s" % name)
+
 # Columns: no page for users or newcomers has a line over 120, except for the rows of the table of refusals, whose words are one text.
 NARROW = ["README.md", "CHANGELOG.md", "CONTRIBUTING.md", "office/README.md", "office/timetable-office.1"] + ["docs/" + name for name in (
     "GUIDE.md", "MODEL.md", "DESIGN.md", "PROOF.md", "timetable.1")]
