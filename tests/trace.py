@@ -140,6 +140,32 @@ for name in PAGES:
         if not re.search(r"(?m)^\[%s\]: " % re.escape(word), text):
             wrong.append("%s: [%s] leads nowhere" % (name, word))
 
+# docs/MODEL.md's tables of the forms: the stage of each is that of `stageFor`, and the numbers that it may be refused with are those of `rows`.
+model = open("docs/MODEL.md").read()
+conditions = open("crates/lines/specs/Conditions.antt").read()
+stages = dict(re.findall(r"(?m)^stageFor \(?command\.(\w+).*= stage(\w)$", open("crates/lines/specs/Clause.antt").read()))
+
+
+def numbers(body):
+    """The numbers of rows, in order, each once; rows that are named are those of their definition."""
+    found = []
+    for number, name in re.findall(r"\((\d+),|\b(\w+Rows)\b", body):
+        for one in [int(number)] if number else numbers(re.search(r"(?ms)^  %s \w.*?=(.*?)(?:\n\n|\Z)" % name, conditions).group(1)):
+            if one not in found:
+                found.append(one)
+    return found
+
+
+clauses = {form: numbers(body) for form, body in re.findall(r"(?ms)^  rows \(?command\.(\w+)[^=\n]*=(.*?)(?=^  rows |\n\n)", conditions)}
+told = {form: [int(one) for one in said.split(", ")] for names, said in re.findall(r"(?m)^\| ((?:`\w+`(?:, )?)+) \| ([\d, ]+) \|$", model) for form in re.findall(r"\w+", names)}
+staged = {form: stage for stage, form in re.findall(r"(?m)^\| ([A-E]) \| `\((\w+)", model)}
+for form in stages:
+    seen.add(("MODEL", form))
+    if stages[form] != staged.get(form) or form not in clauses or clauses[form] != told.get(form):
+        wrong.append("docs/MODEL.md: %s is of stage %s, and refused with %s" % (form, stages[form], clauses.get(form)))
+if not stages or set(stages) != set(staged) or set(stages) != set(told):
+    wrong.append("docs/MODEL.md: other forms than `stageFor` has")
+
 # The picture of the crates has each of them.
 listed = re.findall(r"(?m)^(\w+):", open("crates.txt").read())
 drawn = re.findall(r'font-weight="bold">([^<]+)<', open("docs/house.svg").read())
