@@ -166,13 +166,22 @@ for form in stages:
 if not stages or set(stages) != set(staged) or set(stages) != set(told):
     wrong.append("docs/MODEL.md: other forms than `stageFor` has")
 
-# The picture of the crates has each of them.
-listed = re.findall(r"(?m)^(\w+):", open("crates.txt").read())
-drawn = re.findall(r'font-weight="bold">([^<]+)<', open("docs/house.svg").read())
-for name in listed:
+# The picture of the crates has each of them, and its arrows lead, in one step or more, to all that each rests on and to nothing else.
+rests = {name: [one for one in names.split() if one in crates] for name, names in re.findall(r"(?m)^(\w+):(.*)$", open("crates.txt").read())}
+picture = open("docs/house.svg").read()
+drawn = re.findall(r'font-weight="bold">([^<]+)<', picture)
+arrows = re.findall(r'data-from="(\w+)" data-to="(\w+)"', picture)
+
+
+def below(name, steps):
+    """All that is reached from it."""
+    return {one for step in steps.get(name, []) for one in {step} | below(step, steps)}
+
+
+for name in rests:
     seen.add(("house", name))
-    if drawn.count(name) != 1:
-        wrong.append("docs/house.svg: no crate %s" % name)
+    if drawn.count(name) != 1 or below(name, rests) != below(name, {start: [to for by, to in arrows if by == start] for start in rests}):
+        wrong.append("docs/house.svg: %s is not as crates.txt has it" % name)
 
 # Columns: no page for users or newcomers has a line over 120, except for the rows of the table of refusals, whose words are one text.
 NARROW = ["README.md", "CHANGELOG.md", "CONTRIBUTING.md", "office/README.md", "office/timetable-office.1"] + ["docs/" + name for name in (
