@@ -33,7 +33,7 @@ edits = {path.split("/")[1] + "/" + os.path.basename(path)[:-5] for path in glob
 crates = {os.path.basename(path) for path in glob.glob("crates/*")}
 
 # the most lines of definitions to be believed
-BELIEVED_MAX = 1650
+BELIEVED_MAX = 1700
 # words of the language, no names of ours
 WORDS = {"ensures", "requires"}
 seen, wrong = set(), []
