@@ -1,5 +1,4 @@
-"""Runs every code block of README.md, docs/GUIDE.md and docs/MODEL.md, the example of the man page, and the example of each refusal, whose reason the man page
-tells in the same words.
+"""Runs every code block of README.md, docs/GUIDE.md and docs/MODEL.md, the example of the man page, and the example of each refusal.
 
     guide.py PROGRAM [--lines-only] [--library FILE.so]
 
@@ -157,18 +156,13 @@ def check_page(page, program, lines_only, shared):
 
 
 def check_man_page(program):
-    """The first example of the man page is lines, the second their answers; the reasons of refusals are those of README.md's table."""
+    """The first example of the man page is lines, the second their answers."""
     with open(os.path.join(ROOT, MAN_PAGE), encoding="utf-8") as file:
-        text = file.read()
-    examples = re.findall(r"^\.EX\n(.*?)^\.EE$", text, re.M | re.S)
+        examples = re.findall(r"^\.EX\n(.*?)^\.EE$", file.read(), re.M | re.S)
     if len(examples) == 2:
         check_lines(MAN_PAGE, program, examples[0], examples[1])
     else:
         report(MAN_PAGE, False, "lines and answers are wanted")
-    with open(os.path.join(ROOT, "README.md"), encoding="utf-8") as file:
-        told = re.findall(r"^\| (\d+) \| (.*?)(?: \(library alone\))? \| `", file.read(), re.M)
-    said = [(number, reason.replace("\n", " ").strip()) for number, reason in re.findall(r"^\.B (\d+)\n((?:[^.\n].*\n)+)", text, re.M)]
-    report(f"{MAN_PAGE}: the reasons of refusals", said == told, str([pair for pair in said if pair not in told]))
 
 
 def call_library(path, lines, last, table=None, area=None):

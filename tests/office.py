@@ -244,13 +244,6 @@ class Package(Office):
 class Refusals(Office):
     """The one table of refusals, against the pages that have one."""
 
-    def same_figures(self, texts):
-        """Every figure and every word in capitals of the table stands in the page's text too."""
-        for refusal in refusals.TABLE:
-            for figure in re.findall(r"[0-9][0-9,]*[0-9]|[0-9]|[A-Z]{5,}", refusal.reason):
-                if refusal.number in texts:
-                    self.assertIn(figure, texts[refusal.number] + "ASCII", refusal)
-
     def test_header(self):
         page = read_page("include/timetable.h")
         rows = re.findall(r"TIMETABLE_REFUSED_(\w+) = (\d+)", page)
@@ -267,10 +260,11 @@ class Refusals(Office):
 
     def test_man_page(self):
         section = re.search(r"^\.SH REFUSALS\n(.*?)^\.SH ", read_page("docs/timetable.1"), re.M | re.S)[1]
-        rows = {int(number): text for number, text in re.findall(r"^\.B (\d+)\n(.*)$", section, re.M)}
-        self.assertEqual(list(rows), list(range(1, 12)))
-        self.assertRegex(section, r"12 .* and 13 ")
-        self.same_figures(rows)
+        rows = re.findall(r"^\.B (\d+)\n((?:[^.\n].*\n)+)", section, re.M)
+        self.assertEqual(
+            [(int(number), text.replace("\n", " ").strip()) for number, text in rows],
+            [(one.number, one.reason) for one in refusals.TABLE],
+        )
 
     def test_constants(self):
         self.assertTrue(all(getattr(refusals, refusal.constant) == refusal.number for refusal in refusals.TABLE))
