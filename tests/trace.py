@@ -107,13 +107,16 @@ seen.add(("PROOF", "together"))
 if not counted or not together or int(together.group(1).replace(",", "")) != total or total >= BELIEVED_MAX:
     wrong.append("docs/PROOF.md: the list of definitions has %d lines together" % total)
 
-# `NAME`, .. ([FILE](LINK)): definitions, laws or functions of that file
-for names, link in re.findall(r"((?:`[\w'-]+`,?\s)+)\s*\(\[[\w.]+\]\(\.\./([^)]+)\)\)", page):
-    text = open(link).read() if os.path.isfile(link) else ""
-    for name in re.findall(r"`([^`]+)`", names):
-        seen.add(("PROOF", link, name))
-        if not declared(text, name) and not re.search(r"(?m)^\s*(?:pub )?(?:extern \"C\" )?fn %s\b" % name, text):
-            wrong.append("docs/PROOF.md: %s has no `%s`" % (link, name))
+# `NAME`, .. ([FILE](LINK)) and `NAME`, .. in [FILE](LINK): definitions, laws, functions or types of that file
+NAMING = re.compile(r"((?:`[\w'-]+`(?:,| and)?\s+)+)(?:in\s+)?\(?\[[^\]]+\]\(([^)]+\.(?:antt|rt))\)")
+for name in ("docs/PROOF.md", "docs/MODEL.md", "docs/DESIGN.md", "CONTRIBUTING.md"):
+    for words, link in NAMING.findall(open(name).read()):
+        path = os.path.normpath(os.path.join(os.path.dirname(name), link))
+        text = open(path).read() if os.path.isfile(path) else ""
+        for word in re.findall(r"`([^`]+)`", words):
+            seen.add((name, path, word))
+            if not declared(text, word) and not re.search(r"(?m)^\s*(?:pub(?:\(crate\))? )?(?:extern \"C\" )?(?:fn|enum|struct) %s\b" % re.escape(word), text):
+                wrong.append("%s: %s has no `%s`" % (name, path, word))
 
 
 # Links: a file or folder that is there, and in a page a heading.
