@@ -13,19 +13,20 @@ from typing import Any, Callable, Sequence, TextIO
 from timetable_office import __version__, maps, refusals
 from timetable_office.checks import Checked, check_lines, findings_json, findings_text, has_tree
 from timetable_office.decisions import Decider
+from timetable_office.documents import Document, RefusedDocument, load_document
 from timetable_office.errors import DONE, INTERRUPTED, NOT_TAKEN, InputError, LibraryError, OfficeError, OutputError
 from timetable_office.export import export_lines, policy_lines
 from timetable_office.formats import LOG_FORMATS, VIEW_FORMATS
 from timetable_office.layout import load_library
 from timetable_office.library import LIBRARY_VARIABLE, RECORDS_MAXIMUM
-from timetable_office.lines import STANDARD_INPUT, Lines, read_lines
+from timetable_office.lines import STANDARD_INPUT, Lines, read_lines, read_source
 from timetable_office.publish import Published, publish_views
 from timetable_office.replace import replace_policy
 from timetable_office.runs import Answered, RefusedLine, run_lines
 from timetable_office.state import read_policy
 from timetable_office.store import WAIT_SECONDS, Contents, Store, create_store
 from timetable_office.tree import read_table, read_view
-from timetable_office.views import view_of
+from timetable_office.views import NO_TREE, view_of
 from timetable_office.why import explain_nodes, why_json, why_text
 
 PROGRAM = "timetable-office"
@@ -34,7 +35,7 @@ _PROGRESS_STEP = 100
 _CLEAR_LINE, _RED, _PLAIN = "\r\x1b[K", "\x1b[31m", "\x1b[0m"
 _STATUS = """exit status:
   0  everything was done
-  1  a line was refused or a name is unknown; the store is as it was, but for `run --keep-going`
+  1  a line or a document was refused, or a name is unknown; the store is as it was, but for `run --keep-going`
      (for `check`: something was found)
   2  the command line is wrong
   3  the store, the library or a file cannot be used; the store is as it was
@@ -157,6 +158,38 @@ def run_json(given: Lines, answered: Sequence[Answered], kept: bool) -> str:
     return json.dumps({"file": given.name, "kept": kept, "lines": lines}, indent=2) + "\n"
 
 
+def load(options: argparse.Namespace) -> int:
+    """Takes the solver's file into a store that has no tree, all of it or nothing."""
+    library = load_library(options.library)
+    with Store(options.store, options.wait) as store:
+        given = Document(*read_source(options.file))
+        with store.transaction():
+            try:
+                done = load_document(store.session(library), given)
+            except RefusedDocument as refused:
+                if options.json:
+                    put(load_json(given, refused))
+                raise
+            nodes = len(read_table(done.table))
+            store.write(Contents(done.state, done.table), "load", done.log)
+            if options.json:
+                put(load_json(given, nodes))
+    say(f"{options.store}: {counted(nodes, 'node')} from {given.name}")
+    return DONE
+
+
+def load_json(given: Document, done: int | RefusedDocument) -> str:
+    """A document that was loaded, with the number of its nodes, or refused, as JSON."""
+    told: dict[str, Any] = {"file": given.name, "kept": isinstance(done, int)}
+    if isinstance(done, int):
+        told |= {"nodes": done}
+    else:
+        number, advice = done.refused.number, done.advice
+        told |= {"refused": number, "reason": refusals.reason(number), "advice": advice.words if advice else ""}
+        told |= dict(zip(("line", "column"), done.place or ()))
+    return json.dumps(told, indent=2) + "\n"
+
+
 def policy(options: argparse.Namespace) -> int:
     """Gives a stored tree a new policy."""
     library = load_library(options.library)
@@ -277,7 +310,7 @@ def make_map(options: argparse.Namespace) -> int:
         session = store.session(library)
     decider = Decider(session)
     if not decider.nodes:
-        raise InputError("the store has no tree yet: give it root and child lines with `timetable-office run`")
+        raise InputError(NO_TREE)
     decisions = decider.decide_all(show_progress(len(decider.policy.subjects), "subject", 1))
     digest = Contents(session.state, session.table).digest().hex()[:12]
     time = datetime.now(timezone.utc).strftime("%Y-%m-%d %H:%M UTC")
@@ -368,6 +401,17 @@ def make_parser() -> argparse.ArgumentParser:
     made.add_argument("--keep-going", action="store_true", help="pass over refused lines, as timetable does")
     made.add_argument("-q", "--quiet", action="store_true", help="print no answers")
     made.add_argument("--json", action="store_true", help="print the answers as JSON")
+
+    made = command(
+        "load",
+        load,
+        "load the file that a timetable solver writes",
+        "Takes an XML document into a store that has no tree, in place of root and child lines: its elements and\n"
+        "texts are the nodes. Where it is not of the kind that is taken, the line and the column are told, and the\n"
+        "store stays as it was.",
+    )
+    made.add_argument("file", metavar="FILE.xml", help="the document; - is standard input")
+    made.add_argument("--json", action="store_true", help="print what was loaded, or why not, as JSON")
 
     made = command(
         "show",
@@ -481,8 +525,8 @@ def main(words: Sequence[str] | None = None) -> int:
         status: int = options.work(options)
         return status
     except OfficeError as error:
-        complain(str(error) if isinstance(error, RefusedLine) else f"{PROGRAM}: {error}")
-        if isinstance(error, InputError) and options.work in (run, policy):
+        complain(str(error) if isinstance(error, RefusedLine | RefusedDocument) else f"{PROGRAM}: {error}")
+        if isinstance(error, InputError) and options.work in (run, load, policy):
             say(f"{PROGRAM}: {options.store} is as it was")
         if isinstance(error, InputError) and options.work is publish:
             say(f"{PROGRAM}: {options.out} is as it was, and nothing is published")

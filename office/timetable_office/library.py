@@ -19,6 +19,7 @@ import ctypes.util
 import os
 import threading
 from pathlib import Path
+from typing import Callable
 
 from timetable_office import refusals
 from timetable_office.errors import InputError, LibraryError
@@ -32,10 +33,15 @@ LINE_MAXIMUM = 1_024
 LIBRARY_VARIABLE = "TIMETABLE_LIBRARY"
 LIBRARY_NAME = "louvretansy"
 LIBRARY_FILE = f"lib{LIBRARY_NAME}.so"
+_FUNCTIONS = ("timetable_state_bytes", "timetable_line", "timetable_load_xml")
+
+Lent = ctypes.Array[ctypes.c_uint8]
+# A function that is lent state, table, what is given and area, each as a pointer and a length.
+Call = Callable[[Lent, int, Lent, int, bytes, int, Lent, int], int]
 
 
 class Refused(InputError):
-    """A line that the library refused; nothing has changed."""
+    """What the library refused, a line or a document; nothing has changed."""
 
     def __init__(self, number: int) -> None:
         super().__init__(f"refused {number}: {refusals.reason(number)}")
@@ -84,7 +90,10 @@ def _in_the_system(name: str | None) -> str | None:
 
 
 class Library:
-    """The functions of the shared library."""
+    """The functions of the shared library.
+
+    `line` and `load_xml` return the answer's length, or minus the number of a refusal.
+    """
 
     def __init__(self, path: str | os.PathLike[str] | None = None) -> None:
         self.path = find_library(path)
@@ -92,27 +101,18 @@ class Library:
             functions = ctypes.CDLL(self.path)
         except OSError as error:
             raise LibraryError(f"{self.path} cannot be loaded as a library: {error}") from error
-        try:
-            self._state_bytes = functions.timetable_state_bytes
-            self._line = functions.timetable_line
-        except AttributeError as error:
-            raise LibraryError(f"{self.path} is another library, or of another version: {error}") from error
+        missing = [name for name in _FUNCTIONS if not hasattr(functions, name)]
+        if missing:
+            raise LibraryError(f"{self.path} is another library, or of another version: it has no {missing[0]}")
         pointer, size = ctypes.POINTER(ctypes.c_uint8), ctypes.c_size_t
-        self._state_bytes.argtypes = []
-        self._state_bytes.restype = size
-        self._line.argtypes = [pointer, size, pointer, size, ctypes.c_char_p, size, pointer, size]
-        self._line.restype = ctypes.c_int64
-        self.state_bytes = int(self._state_bytes())
-
-    def call(
-        self,
-        state: ctypes.Array[ctypes.c_uint8],
-        table: ctypes.Array[ctypes.c_uint8],
-        line: bytes,
-        area: ctypes.Array[ctypes.c_uint8],
-    ) -> int:
-        """One call of `timetable_line` on lent arrays: the answer's length, or minus the number of a refusal."""
-        return int(self._line(state, len(state), table, len(table), line, len(line), area, len(area)))
+        functions.timetable_state_bytes.argtypes = []
+        functions.timetable_state_bytes.restype = size
+        self.line: Call = functions.timetable_line
+        self.load_xml: Call = functions.timetable_load_xml
+        for call in (functions.timetable_line, functions.timetable_load_xml):
+            call.argtypes = [pointer, size, pointer, size, ctypes.c_char_p, size, pointer, size]
+            call.restype = ctypes.c_int64
+        self.state_bytes = int(functions.timetable_state_bytes())
 
     def session(self, records: int) -> Session:
         """A session on an empty store whose table has so many records."""
@@ -136,11 +136,19 @@ class Session:
 
     def line(self, text: bytes) -> bytes:
         """The answer to one line, which is given without its line feed. Raises `Refused`; then nothing has changed."""
+        return self._answer(self.library.line, text)
+
+    def load_xml(self, document: bytes) -> bytes:
+        """Takes the solver's file, an XML document, in place of root and child lines. Raises `Refused` as `line`."""
+        return self._answer(self.library.load_xml, document)
+
+    def _answer(self, call: Call, given: bytes) -> bytes:
+        state, table, area = self._state, self._table, self._area
         with self._turn:
-            returned = self.library.call(self._state, self._table, text, self._area)
+            returned = call(state, len(state), table, len(table), given, len(given), area, len(area))
             if returned < 0:
                 raise Refused(-returned)
-            return ctypes.string_at(self._area, returned)
+            return ctypes.string_at(area, returned)
 
     def is_store(self) -> bool:
         """Whether the library takes these bytes for a store. It tests that before it looks at a line."""

@@ -15,11 +15,12 @@ from timetable_office.state import Stage, read_policy, stage_of
 
 STANDARD_INPUT = "-"
 _FORM = re.compile(rb"\(([a-z]+)[ )]")
-_ENCODING_MARKS = {
+ENCODING_MARKS = {
     b"\xef\xbb\xbf": "the file begins with a byte order mark: save it as plain text without one",
     b"\xff\xfe": "the file is saved as UTF-16: save it as plain ASCII text",
     b"\xfe\xff": "the file is saved as UTF-16: save it as plain ASCII text",
 }
+RESTRICTED_ADVICE = "RESTRICTED stands for hidden labels and cannot be given"
 # Where the names of declared subjects stand among the words of a form.
 _NAMES = {b"user": (1,), b"isa": (1, 2), b"rule": (-1,)}
 
@@ -53,17 +54,22 @@ def split_lines(name: str, data: bytes) -> Lines:
     return Lines(name, tuple(Line(number, text) for number, text in enumerate(texts, 1)), not rest)
 
 
-def read_lines(source: str) -> Lines:
-    """All lines of a file, or of standard input."""
+def read_source(source: str) -> tuple[str, bytes]:
+    """What a file, or standard input, is called in messages, and its bytes."""
     name = "standard input" if source == STANDARD_INPUT else source
     try:
         if source != STANDARD_INPUT:
-            return split_lines(name, Path(source).read_bytes())
+            return name, Path(source).read_bytes()
         if sys.stdin is None:
             raise OfficeError(f"{name} cannot be read: it is closed")
-        return split_lines(name, sys.stdin.buffer.read())
+        return name, sys.stdin.buffer.read()
     except OSError as error:
         raise OfficeError(f"{name} cannot be read: {error.strerror}") from error
+
+
+def read_lines(source: str) -> Lines:
+    """All lines of a file, or of standard input."""
+    return split_lines(*read_source(source))
 
 
 def form_of(text: bytes, refused: int | None = None) -> str | None:
@@ -90,11 +96,11 @@ def explain(text: bytes, number: int, session: Session) -> str:
 
 
 def _explain_bytes(text: bytes, session: Session) -> str:
-    said = [words for mark, words in _ENCODING_MARKS.items() if text.startswith(mark)]
+    said = [words for mark, words in ENCODING_MARKS.items() if text.startswith(mark)]
     body = text.removesuffix(b"\r")
     if body != text:
         said.append("the line ends with CR LF, as Windows writes it: save the file with LF line ends")
-    if not text.startswith(tuple(_ENCODING_MARKS)):
+    if not text.startswith(tuple(ENCODING_MARKS)):
         odd = re.search(rb"[^ -~]{1,12}", body)
         if odd:
             shown = odd[0].decode("utf-8", "backslashreplace")
@@ -168,7 +174,7 @@ def _explain_user(text: bytes, session: Session) -> str:
 def _explain_label(text: bytes, session: Session) -> str:
     words = re.findall(rb"[^ ()/]+", text)
     if b"RESTRICTED" in words:
-        return "RESTRICTED stands for hidden labels and cannot be given"
+        return RESTRICTED_ADVICE
     if form_of(text) in ("rename", "update"):
         return f"{words[-1].decode('ascii')} is a word that the rules use, so no node gets it by a rename or update"
     return ""

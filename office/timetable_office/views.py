@@ -8,6 +8,9 @@ from timetable_office.library import Refused, Session
 from timetable_office.lines import suggest_name
 from timetable_office.state import read_policy, user_of
 
+NO_TREE = (
+    "the store has no tree yet: `timetable-office run` gives it root and child lines, `timetable-office load` a file"
+)
 _OK = b"(ok)\n"
 
 
@@ -18,8 +21,7 @@ def log_in(session: Session, name: str) -> Session:
         answer = reader.line(b"(user " + name.encode("utf-8", "surrogateescape") + b")")
     except Refused as refused:
         if refused.number == refusals.WRONG_STAGE:
-            advice = "give it root and child lines with `timetable-office run`"
-            raise InputError(f"the store has no tree yet: {advice}") from refused
+            raise InputError(NO_TREE) from refused
         if refused.number != refusals.BAD_NAME:
             raise InputError(f"{name!r} cannot be a name: {refused}") from refused
         raise InputError(suggest_name(name, read_policy(session.state).subjects)) from refused
