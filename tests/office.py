@@ -6,6 +6,7 @@ many runs are killed, 30 if no number is given. Needs gcc.
 
 import argparse
 import ast
+import collections
 import contextlib
 import csv
 import importlib
@@ -34,6 +35,7 @@ ROOT = timetable.ROOT
 OFFICE = os.path.join(ROOT, "office")
 sys.path.insert(0, OFFICE)
 from timetable_office import __version__, cli, refusals  # noqa: E402
+from timetable_office.documents import explain_document  # noqa: E402
 from timetable_office.errors import InputError  # noqa: E402
 from timetable_office.export import export_lines, policy_lines  # noqa: E402
 from timetable_office.library import LINE_MAXIMUM, Library, Refused, Session  # noqa: E402
@@ -188,7 +190,7 @@ class Office(unittest.TestCase):
 class Package(Office):
     def test_version_and_help(self):
         self.assertEqual(self.office("--version", process=True), f"timetable-office {__version__}\n")
-        for command in ("new", "run", "policy", "show", "log", "export"):
+        for command in ("new", "run", "load", "policy", "show", "log", "export"):
             self.assertIn(command, self.office("--help"))
             self.assertIn("STORE", self.office(command, "--help"))
 
@@ -379,16 +381,17 @@ class Binding(Office):
         self.make_other("int other;")
         self.office("new", "store", "--library", "other.so", status=3, says="is another library, or of another version")
         self.school()
+        states, line = "unsigned long timetable_state_bytes(void)", "long timetable_line(void) { return -2; }"
+        load = "long timetable_load_xml(void) { return -2; }"
         for source, says in (
-            ("{ return 8; }", "other.so is of another version: its states have 8 bytes"),
-            ("{ return 68880; }", "other.so is of another version: it does not take the usual lines"),
+            (f"{states} {{ return 8; }} {line} {load}", "other.so is of another version: its states have 8 bytes"),
+            (f"{states} {{ return 68880; }} {line} {load}", "of another version: it does not take the usual lines"),
+            (f"{states} {{ return 68880; }} {line}", "of another version: it has no timetable_load_xml"),
         ):
-            self.make_other(
-                f"#include <stddef.h>\nsize_t timetable_state_bytes(void) {source}\n"
-                "long timetable_line(void) { return -2; }"
-            )
+            self.make_other(source)
             with self.unchanged():
-                self.office("run", "store", "--library", "other.so", process=True, status=3, says=says)
+                for words in (("run", "store"), ("load", "store", "-")):
+                    self.office(*words, "--library", "other.so", process=True, status=3, says=says)
 
     def test_where_it_is_looked_for(self):
         self.office(
@@ -561,6 +564,213 @@ class RunLines(Office):
         self.office("run", "store", ".", status=3, says=". cannot be read: Is a directory")
         before = ["bash", "-c", 'exec "$@" 0>/dev/null', "bash"]
         self.office("run", "store", before=before, status=3, says="standard input cannot be read: Bad file descriptor")
+
+
+class Load(Office):
+    """The solver's file."""
+
+    FILE = (
+        b"<school>\n  <mon>\n    <lesson>\n      <class>10B</class>\n      <room>R12</room>\n"
+        b"      <note>ill</note>\n    </lesson>\n  </mon>\n</school>\n"
+    )
+
+    def rules(self, records=64, name="store"):
+        """A store with the policy of document 01's school and no tree."""
+        self.office("new", name, "--records", str(records), says="an empty store")
+        self.office("run", "-q", name, given=POLICY)
+
+    def contents(self, name):
+        with Store(self.path(name)) as store:
+            return store.read()
+
+    def refused(self, data, number, *, place=None, words="", records=64):
+        """The file is refused: with the number in words, with the place and what is wrong there, or with advice."""
+        with self.unchanged():
+            self.office("load", "store", "-", given=data, status=1, says=f"standard input: refused {number}: ")
+        first, *others = self.errors.splitlines()
+        wanted = f"standard input: refused {number}: {refusals.reason(number)}"
+        self.assertEqual(others.pop(), "timetable-office: store is as it was")
+        if place:
+            self.assertEqual((first, others), (wanted, [f"standard input:{place}: {words}"]), data)
+        else:
+            self.assertEqual((first, others), (f"{wanted} ({words})", []), data)
+
+    def test_in_place_of_lines(self):
+        """State and table are those that the lines leave; the log has one entry, without labels."""
+        self.school()
+        self.rules(name="loaded")
+        self.write("week.xml", self.FILE)
+        self.assertEqual(
+            self.office("load", "loaded", "week.xml", process=True, says="loaded: 9 nodes from week.xml\n"), ""
+        )
+        self.assertEqual(self.contents("loaded"), self.contents("store"))
+        self.assertEqual(self.office("show", "loaded", "--as", "SHA"), OUTLINE)
+        self.assertEqual(self.office("export", "loaded"), text_of(SETTING_UP))
+        *_, last = json.loads(self.office("log", "loaded", "--json"))
+        del last["time"], last["account"]
+        nothing = dict.fromkeys(("user", "refused", "selected", "done"))
+        self.assertEqual(last, {"run": 3, "command": "load", "form": "xml", "lines": 1, **nothing})
+        for label in ("school", "lesson", "10B", "ill"):
+            self.assertNotIn(label, self.office("log", "loaded"))
+        self.office("run", "loaded", "-q", given="(child (tue))\n")
+        self.office("policy", "loaded", given=EDITOR, says="loaded: 1 subject, 0 isa lines, 3 rules over 10 nodes")
+
+    def test_line_ends_and_other_blanks(self):
+        for data in (self.FILE.replace(b"\n", b"\r\n"), b" \t\r" + self.FILE.replace(b"\n", b"\r"), self.FILE[:-1]):
+            with self.subTest(data=data):
+                self.rules()
+                self.office("load", "store", "-", given=data, says="store: 9 nodes from standard input\n")
+                self.assertEqual(self.office("show", "store", "--as", "SHA"), OUTLINE)
+                os.unlink(self.store)
+
+    def test_the_root_alone(self):
+        self.rules()
+        self.office("load", "store", "-", given=b"<school/>", says="store: 1 node from")
+        self.office("policy", "store", given=EDITOR, says="over 1 node")
+        self.assertEqual(self.office("show", "store", "--as", "editor"), "school\n")
+
+    def test_outside_the_kind(self):
+        self.rules()
+        declared = b'<?xml version="1.0" encoding="UTF-8"?>\n'
+        for data, place, words in (
+            (b"", "1:1", "there is no element"),
+            (b"\n \n", "3:1", "there is no element"),
+            (b"<a>\n  <b>\n</a>\n", "3:3", "mismatched tag: <b> of line 2 is still open"),
+            (b"<a>\n  <b/>\n", "3:1", "the document ends, and <a> of line 1 is still open"),
+            (b"<a/>\n<b/>", "2:1", "junk after document element"),
+            (b"<a>\n <10B/></a>", "2:3", "a name does not begin with a digit, hyphen or full stop"),
+            (b"<a></.b></a>", "1:6", "a name does not begin with a digit, hyphen or full stop"),
+            (b"<a>x & y</a>", "1:7", "not well-formed (invalid token)"),
+            (b"<a>\0</a>", "1:4", "not well-formed (invalid token)"),
+            (b"<a", "1:1", "unclosed token"),
+            (b"<a>\n  <b c='d'/>\n</a>", "2:3", "attributes are not taken"),
+            (b"<a>\n<!-- c --></a>", "2:1", "a comment is not taken"),
+            (declared + self.FILE, "1:1", "an XML declaration is not taken"),
+            (declared.replace(b"UTF-8", b"none") + self.FILE, "1:1", "an XML declaration is not taken"),
+            (b"<!DOCTYPE a [<!ENTITY e 'x'>]><a>&e;</a>", "1:1", "a document type declaration is not taken"),
+            (b"<a><?p?></a>", "1:4", "a processing instruction is not taken"),
+            (b"<a>x<![CDATA[y]]></a>", "1:5", "a CDATA section is not taken"),
+            (b"<a>x&amp;y</a>", "1:5", "an entity or a character reference is not taken"),
+            (b"<a>&#65;</a>", "1:4", "an entity or a character reference is not taken"),
+            (b"<a>R 12</a>", "1:5", "a text with a blank inside is not taken"),
+            (b"<a>\nR\n12</a>", "2:2", "a text with a blank inside is not taken"),
+            (b"<a><b /></a>", "1:4", "a tag with a blank inside is not taken"),
+            (b"<a><b\n></b></a>", "1:4", "a tag with a blank inside is not taken"),
+            (b"<a><b></b ></a>", "1:7", "a tag with a blank inside is not taken"),
+            (b"<a>x>y</a>", "1:5", f"a text {self.LABEL}"),
+            ("<a>\n\u00e9\u00e9<b/>Zo\u00eb</a>".encode(), "2:1", f"a text {self.LABEL}"),
+            ("<a><b/>\n<z\u00eb/></a>".encode(), "2:3", f"a name {self.LABEL}"),
+            (b"<a:b/>", "1:3", f"a name {self.LABEL}"),
+            (b"<a>%s</a>" % (b"L" * 25), "1:4", "a label has 25 bytes, and no label has more than 24"),
+            (b"<a><%s/></a>" % (b"L" * 1025), "1:5", "a label has 1,025 bytes, and no label has more than 24"),
+            (b"\xef\xbb\xbf<a/>", "1:1", "the file begins with a byte order mark: save it as plain text without one"),
+            (self.FILE.decode().encode("utf-16"), "1:1", "the file is saved as UTF-16: save it as plain ASCII text"),
+            (b"<a>" * 100_000, "1:300001", "the document ends, and <a> of line 1 is still open"),
+        ):
+            self.refused(data, 14, place=place, words=words)
+
+    LABEL = "is a label: letters, digits, hyphens, underscores and full stops of ASCII alone"
+
+    def test_a_name_or_a_level_that_is_not_taken(self):
+        self.rules()
+        words = "RESTRICTED stands for hidden labels and cannot be given"
+        self.refused(b"<a>\n  <b/> RESTRICTED</a>", 9, place="2:8", words=words)
+        self.refused(b"<a><RESTRICTED/></a>", 9, place="1:5", words=words)
+        for depth in (12, 100_000):
+            deep = b"<a>\n" * depth + b"x" + b"</a>" * depth
+            self.refused(deep, 10, place="13:1" if depth == 12 else "13:2", words="this would be a node of level 12")
+
+    def test_no_room(self):
+        self.rules(records=8)
+        words = "the document has 9 nodes, texts too, and the store has 8 records; "
+        hint = "make one by `timetable-office new STORE --records 9`, or with room to spare"
+        self.refused(self.FILE, 11, words=words + hint)
+        os.unlink(self.store)
+        self.rules(records=16_384)
+        words = "the document has 16,385 nodes, and no store has more than 16,384 records"
+        self.refused(b"<a>" + b"<b/>" * 16_384 + b"</a>", 11, words=words)
+        full = b"<a>" + b"<b/>" * 16_383 + b"</a>"
+        self.office("load", "store", "-", given=full, says="store: 16,384 nodes from")
+
+    def test_a_store_with_a_tree(self):
+        self.school()
+        words = "the store has a tree already; `export --policy` prints its rules, to be given to a new store"
+        self.refused(self.FILE, 3, words=words)
+        self.refused(b"<a", 3, words=words)
+
+    def test_json(self):
+        self.rules()
+        self.write("week.xml", b"<a>\n<b>\n</a>")
+        with self.unchanged():
+            told = json.loads(self.office("load", "store", "week.xml", "--json", status=1, says="week.xml: refused 14"))
+        wanted = {"file": "week.xml", "kept": False, "refused": 14, "reason": refusals.reason(14)}
+        wanted |= {"advice": "mismatched tag: <b> of line 2 is still open", "line": 3, "column": 3}
+        self.assertEqual(told, wanted)
+        told = json.loads(self.office("load", "store", "-", "--json", given=self.FILE, says="9 nodes"))
+        self.assertEqual(told, {"file": "standard input", "kept": True, "nodes": 9})
+        told = json.loads(self.office("load", "store", "-", "--json", given=self.FILE, status=1, says="refused 3"))
+        self.assertEqual((told["refused"], "line" in told), (3, False))
+
+    def test_files_that_cannot_be_read_or_answers_that_cannot_be_written(self):
+        self.rules()
+        with self.unchanged():
+            self.office("load", "store", status=2, says="FILE.xml")
+            self.office("load", "store", "none.xml", status=3, says="none.xml cannot be read: No such file")
+            self.office("load", "store", ".", status=3, says=". cannot be read: Is a directory")
+            with open("/dev/full", "wb") as full:
+                words = ("load", "store", "-", "--json")
+                self.office(*words, given=self.FILE, stdout=full, status=3, says="cannot be written: No space left")
+
+    def test_what_is_told_agrees_with_the_library(self):
+        """Random documents: where the library refuses with 14 something is found, and nowhere else."""
+        rand = random.Random(20261116)
+        seen = collections.Counter()
+        for _ in range(4000):
+            data = random_document(rand)
+            session = library.session(records=8)
+            try:
+                session.load_xml(data)
+                number = 0
+            except Refused as refused:
+                number = refused.number
+            seen[number] += 1
+            advice = explain_document(data, refusals.NO_DOCUMENT, session)
+            self.assertEqual(advice is not None, number == refusals.NO_DOCUMENT, data)
+            if advice is not None:
+                seen[re.sub("[0-9]+ bytes|<.*>", "..", advice.words)] += 1
+            elif number:
+                self.assertIsNotNone(explain_document(data, number, session), data)
+        self.assertGreater(min(seen[number] for number in (0, 9, 10, 11, 14)), 10)
+        self.assertGreater(len(seen), 20)
+
+
+def random_document(rand):
+    """A document, often with something that is not taken, or a row of pieces."""
+    taken = ["<a>", "</a>", "<b>", "</b>", "<c/>", "x", " ", "\n", "RESTRICTED", "10B", "\r\n", "L" * 24]
+    not_taken = ["<!--c-->", "<?p q?>", "<![CDATA[x]]>", "&amp;", "&#65;", "<a b='c'>", "<a >", "</a >", "<c />"]
+    not_taken += ["<10B/>", "M" * 25, "<!DOCTYPE a>", "<?xml version='1.0'?>", "\ufeff", "\u00e9", "<x:y/>", "</>"]
+    not_taken += ["<", ">", "&"]
+    if rand.random() < 0.3:
+        pieces = [rand.choice(taken if rand.random() < 0.9 else not_taken) for _ in range(rand.randint(0, 9))]
+    else:
+        pieces = random_element(rand, rand.choice((1, 2, 3, 13)))
+        for _ in range(rand.choice((0, 0, 0, 1, 2))):
+            pieces.insert(rand.randint(0, len(pieces)), rand.choice(taken + not_taken))
+    data = bytearray("".join(pieces), "utf-8")
+    if data and rand.random() < 0.2:
+        data[rand.randrange(len(data))] = rand.randrange(256)
+    return bytes(data)
+
+
+def random_element(rand, depth):
+    """The tags and texts of an element that is taken."""
+    name = rand.choice("ab")
+    inside = [piece for _ in range(rand.randint(0, 2)) for piece in rand.choice((["<c/>"], ["\n"], ["<c/>", "10B"]))]
+    if depth > 1:
+        inside += random_element(rand, depth - 1)
+    elif rand.random() < 0.1:
+        inside = ["RESTRICTED"]
+    return [f"<{name}>", *inside, f"</{name}>"]
 
 
 class Show(Office):

@@ -160,8 +160,10 @@ class _Reader:
 
     def _not_taken(self, thing: str) -> Any:
         def tell(*_: object) -> None:
-            self._text(self._parser.CurrentByteIndex)
-            raise _Outside(f"{thing} is not taken", self._parser.CurrentByteIndex)
+            """What expat calls there, or a little later."""
+            index = self._data.rfind(b"<", 0, self._parser.CurrentByteIndex + 1)
+            self._text(index)
+            raise _Outside(f"{thing} is not taken", index)
 
         return tell
 
