@@ -283,7 +283,7 @@ class Readme(Office):
         seen = set()
         for kind, content in re.findall(r"^```(\S+)\n(.*?)^```$", page, re.M | re.S):
             seen.add(kind)
-            if kind.endswith(".lines"):
+            if kind.endswith((".lines", ".xml")):
                 self.write(kind, content)
             elif kind == "console":
                 for command, wanted in re.findall(r"^\$ (.*)\n((?:(?!\$ ).*\n)*)", content, re.M):
@@ -291,7 +291,7 @@ class Readme(Office):
             else:
                 self.assertEqual(kind, "python")
                 exec(content, {})
-        self.assertEqual(seen, {"school.lines", "console", "python"})
+        self.assertEqual(seen, {"school.lines", "week.xml", "console", "python"})
 
     def shell(self, command):
         """What a command prints, on both streams."""
