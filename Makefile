@@ -1,13 +1,17 @@
-# The library, installed and packed (GNU make, x86-64 Linux).
+# The library and the companion, installed and packed (GNU make, x86-64 Linux).
 #
-#   make lib          the static archive, which rt writes, and a shared library made from it
-#   make install      both, the header, a pkg-config file, the man page, docs/FORMAT.md, and the program if it was built
-#   make uninstall    removes what this version installs
-#   make dist         packs the last commit as target/dist/louvretansy-VERSION.tar.gz, with its SHA-256 beside it
-#   make check        all tests (tests/all: the gate, tens of minutes)
-#   make check-lib    the library's tests (tests/library.sh: seconds, once the archive is there)
+#   make lib             the static archive, which rt writes, and a shared library made from it
+#   make install         install-lib and install-office
+#   make install-lib     both libraries, the header, a pkg-config file, the man page, docs/FORMAT.md, and the program
+#                        if it was built
+#   make install-office  timetable-office, its man page and its completions for bash, zsh and fish (needs python3)
+#   make uninstall       removes what this version installs
+#   make dist            packs the last commit as target/dist/louvretansy-VERSION.tar.gz, with its SHA-256 beside it
+#   make check           all tests (tests/all: the gate, tens of minutes)
+#   make check-lib       the library's tests (tests/library.sh: seconds, once the archive is there)
 #
-# PREFIX (/usr/local), LIBDIR, INCLUDEDIR, BINDIR, MANDIR and DOCDIR say where to install, DESTDIR what to put in front.
+# PREFIX (/usr/local), LIBDIR, INCLUDEDIR, BINDIR, MANDIR, DOCDIR, PACKAGEDIR and the folders of the completions say
+# where to install, DESTDIR what to put in front.
 # ARCHIVE=FILE takes an archive that is there; then rt is not needed. After an installation for the whole system run
 # ldconfig. The shared library has the first two parts of the version in the name that programs ask for: those built
 # with an older one go on with theirs, as long as its file stays.
@@ -18,9 +22,14 @@ INCLUDEDIR = $(PREFIX)/include
 BINDIR = $(PREFIX)/bin
 MANDIR = $(PREFIX)/share/man
 DOCDIR = $(PREFIX)/share/doc/louvretansy
+PACKAGEDIR = $(PREFIX)/share/timetable-office
+BASHDIR = $(PREFIX)/share/bash-completion/completions
+ZSHDIR = $(PREFIX)/share/zsh/site-functions
+FISHDIR = $(PREFIX)/share/fish/vendor_completions.d
 
 RT = rt
 CC = gcc
+PYTHON = python3
 INSTALL = install
 BUILD = target/lib
 DIST = target/dist
@@ -36,7 +45,10 @@ RELEASE = louvretansy-$(VERSION)
 # A folder as the pkg-config file has it: below ${prefix} where it is
 below_prefix = $(patsubst $(PREFIX)/%,$${prefix}/%,$(1))
 
-.PHONY: lib install uninstall dist check check-lib help
+PACKAGE = $(wildcard office/timetable_office/*.py) $(addprefix office/timetable_office/,page.css page.js py.typed)
+COMPLETIONS = PYTHONPATH=office $(PYTHON) -B -m timetable_office --completions
+
+.PHONY: lib install install-lib install-office uninstall dist check check-lib help
 
 lib: $(ARCHIVE) $(BUILD)/$(FILE)
 
@@ -52,7 +64,9 @@ $(BUILD)/$(FILE): $(ARCHIVE) packaging/louvretansy.map include/timetable.h
 	$(CC) -shared -o $@ -Wl,-soname,$(SONAME) -Wl,--version-script=packaging/louvretansy.map \
 	    -Wl,-z,defs -Wl,-z,relro -Wl,-z,now $(LDFLAGS) -Wl,--whole-archive $(ARCHIVE) -Wl,--no-whole-archive
 
-install: lib
+install: install-lib install-office
+
+install-lib: lib
 	$(INSTALL) -d "$(DESTDIR)$(LIBDIR)/pkgconfig" "$(DESTDIR)$(INCLUDEDIR)"
 	$(INSTALL) -d "$(DESTDIR)$(MANDIR)/man1" "$(DESTDIR)$(DOCDIR)"
 	$(INSTALL) -m 644 $(ARCHIVE) "$(DESTDIR)$(LIBDIR)/liblouvretansy.a"
@@ -72,13 +86,32 @@ install: lib
 	    echo "$(PROGRAM) was not built and is not installed"; \
 	fi
 
+# The library is looked for beside the package first: a link leads to the installed one.
+install-office:
+	$(INSTALL) -d "$(DESTDIR)$(BINDIR)" "$(DESTDIR)$(MANDIR)/man1" "$(DESTDIR)$(PACKAGEDIR)/timetable_office"
+	$(INSTALL) -d "$(DESTDIR)$(BASHDIR)" "$(DESTDIR)$(ZSHDIR)" "$(DESTDIR)$(FISHDIR)"
+	$(INSTALL) -m 644 $(PACKAGE) "$(DESTDIR)$(PACKAGEDIR)/timetable_office"
+	ln -srf "$(DESTDIR)$(LIBDIR)/$(SONAME)" "$(DESTDIR)$(PACKAGEDIR)/timetable_office/$(NAME)"
+	sed 's|@PACKAGEDIR@|$(PACKAGEDIR)|' packaging/timetable-office.in > "$(DESTDIR)$(BINDIR)/timetable-office"
+	chmod 755 "$(DESTDIR)$(BINDIR)/timetable-office"
+	$(INSTALL) -m 644 office/timetable-office.1 "$(DESTDIR)$(MANDIR)/man1/timetable-office.1"
+	$(COMPLETIONS) bash > "$(DESTDIR)$(BASHDIR)/timetable-office"
+	$(COMPLETIONS) zsh > "$(DESTDIR)$(ZSHDIR)/_timetable-office"
+	$(COMPLETIONS) fish > "$(DESTDIR)$(FISHDIR)/timetable-office.fish"
+
 uninstall:
 	for file in liblouvretansy.a $(FILE) $(SONAME) $(NAME) pkgconfig/louvretansy.pc; do \
 	    rm -f "$(DESTDIR)$(LIBDIR)/$$file"; \
 	done
 	rm -f "$(DESTDIR)$(INCLUDEDIR)/timetable.h" "$(DESTDIR)$(BINDIR)/timetable" "$(DESTDIR)$(MANDIR)/man1/timetable.1"
 	rm -f "$(DESTDIR)$(DOCDIR)/FORMAT.md" "$(DESTDIR)$(DOCDIR)/LICENSE"
-	if [ -d "$(DESTDIR)$(DOCDIR)" ]; then rmdir --ignore-fail-on-non-empty "$(DESTDIR)$(DOCDIR)"; fi
+	rm -f "$(DESTDIR)$(BINDIR)/timetable-office" "$(DESTDIR)$(MANDIR)/man1/timetable-office.1"
+	rm -f "$(DESTDIR)$(BASHDIR)/timetable-office" "$(DESTDIR)$(ZSHDIR)/_timetable-office"
+	rm -f "$(DESTDIR)$(FISHDIR)/timetable-office.fish"
+	rm -rf "$(DESTDIR)$(PACKAGEDIR)/timetable_office"
+	for folder in "$(DESTDIR)$(DOCDIR)" "$(DESTDIR)$(PACKAGEDIR)"; do \
+	    if [ -d "$$folder" ]; then rmdir --ignore-fail-on-non-empty "$$folder"; fi; \
+	done
 
 dist:
 	@git diff --quiet HEAD || { echo "there are changes that no commit has: commit them first"; exit 1; }

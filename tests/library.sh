@@ -220,7 +220,11 @@ install_tree() {
     so=$tree$prefix/lib/liblouvretansy.so
     local files=(include/timetable.h lib/liblouvretansy.a lib/liblouvretansy.so "lib/$soname"
         "lib/liblouvretansy.so.$version" lib/pkgconfig/louvretansy.pc share/doc/louvretansy/FORMAT.md
-        share/man/man1/timetable.1)
+        share/man/man1/timetable.1 bin/timetable-office share/man/man1/timetable-office.1
+        share/bash-completion/completions/timetable-office share/zsh/site-functions/_timetable-office
+        share/fish/vendor_completions.d/timetable-office.fish share/timetable-office/timetable_office/liblouvretansy.so)
+    mapfile -t -O "${#files[@]}" files < <(cd "$root/office" &&
+        printf 'share/timetable-office/%s\n' timetable_office/*.{py,css,js} timetable_office/py.typed)
     [ ! -f "$root/LICENSE" ] || files+=(share/doc/louvretansy/LICENSE)
     made "$root" PROGRAM="$work/none" install > /dev/null && installed_is "${files[@]}" &&
         made "$root" PROGRAM="$work/view_c" install && installed_is bin/timetable "${files[@]}" &&
@@ -250,7 +254,7 @@ view_in_rust_installed() {
 
 uninstall_tree() {
     made "$root" uninstall && [ -z "$(find "$tree" ! -type d)" ] && [ ! -e "$tree$prefix/share/doc/louvretansy" ] &&
-        made "$root" uninstall
+        [ ! -e "$tree$prefix/share/timetable-office" ] && made "$root" uninstall
 }
 
 # The same commit gives the same bytes; what is packed can be installed; changes that no commit has are told.
@@ -258,7 +262,7 @@ packed() {
     local release
     release=louvretansy-$(defined TIMETABLE_VERSION)
     mkdir -p "$work/repository/docs" "$work/unpacked" || return 1
-    (cd "$root" && cp -r Makefile crates.txt include packaging "$work/repository" &&
+    (cd "$root" && cp -r Makefile crates.txt include office packaging "$work/repository" &&
         cp docs/timetable.1 docs/FORMAT.md "$work/repository/docs") || return 1
     local git=(git -C "$work/repository" -c user.name=tests -c user.email=tests@localhost -c init.defaultBranch=main
         -c commit.gpgsign=false)

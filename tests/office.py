@@ -34,10 +34,11 @@ import vectors  # noqa: E402
 ROOT = timetable.ROOT
 OFFICE = os.path.join(ROOT, "office")
 sys.path.insert(0, OFFICE)
-from timetable_office import __version__, cli, refusals  # noqa: E402
+from timetable_office import __version__, cli, completions, refusals  # noqa: E402
 from timetable_office.documents import explain_document  # noqa: E402
 from timetable_office.errors import InputError  # noqa: E402
 from timetable_office.export import export_lines, policy_lines  # noqa: E402
+from timetable_office.formats import LOG_FORMATS, VIEW_FORMATS  # noqa: E402
 from timetable_office.library import LINE_MAXIMUM, Library, Refused, Session  # noqa: E402
 from timetable_office.lines import split_lines  # noqa: E402
 from timetable_office.replace import replace_policy  # noqa: E402
@@ -241,6 +242,113 @@ class Package(Office):
                 if isinstance(node, ast.FunctionDef):
                     self.assertIsNotNone(node.returns, f"{name}: {node.name}")
                     self.assertTrue(node.name.startswith("_") or ast.get_docstring(node), f"{name}: {node.name}")
+
+
+class Completions(Office):
+    """What the shells complete is what the help tells, for every command."""
+
+    def told(self, *command):
+        """The options that the help of a command tells."""
+        rows = re.findall(r"^  (-.*?)(?:  .*)?$", self.office(*command, "--help"), re.M)
+        return {name for row in rows for name in re.findall(r"(?<!\S)--?[a-z]+(?:-[a-z]+)*", row)}
+
+    def commands(self):
+        return re.findall(r"^    (\w+)  ", self.office("--help"), re.M)
+
+    def completed(self, *words):
+        """What bash completes after these words; the last one may be begun."""
+        script = r"""
+            source ./completion
+            compopt() { :; }
+            COMP_WORDS=("$@")
+            COMP_CWORD=$(($# - 1))
+            read -r _ _ function _ < <(complete -p timetable-office)
+            "$function"
+            printf '%s\n' "${COMPREPLY[@]}"
+        """
+        self.write("completion", self.office("--completions", "bash"))
+        command = ["bash", "-c", script, "bash", "timetable-office", *words]
+        run = subprocess.run(command, capture_output=True, cwd=self.folder, text=True)
+        self.assertEqual(run.stderr, "")
+        return set(run.stdout.split())
+
+    def test_bash(self):
+        os.mkdir(self.path("pages"))
+        self.write("plan.xml", "")
+        commands = self.commands()
+        self.assertEqual(self.completed(""), set(commands))
+        self.assertEqual(self.completed("lo"), {"load", "log"})
+        self.assertEqual(self.completed("-"), self.told())
+        for command in commands:
+            self.assertEqual(self.completed(command, "-"), self.told(command), command)
+        self.assertEqual(self.completed("show", "--format", ""), set(VIEW_FORMATS))
+        self.assertEqual(self.completed("log", "store", "--format", "=", "js"), {"json"})
+        self.assertEqual(self.completed("log", "--format", "="), set(LOG_FORMATS))
+        self.assertEqual(self.completed("show", "--as", ""), set())
+        self.assertEqual(self.completed("publish", "--out", "p"), {"pages"})
+        self.assertEqual(self.completed("map", "--out", "p"), {"pages", "plan.xml"})
+        self.assertEqual(self.completed("load", "store", "pl"), {"plan.xml"})
+        self.assertEqual(self.completed("--completions", "b"), {"bash"})
+
+    def test_zsh_and_fish(self):
+        """The options of each command, and what is given to them, as read off the scripts."""
+        zsh, fish = self.office("--completions", "zsh"), self.office("--completions", "fish")
+        self.assertEqual(re.findall(r"^            '(\w+):", zsh, re.M), self.commands())
+        self.assertEqual(re.findall(r"subcommand -a (\w+) ", fish), self.commands())
+        of_zsh = dict(re.findall(r"^            (\w+)\)\n(.*?);;$", zsh, re.M | re.S))
+        of_zsh[""] = zsh.partition("case")[0]
+        for command in ("", *self.commands()):
+            words = [command] if command else []
+            names = re.findall(r"^ +(?:'\*')?(--[a-z-]+)'|\{(-[a-z]),(--[a-z-]+)\}'", of_zsh[command], re.M)
+            self.assertEqual({name for row in names for name in row if name}, self.told(*words), command)
+            place = f"'__fish_seen_subcommand_from {command}'" if command else "__fish_use_subcommand"
+            rows = re.findall(rf"^complete -c timetable-office -n {place} (-[sl] .*)$", fish, re.M)
+            names = {name for row in rows for name in re.findall(r"-([sl]) ([a-z-]+)", row.partition(" -d ")[0])}
+            told = {("l", name[2:]) if name.startswith("--") else ("s", name[1:]) for name in self.told(*words)}
+            self.assertEqual(names, told, command)
+        formats = " ".join(LOG_FORMATS)
+        self.assertIn(f":FORMAT:({formats})'", of_zsh["log"])
+        self.assertIn("--out'=[the folder]:DIR:_files -/'", of_zsh["publish"])
+        self.assertIn(f"from log' -l format -x -a '{formats}'", fish)
+
+    def test_what_is_given(self):
+        """Every word that stands for what is given is known as a file, a folder or something else."""
+        values = {
+            word.value: (word.is_file(), word.is_folder())
+            for command in completions.commands_of(cli.make_parser())
+            for word in command.words
+        }
+        files = {"FILE", "FILE.xml", "FILE.html", "STORE", "STORE|FILE"}
+        others = {None, "SHELL", "SECONDS", "N", "NAME", "FORMAT", "PATH"}
+        self.assertEqual(set(values), files | {"DIR"} | others)
+        self.assertEqual({value for value, (file, _) in values.items() if file}, files)
+        self.assertEqual({value for value, (_, folder) in values.items() if folder}, {"DIR"})
+
+    def test_installed(self):
+        """`make install-office`: the command, with the library beside it, its man page and the completions."""
+        prefix = self.path("opt")
+        os.makedirs(os.path.join(prefix, "lib"))
+        make = ["make", "--silent", "-C", ROOT, f"PREFIX={prefix}", f"PYTHON={sys.executable}"]
+        subprocess.run([*make, "install-office"], check=True)
+        version = ".".join(__version__.split(".")[:2])
+        shutil.copy(library_file, os.path.join(prefix, "lib", f"liblouvretansy.so.{version}"))
+        environment = {**self.environment(TIMETABLE_LIBRARY=None, PYTHONPATH=None), "PYTHONDONTWRITEBYTECODE": "1"}
+        words = [os.path.join(prefix, "bin", "timetable-office"), "new", "store"]
+        run = subprocess.run(words, capture_output=True, cwd=self.folder, env=environment, text=True)
+        self.assertEqual((run.returncode, run.stderr), (0, "store: an empty store for 16,384 nodes\n"))
+        share = os.path.join(prefix, "share")
+        for shell, name in (
+            ("bash", "bash-completion/completions/timetable-office"),
+            ("zsh", "zsh/site-functions/_timetable-office"),
+            ("fish", "fish/vendor_completions.d/timetable-office.fish"),
+        ):
+            with open(os.path.join(share, name), encoding="ascii") as file:
+                self.assertEqual(file.read(), self.office("--completions", shell))
+        with open(os.path.join(share, "man/man1/timetable-office.1"), encoding="ascii") as file:
+            self.assertEqual(file.read(), read_page("office/timetable-office.1"))
+        subprocess.run([*make, "uninstall"], check=True)
+        left = [name for folder, _, names in os.walk(prefix) for name in names]
+        self.assertEqual(left, [])
 
 
 class Refusals(Office):
@@ -738,6 +846,8 @@ class Load(Office):
             self.assertEqual(advice is not None, number == refusals.NO_DOCUMENT, data)
             if advice is not None:
                 seen[re.sub("[0-9]+ bytes|<.*>", "..", advice.words)] += 1
+                for other in (refusals.BAD_LABEL, refusals.TOO_DEEP, refusals.TABLE_FULL):
+                    self.assertIsNone(explain_document(data, other, session))
             elif number:
                 self.assertIsNotNone(explain_document(data, number, session), data)
         self.assertGreater(min(seen[number] for number in (0, 9, 10, 11, 14)), 10)

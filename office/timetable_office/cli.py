@@ -12,6 +12,7 @@ from typing import Any, Callable, Sequence, TextIO
 
 from timetable_office import __version__, maps, refusals
 from timetable_office.checks import Checked, check_lines, findings_json, findings_text, has_tree
+from timetable_office.completions import SHELLS, PrintCompletions
 from timetable_office.decisions import Decider
 from timetable_office.documents import Document, RefusedDocument, load_document
 from timetable_office.errors import DONE, INTERRUPTED, NOT_TAKEN, InputError, LibraryError, OfficeError, OutputError
@@ -359,6 +360,13 @@ def make_parser() -> argparse.ArgumentParser:
         formatter_class=argparse.RawDescriptionHelpFormatter,
     )
     parser.add_argument("--version", action="version", version=f"%(prog)s {__version__}")
+    parser.add_argument(
+        "--completions",
+        metavar="SHELL",
+        choices=list(SHELLS),
+        action=PrintCompletions,
+        help=f"print completions for a shell ({', '.join(SHELLS)}) and exit",
+    )
     commands = parser.add_subparsers(title="commands", metavar="COMMAND", required=True)
 
     def command(

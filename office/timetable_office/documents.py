@@ -82,9 +82,10 @@ def explain_document(data: bytes, number: int, session: Session) -> Advice | Non
         return None
     read = _Reader(data)
     outside = read.outside()
-    if outside or number == refusals.NO_DOCUMENT:
-        # of a document that is not of the kind nothing else is told
-        return outside if number == refusals.NO_DOCUMENT else None
+    if number == refusals.NO_DOCUMENT:
+        return outside
+    if outside:
+        return None
     if number == refusals.BAD_LABEL:
         return None if read.restricted is None else Advice(RESTRICTED_ADVICE, read.restricted)
     if number == refusals.TOO_DEEP:
