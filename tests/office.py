@@ -9,6 +9,7 @@ import ast
 import collections
 import contextlib
 import csv
+import glob
 import importlib
 import io
 import json
@@ -1287,12 +1288,12 @@ class Faults(Office):
         )
 
     def test_damaged_bytes(self):
-        """A few bytes overwritten anywhere: what is shown is right, or there is a clear message."""
+        """A few bytes overwritten anywhere: what is shown and kept is right, or there is a clear message."""
         self.school(records=300)
         good = self.read()
         rand = random.Random(7)
         places = [0, 18, 100, good.index(b"R12") + 1, good.index(b"staff"), len(good) - 1] + [
-            rand.randrange(len(good)) for _ in range(200)
+            rand.randrange(len(good)) for _ in range(max(200, 5 * kills))
         ]
         told = 0
         for place in places:
@@ -1301,16 +1302,24 @@ class Faults(Office):
                 bad[place + offset] ^= rand.randrange(1, 256)
             self.write("store", bytes(bad))
             status, printed, errors = self.in_this_process(["show", "store", "--as", "SHA"])
+            again, _, other_errors = self.in_this_process(["run", "-q", "store"], b"(child (tue))\n")
+            self.assertEqual(again, status, other_errors)
             if status == 0:
                 self.assertEqual(printed, OUTLINE)
+                self.assertEqual(self.office("export", "store"), text_of([*SETTING_UP, "(child (tue))"]))
             else:
                 told += 1
                 self.assertEqual((status, printed), (3, ""))
-                self.assertRegex(errors, "store (is damaged|is not a timetable store|has format)")
+                for said in (errors, other_errors):
+                    self.assertRegex(said, "store (is damaged|is not a timetable store|has format)")
+                self.assertEqual((os.listdir(self.folder), self.read()), (["store"], bytes(bad)))
         self.assertGreater(told, len(places) // 4)
+        print(f"{len(places)} damages: {told} told, the others in bytes that no view and no run depends on")
         for size in (100, 5000, len(good) // 2):
             self.write("store", good[:size])
             self.office("show", "store", "--as", "SHA", status=3, says="store is")
+            self.office("run", "store", given="(child (tue))\n", status=3, says="store is")
+            self.assertEqual(self.read(), good[:size])
 
     def test_bytes_that_are_no_store(self):
         """Bytes with a right check sum that the library refuses with 13."""
@@ -1338,6 +1347,8 @@ class Faults(Office):
                 says="the file or its folder is read-only; the store is as it was",
             )
             self.office("new", "other", before=before, status=3, says="other cannot be made: Permission denied")
+            self.office("publish", "store", "--out", "www", before=before, status=3, says="Permission denied")
+            self.office("map", "store", "--out", "map.html", before=before, status=3, says="Permission denied")
             self.assertEqual(self.office("show", "store", "--as", "SHA", before=before), OUTLINE)
             os.chmod(self.store, 0o400)
             self.office("run", "store", given="(child (tue))\n", before=before, status=3, says="read-only")
@@ -1366,6 +1377,115 @@ class Faults(Office):
         self.assertEqual(os.listdir(self.folder), ["store"])
         self.office("new", "other", preexec_fn=small_files, status=3, says="other cannot be made: File too large")
         self.assertEqual(os.listdir(self.folder), ["store"])
+
+    @contextlib.contextmanager
+    def small_disk(self, kilobytes):
+        """A folder on a disk of its own, or nothing where mounting one is not permitted."""
+        folder = self.path("disk")
+        os.mkdir(folder)
+        mount = ["mount", "-t", "tmpfs", "-o", f"size={kilobytes}k", "tmpfs", folder]
+        if subprocess.run(mount, stderr=subprocess.DEVNULL).returncode:
+            yield None
+            return
+        self.folder, outside = folder, self.folder
+        self.store = self.path("store")
+        try:
+            yield folder
+        finally:
+            self.folder = outside
+            subprocess.run(["umount", folder], check=True)
+
+    def leave_free(self, kilobytes):
+        """Fills the disk, and leaves so much."""
+        with contextlib.suppress(FileNotFoundError):
+            os.unlink(self.path("filling"))
+        there = os.statvfs(self.folder)
+        with open(self.path("filling"), "wb") as file:
+            file.write(bytes(there.f_bavail * there.f_frsize - 1024 * kilobytes))
+
+    def files(self):
+        """Every file below the folder with its bytes, the filling left out."""
+        found = {}
+        for folder, _, names in os.walk(self.folder):
+            for name in names:
+                with open(os.path.join(folder, name), "rb") as file:
+                    found[os.path.relpath(os.path.join(folder, name), self.folder)] = file.read()
+        return {name: data for name, data in found.items() if name != "filling"}
+
+    def test_a_small_disk(self):
+        """Each command that writes, with more and more room: it says so and leaves all as it was, or it is done."""
+        with self.small_disk(1024) as folder:
+            if folder is None:
+                print("no disk is mounted here: files that may not grow stand for a full one")
+                return
+            self.office("new", "empty", "--records", "500", says="an empty store")
+            self.office("run", "empty", "-q", given=POLICY)
+            self.school(records=1000)
+            self.office("publish", "store", "--out", "www", says="2 views")
+            week = b"<school>" + b"<mon>10B</mon>" * 240 + b"</school>"
+            failed = collections.Counter()
+            for words, given in (
+                (["run", "store", "-q"], b"(child (tue (lesson (room (R12)))))\n" * 60),
+                (["load", "empty", "-"], week),
+                (["policy", "store"], text_of(EDITOR).encode()),
+                (["publish", "store", "--out", "www"], b""),
+                (["map", "store", "--out", "map.html"], b""),
+                (["new", "other"], b""),
+            ):
+                for free in range(0, 1000, 8):
+                    self.leave_free(free)
+                    before = self.files()
+                    status, _, errors = self.in_this_process(words, given)
+                    if status == 0:
+                        break
+                    self.assertEqual((status, self.files()), (3, before), errors)
+                    self.assertRegex(errors, "full|No space left")
+                    failed[words[0]] += 1
+                self.assertEqual(status, 0)
+                self.assertNotEqual(self.files(), before)
+            self.assertGreaterEqual(min(failed.values()), 2)
+            self.assertEqual(len(failed), 6)
+            self.leave_free(0)
+            with open(self.path("printed"), "wb") as printed:
+                says = "the answer cannot be written: No space left"
+                self.office("show", "store", "--as", "editor", stdout=printed, status=3, says=says)
+        told = ", ".join(f"{command} {count}" for command, count in failed.items())
+        print(f"a disk of 1,024 KiB: failed for want of room and left all as it was, then done: {told}")
+
+    def test_writers_at_once(self):
+        """Commands that start together: each is done whole, or says that the store is in use."""
+        self.office("new", "store", "--records", "9000", says="an empty store")
+        self.office("run", "store", "-q", given=[*EDITOR, "(root school)", "(child (day))"])
+        done, busy = [], 0
+        rounds = max(2, kills // 50)
+        for turn in range(rounds):
+            started = []
+            for number in range(4):
+                label = f"w{turn}-{number}"
+                wait = "0" if number % 2 else str(SECONDS)
+                lines = self.write(label, f"(child ({label}))\n" * 20)
+                words = self.command(["run", "-q", "--wait", wait, "store", lines])
+                run = subprocess.Popen(words, stderr=subprocess.PIPE, cwd=self.folder, env=self.environment())
+                started.append((label, run))
+            for number, (label, run) in enumerate(started):
+                errors = run.communicate(timeout=2 * SECONDS)[1].decode()
+                if run.returncode == 0:
+                    done.append(label)
+                else:
+                    self.assertEqual((run.returncode, number % 2), (3, 1), errors)
+                    self.assertIn("store is in use by another command; waited 0 seconds", errors)
+                    busy += 1
+        labels = collections.Counter(node.label for node in self.stored())
+        self.assertEqual(labels, {"school": 1, "day": 1} | {label: 20 for label in done})
+        with Store(self.store) as store:
+            runs = [entry.lines for entry in store.entries() if entry.form == "child"]
+        self.assertEqual(runs, [1] + [20] * len(done))
+        self.assertGreaterEqual(len(done), 2 * rounds)
+        print(f"{4 * rounds} writers, four at once: {len(done)} done, {busy} told that the store is in use")
+
+    def stored(self):
+        with Store(self.store) as store:
+            return read_table(store.session(library).table)
 
     def test_two_writers(self):
         self.school()
@@ -1399,9 +1519,10 @@ class Faults(Office):
             waiting.stdout.close()
         self.assertIn("tue", self.office("show", "store", "--as", "SHA"))
 
-    def kill_a_run(self, moment, journal):
-        """Kills a run of the file `work`: so many seconds after its start, or after SQLite's journal has appeared."""
-        run = subprocess.Popen(self.command(["run", "-q", "store", "work"]), cwd=self.folder, env=self.environment())
+    def kill(self, words, moment, journal):
+        """Kills a command: so many seconds after its start, or after SQLite's journal has appeared."""
+        streams = {"stdout": subprocess.DEVNULL, "stderr": subprocess.DEVNULL}
+        run = subprocess.Popen(self.command(words), **streams, cwd=self.folder, env=self.environment())
         while journal and run.poll() is None and not os.path.exists(self.store + "-journal"):
             time.sleep(0.0005)
         time.sleep(moment)
@@ -1432,7 +1553,8 @@ class Faults(Office):
                 self.office("run", "store", "-q", given=remove)
                 nodes = 1
             journal = turn % 2 == 1
-            self.kill_a_run(rand.expovariate(250) if journal else rand.uniform(0.3, 1) * needed, journal)
+            moment = rand.expovariate(250) if journal else rand.uniform(0.3, 1) * needed
+            self.kill(["run", "-q", "store", "work"], moment, journal)
             journals += os.path.exists(self.store + "-journal")
             after = self.nodes_and_runs()
             self.assertIn(after, ((nodes, lines), (nodes + 4 * days, lines + days)))
@@ -1445,6 +1567,38 @@ class Faults(Office):
         self.assertEqual(os.listdir(self.folder), ["store"])
         self.assertFalse(self.holds(NOTE.encode()))
         self.assertEqual(self.office("show", "store", "--as", "editor"), "school\n")
+
+    def test_killed_loads(self):
+        """The same for the solver's file: the whole tree is there, or no tree."""
+        rand = random.Random(time.time_ns())
+        self.office("new", "store", "--records", "16384", says="an empty store")
+        self.office("run", "store", "-q", given=EDITOR)
+        empty = self.read()
+        nodes = 16_000
+        self.write("week.xml", b"<school>" + b"<mon/>" * (nodes - 1) + b"</school>")
+        loads = max(6, kills // 5)
+        begun = time.monotonic()
+        self.office("load", "store", "week.xml", process=True, says="16,000 nodes")
+        needed = time.monotonic() - begun
+        kept = journals = 0
+        for turn in range(loads):
+            for name in glob.glob("store*", root_dir=self.folder):
+                os.unlink(self.path(name))
+            self.write("store", empty)
+            os.chmod(self.store, 0o600)
+            journal = turn % 2 == 1
+            moment = rand.expovariate(250) if journal else rand.uniform(0.3, 1) * needed
+            self.kill(["load", "store", "week.xml"], moment, journal)
+            journals += os.path.exists(self.store + "-journal")
+            there = len(self.stored())
+            self.assertIn(there, (0, nodes))
+            kept += there > 0
+            if there == 0:
+                self.office("load", "store", "week.xml", says="16,000 nodes")
+            else:
+                self.office("run", "store", "-q", given="(child (tue))\n")
+            self.assertEqual(sorted(os.listdir(self.folder)), ["store", "week.xml"])
+        print(f"{loads} loads killed: {kept} had been done, the others left no mark; {journals} journals seen")
 
     def test_interrupted(self):
         self.school()
