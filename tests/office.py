@@ -1321,6 +1321,19 @@ class Faults(Office):
             self.office("run", "store", given="(child (tue))\n", status=3, says="store is")
             self.assertEqual(self.read(), good[:size])
 
+    def test_damaged_text(self):
+        """A byte that is no text in the schema or the log, and a format of the schema that SQLite does not know."""
+        self.school()
+        good = self.read()
+        schema = good.index(b"CREATE TABLE contents")
+        for place in [*range(schema - 16, schema + 60), 47]:
+            self.write("store", good[:place] + b"\xb6" + good[place + 1 :])
+            self.office("show", "store", "--as", "SHA", status=3, says="store is damaged: ")
+        place = good.rindex(b"+00:00")
+        self.write("store", good[:place] + b"\xb6" + good[place + 1 :])
+        self.assertEqual(self.office("show", "store", "--as", "SHA"), OUTLINE)
+        self.office("log", "store", status=3, says="store is damaged: Could not decode")
+
     def test_bytes_that_are_no_store(self):
         """Bytes with a right check sum that the library refuses with 13."""
         self.school()
@@ -1605,7 +1618,9 @@ class Faults(Office):
         os.mkfifo(self.path("lines"))
         before = self.read()
         words = self.command(["run", "store", "lines"])
-        run = subprocess.Popen(words, stderr=subprocess.PIPE, cwd=self.folder, env=self.environment())
+        # a shell that runs the tests in the background has them ignore it
+        listening = {"preexec_fn": lambda: signal.signal(signal.SIGINT, signal.SIG_DFL)}
+        run = subprocess.Popen(words, stderr=subprocess.PIPE, cwd=self.folder, env=self.environment(), **listening)
         # it is open as soon as the command reads it
         with open(self.path("lines"), "wb"):
             run.send_signal(signal.SIGINT)

@@ -199,6 +199,9 @@ class Store:
             yield
         except sqlite3.Error as error:
             raise StoreError(self._words(error)) from error
+        except UnicodeDecodeError as error:
+            # SQLite tells its reason in words of the file, which Python cannot read
+            raise StoreError(f"{self.path} is damaged: its schema is not text") from error
 
     def _words(self, error: sqlite3.Error) -> str:
         code = getattr(error, "sqlite_errorcode", 0) & _PRIMARY_CODE
@@ -206,7 +209,8 @@ class Store:
             return f"{self.path} is in use by another command; waited {self._wait:g} seconds for it"
         if code == sqlite3.SQLITE_NOTADB:
             return f"{self.path} is not a timetable store, or its first bytes are damaged"
-        if code == sqlite3.SQLITE_CORRUPT:
+        # a schema that the statements here do not fit; without a code it is text that Python cannot read
+        if code in (sqlite3.SQLITE_CORRUPT, sqlite3.SQLITE_ERROR, 0) and isinstance(error, sqlite3.DatabaseError):
             return f"{self.path} is damaged: {error}"
         if code == sqlite3.SQLITE_FULL:
             return f"{self.path}: the disk is full; the store is as it was"
