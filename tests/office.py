@@ -1321,6 +1321,15 @@ class Faults(Office):
             self.office("run", "store", given="(child (tue))\n", status=3, says="store is")
             self.assertEqual(self.read(), good[:size])
 
+    def test_other_labels(self):
+        """Bytes that would be a store too: the check sum tells."""
+        self.school()
+        good = self.read()
+        for old, new in ((b"R12", b"R13"), (b"ill", b"fit"), (b"SHA", b"SHE")):
+            self.write("store", good.replace(old, new))
+            says = "store is damaged: the stored bytes are not those that were written"
+            self.office("export", "store", status=3, says=says)
+
     def test_damaged_text(self):
         """A byte that is no text in the schema or the log, and a format of the schema that SQLite does not know."""
         self.school()

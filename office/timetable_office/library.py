@@ -9,6 +9,8 @@
     except Refused as refused:
         print(refused)                           # refused 3: it does not fit the stage: ..
 
+`session.load_xml(document)` takes the bytes of a solver's file in place of root and child lines.
+
 A call needs 1,280 KiB of stack, which the main thread has unless `ulimit -s` is set below that.
 """
 
