@@ -13,7 +13,7 @@ from xml.parsers import expat
 
 from timetable_office import refusals
 from timetable_office.errors import InputError
-from timetable_office.library import COUNT_BYTES, RECORDS_MAXIMUM, Refused, Session
+from timetable_office.library import RECORDS_MAXIMUM, Refused, Session
 from timetable_office.lines import ENCODING_MARKS, RESTRICTED_ADVICE
 from timetable_office.runs import Counts, Given, Run
 from timetable_office.tree import RESTRICTED
@@ -94,8 +94,7 @@ def explain_document(data: bytes, number: int, session: Session) -> Advice | Non
 
 
 def _explain_room(nodes: int, session: Session) -> Advice | None:
-    free = session.records - int.from_bytes(session.table[:COUNT_BYTES], "little")
-    if nodes <= free:
+    if nodes <= session.records:
         return None
     if nodes > RECORDS_MAXIMUM:
         return Advice(f"the document has {nodes:,} nodes, and no store has more than {RECORDS_MAXIMUM:,} records")
