@@ -166,7 +166,9 @@ fn unseen(counts: &Counts) -> Vec<String> {
     let forms = (0..WORDS.len()).filter(|form| counts.accepted[*form] == 0).map(|form| format!("{} accepted", WORDS[form]));
     let refusals = (1..=REFUSALS).filter(|number| counts.refusals[*number] == 0).map(|number| format!("refusal {number}"));
     let documents = &counts.documents;
-    let accepted = [("that is taken as its lines are", documents.by_lines), ("that fills the table", documents.filling)];
+    let too_long = documents.accepted - documents.by_lines;
+    let accepted =
+        [("taken as its lines are", documents.by_lines), ("taken though its lines are too long", too_long), ("that fills the table", documents.filling)];
     let accepted = accepted.into_iter().filter(|(_, count)| *count == 0).map(|(what, _)| format!("a document {what}"));
     let refused = DOCUMENT_REFUSALS.iter().filter(|number| documents.refusals[**number as usize] == 0).map(|number| format!("refusal {number} of a document"));
     forms.chain(refusals).chain(accepted).chain(refused).collect()

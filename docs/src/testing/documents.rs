@@ -10,6 +10,7 @@ use crate::xml::is_name;
 const BLANKS: [&str; 4] = [" ", "\t", "\r", "\n"];
 const TEXTS: [&str; 7] = ["10B", "7", "-1", ".", "2.5", "..", "-"]; // labels that are no names
 const NESTED: [&str; 4] = ["a", "b", "ab", "_"];
+const WIDE: usize = 400; // nodes, too many for one line
 
 /// What may stand between the tags of a document of the kind.
 const KNOWN: [&str; 14] = [
@@ -304,13 +305,19 @@ fn deep(random: &mut Random) -> Vec<u8> {
     [opened.concat().as_str(), inner, closed.concat().as_str()].concat().into_bytes()
 }
 
-/// A tree that a document has, often of a size around the capacity or with levels around the last.
+/// A tree that a document has, often of a size around the capacity, with levels around the last, or with a child that no line could hold.
 fn some_tree(random: &mut Random, capacity: usize) -> Tree {
-    let near = capacity < 400 || capacity + 10 > CAPACITY_MAXIMUM;
+    let near = capacity < WIDE || capacity + 10 > CAPACITY_MAXIMUM;
     let (size, height) = match random.below(20) {
         0..=5 if near => ((capacity + random.below(3)).saturating_sub(1).max(1), 8),
         6..=9 => (random.within(20, 50), random.within(LEVEL_MAXIMUM - 1, LEVEL_MAXIMUM + 2)),
         10..=11 => (1, 1),
+        _ if capacity >= WIDE && random.percent(70) => {
+            let size = random.within(WIDE / 2, WIDE + 5);
+            let child = sized_tree(random, size, 6);
+            let tree = Tree { label: some_name(random), origin: None, children: vec![child] };
+            return with_document(random, tree);
+        }
         _ => (random.within(1, 30), 6),
     };
     let tree = sized_tree(random, size, height);

@@ -578,7 +578,11 @@ pub fn start(random: &mut Random) -> Start {
             rootless_start(random, "large", records)
         }
         3..=250 => {
-            let records = if random.percent(50) { random.within(0, 40) } else { random.within(60, 200) };
+            let records = match random.below(10) {
+                0..=4 => random.below(40),
+                5..=6 => random.within(60, 200),
+                _ => random.within(400, 410),
+            };
             rootless_start(random, "rootless", records)
         }
         251..=450 => empty_start(random),
