@@ -847,9 +847,10 @@ class Load(Office):
             self.assertEqual(advice is not None, number == refusals.NO_DOCUMENT, data)
             if advice is not None:
                 seen[re.sub("[0-9]+ bytes|<.*>", "..", advice.words)] += 1
+            if number in (0, refusals.NO_DOCUMENT):
                 for other in (refusals.BAD_LABEL, refusals.TOO_DEEP, refusals.TABLE_FULL):
-                    self.assertIsNone(explain_document(data, other, session))
-            elif number:
+                    self.assertIsNone(explain_document(data, other, session), data)
+            else:
                 self.assertIsNotNone(explain_document(data, number, session), data)
         self.assertGreater(min(seen[number] for number in (0, 9, 10, 11, 14)), 10)
         self.assertGreater(len(seen), 20)
