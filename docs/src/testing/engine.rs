@@ -11,9 +11,9 @@ pub trait Engine {
     /// One line on lent bytes: the answer's length, or minus the refusal's number.
     fn line(&self, state: &mut [u8], table: &mut [u8], line: &[u8], area: &mut [u8]) -> i64;
 
-    /// One document on lent bytes, likewise. The view alone has no such call.
+    /// One document on lent bytes, likewise.
     fn load_xml(&self, _state: &mut [u8], _table: &mut [u8], _xml: &[u8], _area: &mut [u8]) -> i64 {
-        panic!("the engine has no load_xml")
+        panic!("the view alone loads no document")
     }
 
     /// How the engine reads changes, for telling which nodes it keeps.
@@ -95,7 +95,7 @@ const RTLD_NOW: c_int = 2;
 
 pub struct Library {
     line: CallFunction,
-    load_xml: CallFunction,
+    load_xml: Option<CallFunction>, // the view alone has none
 }
 
 impl Library {
@@ -118,7 +118,7 @@ impl Library {
             let line = dlsym(handle, c"timetable_line".as_ptr());
             let load_xml = dlsym(handle, c"timetable_load_xml".as_ptr());
             let state_bytes = dlsym(handle, c"timetable_state_bytes".as_ptr());
-            if line.is_null() || load_xml.is_null() || state_bytes.is_null() {
+            if line.is_null() || state_bytes.is_null() {
                 return Err(failure());
             }
             let state_bytes: StateBytesFunction = std::mem::transmute(state_bytes);
@@ -126,7 +126,7 @@ impl Library {
                 return Err(format!("its states have {} bytes, not {STATE_BYTES}", state_bytes()));
             }
             let call = |symbol| std::mem::transmute::<*mut c_void, CallFunction>(symbol);
-            Ok(Library { line: call(line), load_xml: call(load_xml) })
+            Ok(Library { line: call(line), load_xml: (!load_xml.is_null()).then(|| call(load_xml)) })
         }
     }
 }
@@ -141,7 +141,7 @@ impl Engine for Library {
     }
 
     fn load_xml(&self, state: &mut [u8], table: &mut [u8], xml: &[u8], area: &mut [u8]) -> i64 {
-        lend(self.load_xml, state, table, xml, area)
+        lend(self.load_xml.expect("the library has no timetable_load_xml"), state, table, xml, area)
     }
 
     fn reading(&self) -> Reading {
