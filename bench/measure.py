@@ -3,6 +3,7 @@ import os
 import re
 import subprocess
 import sys
+import textwrap
 from pathlib import Path
 
 ROOT = Path(__file__).resolve().parent.parent
@@ -90,6 +91,12 @@ def hot(work):
 def spread(median, quartiles):
     """Milliseconds as the report writes them."""
     return f"{median:.2f} ({quartiles[0]:.2f} to {quartiles[1]:.2f})"
+
+
+def wrapped(text):
+    """The report with its paragraphs in lines of at most 120 columns."""
+    blocks = [block if block[0] in "|#!" else textwrap.fill(block, 120, break_long_words=False, break_on_hyphens=False) for block in text.strip("\n").split("\n\n")]
+    return "\n\n".join(blocks) + "\n"
 
 
 def millions(instructions):

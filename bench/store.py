@@ -18,7 +18,7 @@ import tempfile
 import time
 from pathlib import Path
 from loads import loads
-from measure import ROOT, Bounds, build, collected, count, hot, millions, run, spread, times
+from measure import ROOT, Bounds, build, collected, count, hot, millions, run, spread, times, wrapped
 from plot import plot
 from stores import ALL, FIVE, WITH_LABELS, by_level, deep, flat, table
 from views import views
@@ -196,7 +196,7 @@ def main():
             text = HEAD + about + lines_text(rows, spreads) + program_text(cpu, wall, counts) + above_text(above)
             views_text, view_rows = views(work, [rattle, view_alone], bounds)
             text += views_text + where(work, rattle) + loads(work, [rattle, rust], bounds) + "\n![CPU times and growth](benchmark.svg)\n"
-            (ROOT / "docs/BENCHMARK.md").write_text(text)
+            (ROOT / "docs/BENCHMARK.md").write_text(wrapped(text))
             (ROOT / "docs/benchmark.svg").write_text(plot(rows, FEW, MOST, view_rows))
     sys.exit(bounds.failed)
 

@@ -24,6 +24,7 @@ if [ $# -gt 0 ]; then
     run 'demand 3 on the library' "$bin/demand3" --seed "$seed" --lines 100000 --library "$library"
     run 'the library and the straightforward version' "$bin/compare" --seed "$seed" --lines 20000 --library "$library"
 else
+    run 'the straightforward version by its own tests' cargo test --quiet --release --offline --manifest-path "$source/Cargo.toml"
     run 'demand 3 on the straightforward version' "$bin/demand3"
     run 'each false reading is found by the demand-3 tester' "$bin/demand3" --self-test
     run 'the straightforward version and itself as a library' "$bin/compare" --library "$bin/examples/libshared.so"

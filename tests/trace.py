@@ -1,7 +1,7 @@
 #!/usr/bin/env python3
 """Docs that name what is there: each definition, law, function, file and edit that docs/TRACE.md names in its columns stands in the crates. docs/PROOF.md's list of
 the definitions to be believed has the lines of each, blank ones and imports apart, and their sums, below BELIEVED_MAX; the laws that it names stand in the files beside their names. Links in
-the pages lead to what is there, and the pages for users and newcomers have no line over 120 columns.
+the pages lead to what is there, and no page has a line over 120 columns, rows of tables apart.
 
 A name in backquotes that is one word is a definition or a law (`specs/`, `proofs/`) or a function (`src/`); `module::function` is a function of that module; CRATE/NAME in the last
 column is an edit. The last line is `N passed, M failed`, a name counted once.
@@ -186,13 +186,15 @@ for name in rests:
     if drawn.count(name) != 1 or below(name, rests) != below(name, {start: [to for by, to in arrows if by == start] for start in rests}):
         wrong.append("docs/house.svg: %s is not as crates.txt has it" % name)
 
-# Columns: no page for users or newcomers has a line over 120, except for the rows of the table of refusals, whose words are one text.
+# Columns: no page has a line over 120. A row of a table is one line, whatever its length; those of the pages for users and newcomers keep to it too, except
+# for the table of refusals, whose words are one text.
 NARROW = ["README.md", "CHANGELOG.md", "CONTRIBUTING.md", "office/README.md", "office/timetable-office.1"] + ["docs/" + name for name in (
     "GUIDE.md", "MODEL.md", "DESIGN.md", "PROOF.md", "timetable.1")]
-for name in NARROW:
+for name in NARROW + sorted(set(glob.glob("docs/*.md")) - set(NARROW)):
     seen.add(("columns", name))
+    long_rows = r"\| \d+ \| " if name == "README.md" else r"\|" if name not in NARROW else r"$^"
     for number, line in enumerate(open(name), 1):
-        if len(line.rstrip("\n")) > 120 and not (name == "README.md" and re.match(r"\| \d+ \| ", line)):
+        if len(line.rstrip("\n")) > 120 and not re.match(long_rows, line):
             wrong.append("%s:%d: over 120 columns" % (name, number))
             break
 
