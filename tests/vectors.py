@@ -32,18 +32,19 @@ def difference(got, wanted):
     return "the same lines, and not the same end"
 
 
-def main():
-    program = timetable.arguments(__doc__)
-    names = lists(".in")
+def compare(ending, answers):
+    """Holds what `answers` gives for each list with this ending to its NAME.out, and ends the program."""
+    names = lists(ending)
     failed = 0
     for name in names:
-        got, wanted = timetable.answers(program, read(name + ".in")), read(name + ".out")
+        got, wanted = answers(read(name + ending)), read(name + ".out")
         if got != wanted:
             failed += 1
             print(f"FAILED: {name}: {difference(got, wanted)}")
-    print(f"{len(names)} lists run, {failed} differ")
+    print(f"{len(names)} lists NAME{ending}, {failed} differ")
     sys.exit(1 if failed or not names else 0)
 
 
 if __name__ == "__main__":
-    main()
+    given = timetable.arguments(__doc__)
+    compare(".in", lambda text: timetable.answers(given, text))
