@@ -3,7 +3,6 @@ use Prim.Native.Nat.{ℕ, _≤_, _<_}
 use mathlib.Core.Path.{_≡_, refl, sym, ap, ap₂, subst, _∙_}
 use mathlib.Core.Bool.{Bool, true, cond}
 use mathlib.Core.List.{List, map}
-use mathlib.Core.Logic.{inr}
 use native.Mathlib.Omega.{arith}
 use borrow.Author.Tests.{le-leb}
 use lib.ListN.{length}
@@ -122,7 +121,7 @@ loaded-alike n u u' s t sₗ tₗ s' t' sₗ' tₗ' c c' p a =
 
 loaded-answers : LoadedAnswers
 loaded-answers n u u' s t sₗ tₗ s' t' sₗ' tₗ' c c' p a cs ds r r' l b =
-    demand3 .answers-alike n sₗ tₗ sₗ' tₗ' (loaded-alike n u u' s t sₗ tₗ s' t' sₗ' tₗ' c c' p a) cs ds r r' l (inr b)
+    demand3 .answers-alike n sₗ tₗ sₗ' tₗ' (loaded-alike n u u' s t sₗ tₗ s' t' sₗ' tₗ' c c' p a) cs ds r r' l b
 
 pub load-guarantee : LoadGuarantee
 load-guarantee = record {

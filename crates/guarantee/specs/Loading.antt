@@ -19,7 +19,7 @@ use Rattle.lines.specs.State.{stageC, stage, policyIn, storeOk}
 use Rattle.lines.specs.declared.line.Answer.the-variants.{Accepted}
 use Rattle.store.specs.LoadXml.{loadXml}
 use Rattle.guarantee.specs.Alike.{SamePolicy, Behind, Alike}
-use Rattle.guarantee.specs.Demand3.{Call, Run, SameLines, BeginsWithLogin, SameAnswers}
+use Rattle.guarantee.specs.Demand3.{Call, Run, SameLines, Begins, SameAnswers}
 
 -- A call of `load_xml` (store/src/load.rt) on the state s and the table t that takes a document of the tree u in, and leaves s' and t': what it promises of a call
 -- that is accepted. Which document, which area and what it held before are the caller's.
@@ -49,12 +49,13 @@ LoadedAlike =
     (n : ℕ) (u u' : Tree) (s t sₗ tₗ s' t' sₗ' tₗ' : List ℕ) → LoadsTree u s t sₗ tₗ → LoadsTree u' s' t' sₗ' tₗ'
     → SamePolicy (policyIn s) (policyIn s') → TreesAlike (policyIn s) n u u' → Alike n sₗ tₗ sₗ' tₗ'
 
--- So any two runs of the same lines behind the calls, which begin with a `(user N)` that is accepted, answer N alike, in the words of demand 3.
+-- So any two runs of the same lines after the calls answer the reader alike, in the words of demand 3. No user is logged in where a document was taken, so the list
+-- begins with a `(user N)` that is accepted.
 abbrev pub LoadedAnswers : Type 0
 LoadedAnswers =
     (n : ℕ) (u u' : Tree) (s t sₗ tₗ s' t' sₗ' tₗ' : List ℕ) → LoadsTree u s t sₗ tₗ → LoadsTree u' s' t' sₗ' tₗ'
     → SamePolicy (policyIn s) (policyIn s') → TreesAlike (policyIn s) n u u'
-    → (cs ds : List Call) → Run sₗ tₗ cs → Run sₗ' tₗ' ds → SameLines cs ds → BeginsWithLogin n sₗ cs → SameAnswers n sₗ cs ds
+    → (cs ds : List Call) → Run sₗ tₗ cs → Run sₗ' tₗ' ds → SameLines cs ds → Begins n sₗ sₗ' cs → SameAnswers n sₗ cs ds
 
 -- Whatever is lent to the call: a store that passes 13 still does, and one that does not is refused with 13 and keeps its bytes.
 abbrev pub LoadPasses : Type 0
