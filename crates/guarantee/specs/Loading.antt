@@ -49,8 +49,7 @@ LoadedAlike =
     (n : ℕ) (u u' : Tree) (s t sₗ tₗ s' t' sₗ' tₗ' : List ℕ) → LoadsTree u s t sₗ tₗ → LoadsTree u' s' t' sₗ' tₗ'
     → SamePolicy (policyIn s) (policyIn s') → TreesAlike (policyIn s) n u u' → Alike n sₗ tₗ sₗ' tₗ'
 
--- So any two runs of the same lines after the calls answer the reader alike, in the words of demand 3. No user is logged in where a document was taken, so the list
--- begins with a `(user N)` that is accepted.
+-- So any two runs of the same lines after the calls answer the reader alike, in the words of demand 3.
 abbrev pub LoadedAnswers : Type 0
 LoadedAnswers =
     (n : ℕ) (u u' : Tree) (s t sₗ tₗ s' t' sₗ' tₗ' : List ℕ) → LoadsTree u s t sₗ tₗ → LoadsTree u' s' t' sₗ' tₗ'
