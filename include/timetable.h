@@ -162,7 +162,8 @@ int64_t timetable_line(uint8_t *state, size_t state_length, uint8_t *table, size
  *
  * Returns what timetable_line returns for such lines: 5, with "(ok)" and a line feed at the front of the area; or minus
  * the number of a refusal: 13, 3, 14, 9, 10, 11 or 12. Then nothing is taken in. The caller sees to the same things as
- * for a line; a document may be of any length.
+ * for a line. A document may be of any length, and its time grows with its length alone, unless its elements are nested
+ * deeper than 16,384 levels: then it is read once more for every further 16,384, before it is refused.
  */
 int64_t timetable_load_xml(uint8_t *state, size_t state_length, uint8_t *table, size_t table_length, const uint8_t *xml,
                            size_t xml_length, uint8_t *area, size_t area_length);
