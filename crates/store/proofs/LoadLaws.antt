@@ -142,7 +142,7 @@ lines-one room [] s t s' t' s'' t'' x y = (x .0 ∙ sym (y .0), x .1 ∙ sym (y 
 lines-one room (c ∷ cs) s t s' t' s'' t'' x y =
     lines-one room cs (stepUnlimited s t c room .state) (stepUnlimited s t c room .table) s' t' s'' t'' (x .1) (y .1)
 
--- the stage behind the lines of these children, from stage g
+-- the stage after the lines of these children, from stage g
 abbrev stageBehind : ℕ → Trees → ℕ
 stageBehind g none = g
 stageBehind g (more u us) = 3

@@ -19,7 +19,7 @@ use Rattle.xml.specs.declared.document.Kind.{Kind}
 use Rattle.xml.specs.declared.document.Kind.the-variants.{NoDocument, Document}
 use Rattle.xml.specs.declared.document.Tally.{Tally}
 
--- two windows, one behind the other
+-- two windows, one after the other
 window-split : (a w l : ℕ) (b : Bool) → cond (inWindow 0 (a + w) l) b true ≡ (cond (inWindow 0 a l) b true && cond (inWindow a w l) b true)
 window-split a w l b =
     let z : l - 0 ≡ l = omega arith in

@@ -44,7 +44,7 @@ pub(crate) enum Step {
     Done(Kind),
 }
 
-// Whether the label at p is the label of n bytes at a, which stands behind it.
+// Whether the label at p is the label of n bytes at a, which comes after it.
 fn same_name(xml: &[u8], p: usize, a: usize, n: usize) -> bool
     requires { ⌜ (p < a) × (a + n ≤ length (now xml)) × (n ≡ runAt labelByte (now xml) a) ⌝ }
     ensures { λ r. ⌜ r ≡ sameBytes (nameAt (now (xml .entry)) p) (nameAt (now (xml .entry)) a) ⌝ }
@@ -212,7 +212,7 @@ fn scan_rest(xml: &[u8], low: usize, first: Pass, places: &mut [usize]) -> Kind
     }
 }
 
-// The rest of a pass behind a tag whose name stands at `root`.
+// The rest of a pass after the root's tag, whose name stands at `root`.
 fn scan_from(xml: &[u8], low: usize, root: usize, first: Pass) -> Kind
     requires { ⌜ Ready (now xml) (replicate window root) first ⌝ }
     ensures { λ r. ⌜ ((f : ℕ) → length (now (xml .entry)) - first .at < f → r ≡ toldAt (now (xml .entry)) low (replicate window root) f first) ⌝ }

@@ -104,7 +104,7 @@ fn opening_tag(xml: &[u8], i: usize) -> Lexeme
     Lexeme::Bad
 }
 
-// A text that begins at i, with the blanks behind it: a tag stands after it.
+// A text that begins at i, with the blanks after it: a tag follows them.
 fn label_text(xml: &[u8], i: usize) -> Lexeme
     requires { ⌜ i ≤ length (now xml) ⌝ }
     ensures { λ r. ⌜ LexedAs texting (now (xml .entry)) i r ⌝ }

@@ -43,7 +43,7 @@ fn put_record(table: &mut [u8], n: usize, level: usize, xml: &[u8], a: usize, e:
     );
 }
 
-// How many elements are open behind a closing tag.
+// How many elements are open after a closing tag.
 fn outer(depth: usize) -> usize
     ensures { λ r. ⌜ r ≡ depth - 1 ⌝ }
 {

@@ -22,7 +22,7 @@ said s at (Label a e t) = token (text (between s a e)) (t - at)
 said s at End = end
 said s at Bad = bad
 
--- A token's label stands from a up to e, behind i and before t, the place after the token. No label byte follows it.
+-- A token's label stands from a up to e, not before i, and t is the place after the token. No label byte follows the label.
 pub record Spot (s : List ℕ) (i a e t : ℕ) : Type 0 where
   pub from : i ≤ a
   pub run : e ≡ a + runAt labelByte s a

@@ -31,7 +31,7 @@ tallyOf xs = record { nodes = length xs; deepest = deepest xs; restricted = some
 unfoldable pub documentKind : List ℕ → Kind
 documentKind s = cond (isDocument s) (Document (tallyOf (documentNodes s))) NoDocument
 
--- A document that may be written into the bytes of a table: its levels run to 11, all its nodes have room, and behind the count every byte is zero.
+-- A document that may be written into the bytes of a table: its levels run to 11, all its nodes have room, and every byte after the count is zero.
 pub record Writable (s table : List ℕ) : Type 0 where
   pub document : isDocument s ≡ true
   pub levels : deepest (documentNodes s) ≤ 11

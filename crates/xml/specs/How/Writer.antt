@@ -11,7 +11,7 @@ use Rattle.xml.specs.declared.writer.Cursor.{Cursor}
 use Rattle.xml.specs.declared.writer.Next.{Next}
 use Rattle.xml.specs.declared.writer.Next.the-variants.{On, Over}
 
--- the node of a token where d elements are open, and how many are open behind it
+-- the node of a token where d elements are open, and how many are open after it
 abbrev pub ownNodes : ℕ → Token → List Node
 ownNodes d (opens n) = node d n ∷ []
 ownNodes d (closes n) = []

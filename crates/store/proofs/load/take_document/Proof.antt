@@ -1,4 +1,4 @@
--- The three groups of checks stand in front of what is taken: 9, 10 and 11 by the tally, then 12.
+-- Two groups of checks come before the document is taken: 9, 10 and 11 by the tally, then 12.
 use mathlib.Core.Path.{ap, _∙_}
 use native.Mathlib.Omega.{arith}
 use Rattle.rights.proofs.TableLaws.{table-long}
