@@ -37,6 +37,7 @@ from unittest import mock
 
 sys.path.insert(0, os.path.dirname(os.path.abspath(__file__)))
 import timetable  # noqa: E402
+import week  # noqa: E402
 
 ROOT = timetable.ROOT
 OFFICE = os.path.join(ROOT, "office")
@@ -96,6 +97,17 @@ def week_nodes(lessons=20, seed=1):
                 nodes.append(Node(3, "lesson"))
                 nodes += [node for name, value in fields for node in (Node(4, name), Node(5, value))]
     return nodes
+
+
+def solver_nodes():
+    """The week of 24 classes that tests/week.py writes, notes shown as RESTRICTED."""
+
+    def walk(tree, level, above):
+        yield Node(level, RESTRICTED if above == "note" else tree[0])
+        for child in tree[1]:
+            yield from walk(child, level + 1, tree[0])
+
+    return list(walk(week.week(), 0, ""))
 
 
 def random_nodes(rand, deepest, most):
@@ -189,6 +201,14 @@ class Pages(unittest.TestCase):
             (3, "(school (mon (p1 (lesson (class (10B)))) (p2)) (tue))"),
             (2, "(school (mon (lesson (class (10B) (10C)) (note)) (lesson)))"),
             (2, "(a (b (c (d (e)))))"),
+            (3, "(school (mon (p1 (R12 (10B) (lesson (class (10B) (x)) (note)))) (p2)) (tue (p1) (p2 (R3 (a (b (c)))))))"),
+            (3, "(school (mon (p1 (R12 (10B-maths))) (p2)) (tue (p1) (p2)))"),
+            (None, "(school (mon (p1 (R12)) (p2)) (tue (p1) (p2)))"),
+            (None, "(school (mon (p1 (R12 (10B) (lesson (class (10B))))) (p2)) (tue (p2) (p1)))"),
+            (None, "(school (mon (p1 (R12 (10B) (lesson (class (10B))))) (p1)) (tue (p1) (p1)))"),
+            (None, "(school (mon (p1 (R12 (10B) (lesson (class (10B)))))) (tue (p1)))"),
+            (None, "(school (mon (p1 (R12 (10B) (lesson (class (10B))))) (p2)))"),
+            (None, "(school (mon (p1 (R12 (10B) (lesson (class (10B))))) (p2)) (tue))"),
             (None, "(school)"),
             (None, "(school (mon (lesson (class))))"),
             (None, "(school (mon (p1 (lesson (class (10B (x)))))))"),
@@ -200,6 +220,16 @@ class Pages(unittest.TestCase):
             self.assertEqual(lesson_level(nodes), level, text)
             self.assertEqual(self.check(nodes).kind == "outline", level is None)
         self.assertIsNone(lesson_level([]))
+
+    def test_the_solvers_week(self):
+        """A grid of days and periods, with the words of rooms and lessons set apart, for whoever sees all or less."""
+        nodes = solver_nodes()
+        self.assertGreater(len(nodes), 6_000)
+        for seen in (nodes, [node for node in nodes if node.level <= 4 and node.label != "lesson"]):
+            read = self.check(seen)
+            self.assertEqual((lesson_level(seen), read.kind), (3, "week"))
+        texts = page("SHA", nodes, MARK).count('<li class="text">')
+        self.assertEqual(texts, sum(node.label == "lesson" for node in nodes))
 
     def test_the_layout(self):
         lesson, empty = "(p1 (lesson (class (10B))))", "(p1)"
@@ -768,6 +798,8 @@ class InTheBrowser(unittest.TestCase):
         rand = random.Random(4)
         yield "example", read_view(view_of(store_of(EXAMPLE), "SHA"))
         yield "week", week_nodes()
+        yield "solver", solver_nodes()
+        yield "door", [node for node in solver_nodes() if node.level <= 4 and node.label != "lesson"]
         yield "reader", week_nodes(1)
         yield "days", nodes_of("(school (mon (lesson (class (10B)) (note)) (lesson)) (tue (lesson (class (9A) (9B)))))")
         yield "outline", random_nodes(rand, 9, 300)

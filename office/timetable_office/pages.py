@@ -67,14 +67,19 @@ def lesson_level(nodes: Sequence[Node]) -> int | None:
     """The level of the lessons where a view has the shape of a timetable, and nothing where it has not.
 
     In a timetable the root has days, and a day has lessons (then they are at level 2), or periods that have lessons (at
-    level 3). A lesson has fields, and a field has values. Words do not count, only levels:
+    level 3). A lesson has fields, and a field has values. Words do not count. It is a timetable
 
-    - the deepest node, a value, is two levels below the lessons, so at level 4 or 5;
-    - each lesson that has a field has a field with a value.
+    - if all days have the same periods, two or more of different names: whatever is below them is a lesson, and
+      something is below one;
+    - or if the deepest node, a value, is two levels below the lessons, so at level 4 or 5, and each lesson that has a
+      field has a field with a value.
 
     Days, periods and lessons may be empty, and a field may have no value or several.
     """
-    level = max((node.level for node in nodes), default=0) - 2
+    deepest = max((node.level for node in nodes), default=0)
+    if deepest > _IN_PERIODS and _same_periods(nodes):
+        return _IN_PERIODS
+    level = deepest - 2
     if level not in (_IN_DAYS, _IN_PERIODS):
         return None
     fields = valued = False
@@ -87,6 +92,18 @@ def lesson_level(nodes: Sequence[Node]) -> int | None:
             fields = True
             valued = valued or node.level == level + 2
     return level
+
+
+def _same_periods(nodes: Sequence[Node]) -> bool:
+    """Whether there are two days or more, all with the same periods, two or more of different names."""
+    days: list[list[str]] = []
+    for node in nodes:
+        if node.level == 1:
+            days.append([])
+        elif node.level == 2:
+            days[-1].append(node.label)
+    first = days[0] if len(days) > 1 else []
+    return len(first) > 1 and len(set(first)) == len(first) and all(day == first for day in days)
 
 
 def view_mark(answer: bytes) -> str:
@@ -198,13 +215,31 @@ def _lessons(lessons: Sequence[Branch]) -> Iterator[str]:
         return
     yield '<ul class="lessons">'
     for lesson in lessons:
-        yield f"<li><i>{_label(lesson.label)}</i>"
-        if lesson.children:
-            yield '<ul class="fields">'
-            yield from (f"<li>{_field(part)}</li>" for part in lesson.children)
-            yield "</ul>"
-        yield "</li>"
+        yield from _entry(lesson)
     yield "</ul>"
+
+
+def _entry(branch: Branch) -> Iterator[str]:
+    """A list item for a node, with all that is below it in running text."""
+    if _is_line(branch):
+        yield f"<li>{_field(branch)}</li>"
+        return
+    # beside nodes with fields of their own, one without children is a text rather than a field without a value
+    texts = not all(_is_line(child) for child in branch.children)
+    yield f"<li><i>{_label(branch.label)}</i>"
+    yield '<ul class="fields">'
+    for child in branch.children:
+        if texts and not child.children:
+            yield f'<li class="text">{_label(child.label)}</li>'
+        else:
+            yield from _entry(child)
+    yield "</ul>"
+    yield "</li>"
+
+
+def _is_line(branch: Branch) -> bool:
+    """Whether a node fits one line with those below it: none of them has children."""
+    return not any(child.children for child in branch.children)
 
 
 def _field(branch: Branch) -> str:
@@ -221,7 +256,7 @@ def _outline(branches: Sequence[Branch]) -> Iterator[str]:
     for branch in branches:
         if not branch.children:
             yield f"<li>{_label(branch.label)}</li>"
-        elif not any(child.children for child in branch.children):
+        elif _is_line(branch):
             yield f"<li>{_field(branch)}</li>"
         else:
             yield f'<li class="fold"><details open><summary>{_label(branch.label)}</summary>'
