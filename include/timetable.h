@@ -116,7 +116,7 @@ static inline const char *timetable_refusal_text(int64_t number) {
     case TIMETABLE_REFUSED_AREA_SHORT:
         return "the answer area is shorter than the answer";
     case TIMETABLE_REFUSED_BAD_STORE:
-        return "the lent state or table is none, or the two do not agree";
+        return "the lent state or table is not valid, or the two do not agree";
     case TIMETABLE_REFUSED_NO_DOCUMENT:
         return "the document is not of the kind that is taken: one root element, tags that match, "
                "labels as names and texts, and nothing else";

@@ -37,7 +37,7 @@ TABLE: tuple[Refusal, ...] = (
     Refusal(10, "TOO_DEEP", "a node would come to a level above 11"),
     Refusal(11, "TABLE_FULL", "the whole of it needs more free records than there are"),
     Refusal(12, "AREA_SHORT", "the answer area is shorter than the answer"),
-    Refusal(13, "BAD_STORE", "the lent state or table is none, or the two do not agree"),
+    Refusal(13, "BAD_STORE", "the lent state or table is not valid, or the two do not agree"),
     Refusal(
         14,
         "NO_DOCUMENT",

@@ -124,7 +124,7 @@ refusals! {
     10 TooDeep "a node would come to a level above 11"
     11 TableFull "the whole of it needs more free records than there are"
     12 AreaShort "the answer area is shorter than the answer"
-    13 BadStore "the lent state or table is none, or the two do not agree"
+    13 BadStore "the lent state or table is not valid, or the two do not agree"
     14 NoDocument "the document is not of the kind that is taken: one root element, tags that match, \
                    labels as names and texts, and nothing else"
 }
