@@ -27,10 +27,13 @@ import tempfile
 import time
 import tomllib
 import unittest
+from unittest import mock
+from xml.etree import ElementTree
 
 sys.path.insert(0, os.path.dirname(os.path.abspath(__file__)))
 import timetable  # noqa: E402
 import vectors  # noqa: E402
+import week  # noqa: E402
 
 ROOT = timetable.ROOT
 OFFICE = os.path.join(ROOT, "office")
@@ -38,9 +41,9 @@ sys.path.insert(0, OFFICE)
 from timetable_office import __version__, cli, completions, refusals  # noqa: E402
 from timetable_office.documents import explain_document  # noqa: E402
 from timetable_office.errors import InputError  # noqa: E402
-from timetable_office.export import export_lines, policy_lines  # noqa: E402
+from timetable_office.export import export_document, export_lines, policy_lines  # noqa: E402
 from timetable_office.formats import LOG_FORMATS, VIEW_FORMATS  # noqa: E402
-from timetable_office.library import LINE_MAXIMUM, Library, Refused, Session  # noqa: E402
+from timetable_office.library import LINE_MAXIMUM, RECORDS_MAXIMUM, Library, Refused, Session  # noqa: E402
 from timetable_office.lines import split_lines  # noqa: E402
 from timetable_office.replace import replace_policy  # noqa: E402
 from timetable_office.runs import run_lines  # noqa: E402
@@ -1085,6 +1088,87 @@ class Export(Office):
             with self.assertRaises(InputError) as caught:
                 export_lines(self.large(policy))
             self.assertIn("the tree is not exported: " + says, str(caught.exception))
+
+    def loaded(self, document, policy=POLICY, records=64):
+        """A session with this policy and the tree of this document."""
+        session = library.session(records=records)
+        run_lines(session, split_lines("policy", text_of(policy).encode()))
+        session.load_xml(document)
+        return session
+
+    def test_the_document(self):
+        self.school(["(user SHA)", "(update //room R14)"])
+        with self.unchanged():
+            document = self.office("export", "store", "--xml")
+        self.office("new", "again", "--records", "64", says="an empty store")
+        self.office("run", "again", "-q", given=self.office("export", "store", "--policy"))
+        self.office("load", "again", "-", given=document, says="9 nodes")
+        self.assertEqual(self.contents("again")[1], self.contents("store")[1])
+        self.assertEqual(self.office("export", "again"), self.office("export", "store"))
+        self.office("export", "store", "--xml", "--policy", status=2, says="not allowed with")
+        self.office("new", "empty", "--records", "64", says="an empty store")
+        self.office("export", "empty", "--xml", status=1, says="no tree yet")
+
+    def test_a_week_that_no_lines_give(self):
+        """What cannot be exported by lines is given again by the policy and the document."""
+        session = self.loaded(week.document_of(week.week(classes=24)), records=RECORDS_MAXIMUM)
+        with self.assertRaises(InputError) as caught:
+            export_lines(session)
+        self.assertIn("`export --xml` a document for `load`", str(caught.exception))
+        lines = [line.decode() for line in policy_lines(session)]
+        again = self.loaded(export_document(session), lines, RECORDS_MAXIMUM)
+        self.assertEqual((again.state, again.table), (session.state, session.table))
+
+    def test_a_wrong_document_is_not_printed(self):
+        session = self.loaded(b"<r><a>b</a></r>")
+        with mock.patch("timetable_office.export._element", return_value=ElementTree.fromstring("<r><b>b</b></r>")):
+            self.assertRaisesRegex(InputError, "does not give the same tree again", export_document, session)
+
+    def test_documents_of_trees(self):
+        """Every tree has the document that it should, or is told not to have one."""
+        for tree, told in (
+            ("", "<r></r>\n"),
+            ("(a)", "<r>a</r>\n"),
+            ("(a) (b)", "<r>\n  <a></a>\n  <b></b>\n</r>\n"),
+            ("(1) (b)", "<r>1<b></b>\n</r>\n"),
+            ("(b (2)) (1)", "<r>\n  <b>2</b>1</r>\n"),
+            ("(1 (b))", "1 is the root or has nodes below it"),
+            ("(1) (2)", "1 and 2 are neighbours"),
+            ("(b) (.x) (-y)", ".x and -y are neighbours"),
+        ):
+            session = library.session(records=16)
+            parts = re.findall(r"\([^() ]+(?: \([^()]+\))?\)", tree)
+            lines = [*EDITOR, "(root r)", *(f"(child {part})" for part in parts)]
+            run_lines(session, split_lines("tree", text_of(lines).encode()))
+            if told.startswith("<"):
+                self.assertEqual(export_document(session).decode(), told)
+            else:
+                with self.assertRaisesRegex(InputError, "the tree has no document: " + re.escape(told)):
+                    export_document(session)
+
+    def test_random_documents(self):
+        rand, made = random.Random(20261117), 0
+        for _ in range(200):
+            nodes = [Node(0, "r")]
+            for _ in range(rand.randint(0, 40)):
+                nodes.append(Node(rand.randint(1, min(nodes[-1].level + 1, 11)), rand.choice(["a", "b.c", "_-", "7"])))
+            ends = [*(node.level for node in nodes[1:]), 0]
+            texts = [(node, node.label == "7") for node in nodes]
+            bad = any(no_name and end > node.level for (node, no_name), end in zip(texts, ends))
+            bad |= any(
+                one and two and before.level == node.level for (before, one), (node, two) in zip(texts, texts[1:])
+            )
+            table = b"".join(bytes([level, len(label)]) + label.encode().ljust(30, b"\0") for level, label in nodes)
+            state = self.loaded(b"<r/>").state
+            session = Session(library, state, (len(nodes).to_bytes(4, "little") + table).ljust(4 + 32 * 64, b"\0"))
+            self.assertTrue(session.is_store())
+            if bad:
+                self.assertRaises(InputError, export_document, session)
+            else:
+                made += 1
+                self.assertEqual(self.loaded(export_document(session)).table, session.table)
+        self.assertGreater(made, 20)
+        self.assertLess(made, 180)
 
     def test_random_trees(self):
         rand = random.Random(20261116)

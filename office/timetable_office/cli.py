@@ -16,7 +16,7 @@ from timetable_office.completions import SHELLS, PrintCompletions
 from timetable_office.decisions import Decider
 from timetable_office.documents import Document, RefusedDocument, load_document
 from timetable_office.errors import DONE, INTERRUPTED, NOT_TAKEN, InputError, LibraryError, OfficeError, OutputError
-from timetable_office.export import export_lines, policy_lines
+from timetable_office.export import export_document, export_lines, policy_lines
 from timetable_office.formats import LOG_FORMATS, VIEW_FORMATS
 from timetable_office.layout import load_library
 from timetable_office.library import LIBRARY_VARIABLE, RECORDS_MAXIMUM
@@ -36,7 +36,7 @@ _PROGRESS_STEP = 100
 _CLEAR_LINE, _RED, _PLAIN = "\r\x1b[K", "\x1b[31m", "\x1b[0m"
 _STATUS = """exit status:
   0  everything was done
-  1  a line or a document was refused, or a name is unknown; the store is as it was, but for `run --keep-going`
+  1  a line or a document was refused, or a name is unknown; the store is as it was, except with `run --keep-going`
      (for `check`: something was found)
   2  the command line is wrong
   3  the store, the library or a file cannot be used; the store is as it was
@@ -261,10 +261,13 @@ def log(options: argparse.Namespace) -> int:
 
 
 def export(options: argparse.Namespace) -> int:
-    """Prints the lines that give the store's policy and tree."""
+    """Prints the lines that give the store's policy and tree, or the document that gives its tree."""
     library = load_library(options.library)
     with Store(options.store, options.wait) as store:
         session = store.session(library)
+    if options.xml:
+        put(export_document(session))
+        return DONE
     lines = policy_lines(session) if options.policy else export_lines(session)
     put(b"".join(line + b"\n" for line in lines))
     return DONE
@@ -469,9 +472,12 @@ def make_parser() -> argparse.ArgumentParser:
         "export",
         export,
         "print lines that give this store again",
-        "Prints lines that give the policy and the tree of a store. They are tried on an empty store first.",
+        "Prints lines that give the policy and the tree of a store, or a document that gives its tree to `load`.\n"
+        "They are tried on an empty store first.",
     )
-    made.add_argument("--policy", action="store_true", help="the policy alone, for `policy` to read when it is edited")
+    part = made.add_mutually_exclusive_group()
+    part.add_argument("--policy", action="store_true", help="the policy alone, for `policy` to read when it is edited")
+    part.add_argument("--xml", action="store_true", help="the tree alone, as a document for `load`, however large")
 
     made = command(
         "check",

@@ -1,17 +1,21 @@
-"""The lines that give a policy and a tree.
+"""The lines that give a policy and a tree, and the document that gives a tree.
 
 A `child` line gives a whole tree below the root, so by child lines alone a tree below the root has to fit 1,024 bytes.
 A larger one is given with its first nodes, in document order, and the others are added by `append` lines. Those need a
 login: a subject of this very policy who sees all that stands before and has insert where nodes are added. Without one
 nothing is exported, and the part that is too large is told.
 
-The lines are given to an empty store before they are shown, and have to leave the same policy and the same table.
+A document has no such limit: `load` takes it where the policy has been given by its lines. A tree has one if its root
+and every node with nodes below it can be the name of an element, and no two neighbours both have to be texts.
+
+Lines and document are given to an empty store before they are shown, and have to leave the same policy and table.
 """
 
 from __future__ import annotations
 
 from bisect import bisect_right
 from typing import Iterator, Sequence
+from xml.etree import ElementTree
 
 from timetable_office.errors import InputError
 from timetable_office.library import LINE_MAXIMUM, Refused, Session
@@ -19,8 +23,11 @@ from timetable_office.lines import Lines, split_lines
 from timetable_office.runs import run_lines
 from timetable_office.state import Stage, policy_part, read_policy, stage_of
 from timetable_office.tree import Node, read_table, subtree_end, tree_text
+from timetable_office.views import NO_TREE
 
 _ONE_DONE = b"(done 1 1)\n"
+# What the name of an element does not begin with; any other label is a name too.
+_NO_NAME = tuple("0123456789-.")
 
 
 def policy_lines(session: Session) -> list[bytes]:
@@ -45,6 +52,53 @@ def export_lines(session: Session) -> list[bytes]:
             lines += _append_lines(session, lines, nodes, left)
     _check(session, lines)
     return lines
+
+
+def export_document(session: Session) -> bytes:
+    """The document that gives the tree of a store, checked by the library."""
+    nodes = read_table(session.table)
+    if not nodes:
+        raise InputError(NO_TREE)
+    root = _element(nodes)
+    ElementTree.indent(root)
+    document = ElementTree.tostring(root, encoding="us-ascii", short_empty_elements=False) + b"\n"
+    made = session.library.session(records=session.records)
+    run_lines(made, _listed(policy_lines(session)))
+    made.load_xml(document)
+    if policy_part(made.state) != policy_part(session.state) or made.table != session.table:
+        raise InputError("the document of this tree does not give the same tree again; nothing is exported")
+    return document
+
+
+def _element(nodes: Sequence[Node]) -> ElementTree.Element:
+    """The root element. A node without children is a text if it is alone below its parent, or can be no name."""
+    above: list[ElementTree.Element] = []
+    for place, node in enumerate(nodes):
+        end = place + 1 == len(nodes) or nodes[place + 1].level < node.level
+        leaf = end or nodes[place + 1].level == node.level
+        named = not node.label.startswith(_NO_NAME)
+        del above[node.level :]
+        if node.level > 0 and leaf and (not named or (end and nodes[place - 1].level < node.level)):
+            _add_text(above[-1], node.label)
+        elif named:
+            made = ElementTree.SubElement(above[-1], node.label) if above else ElementTree.Element(node.label)
+            above.append(made)
+        else:
+            raise InputError(
+                f"the tree has no document: {node.label} is the root or has nodes below it, and the name of an element "
+                "does not begin with a digit, hyphen or full stop"
+            )
+    return above[0]
+
+
+def _add_text(parent: ElementTree.Element, label: str) -> None:
+    before = (parent[-1].tail if len(parent) else parent.text) or ""
+    if before:
+        raise InputError(f"the tree has no document: {before} and {label} are neighbours and both have to be texts")
+    if len(parent):
+        parent[-1].tail = label
+    else:
+        parent.text = label
 
 
 def _listed(lines: Sequence[bytes]) -> Lines:
@@ -141,8 +195,8 @@ def _too_large(nodes: Sequence[Node], places: range) -> str:
     return (
         f"the tree is not exported: {parts[-1]}, number {len(parts)} below the root, does not fit a child line of "
         f"{LINE_MAXIMUM:,} bytes. The rest of it would be added by append lines, but no subject of this policy sees "
-        "all that stands before it and has insert where nodes are to be added. `export --policy` gives the policy "
-        "alone; a copy of the store's file keeps both."
+        "all that stands before it and has insert where nodes are to be added. `export --policy` gives the policy, and "
+        "`export --xml` a document for `load`, which gives the tree; a copy of the store's file keeps both."
     )
 
 
