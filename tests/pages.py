@@ -43,12 +43,16 @@ ROOT = timetable.ROOT
 OFFICE = os.path.join(ROOT, "office")
 sys.path.insert(0, OFFICE)
 from timetable_office import cli, publish  # noqa: E402
+from timetable_office.decisions import Decider  # noqa: E402
 from timetable_office.errors import OutputError  # noqa: E402
 from timetable_office.library import Library  # noqa: E402
+from timetable_office.maps import Foot, map_page  # noqa: E402
 from timetable_office.pages import Publication, Row, index, lesson_level, page, view_html  # noqa: E402
+from timetable_office.places import node_paths  # noqa: E402
 from timetable_office.publish import file_stem, publish_views  # noqa: E402
+from timetable_office.state import read_policy  # noqa: E402
 from timetable_office.store import Store  # noqa: E402
-from timetable_office.tree import RESTRICTED, Node, read_view  # noqa: E402
+from timetable_office.tree import RESTRICTED, Node, read_table, read_view  # noqa: E402
 from timetable_office.views import view_of  # noqa: E402
 
 ARCHIVE = os.path.join(ROOT, "target", "staticlib", "liblouvretansy.a")
@@ -201,7 +205,7 @@ class Pages(unittest.TestCase):
             (3, "(school (mon (p1 (lesson (class (10B)))) (p2)) (tue))"),
             (2, "(school (mon (lesson (class (10B) (10C)) (note)) (lesson)))"),
             (2, "(a (b (c (d (e)))))"),
-            (3, "(school (mon (p1 (R12 (10B) (lesson (class (10B) (x)) (note)))) (p2)) (tue (p1) (p2 (R3 (a (b (c)))))))"),
+            (3, "(school (mon (p1 (R12 (10B) (lesson (class (10B) (x)) (n)))) (p2)) (tue (p1) (p2 (R3 (a (b (c)))))))"),
             (3, "(school (mon (p1 (R12 (10B-maths))) (p2)) (tue (p1) (p2)))"),
             (None, "(school (mon (p1 (R12)) (p2)) (tue (p1) (p2)))"),
             (None, "(school (mon (p1 (R12 (10B) (lesson (class (10B))))) (p2)) (tue (p2) (p1)))"),
@@ -893,9 +897,67 @@ class InTheBrowser(unittest.TestCase):
         self.browser.ask("Emulation.setEmulatedMedia", media="")
         self.assertEqual(" ".join(shown), "Timetable for SHA 7A: 40 of 40 lessons")
 
+    def maps(self):
+        """Sessions with a tree, each with the page of its map: the example, a solver's week, and 64 readers."""
+        lines = ["(subject web)", *POLICY, "(rule accept read //* web)", "(rule deny read //lesson web)"]
+        loaded = store_of(lines, 8192)
+        loaded.load_xml(week.document_of(week.week()))
+        many = store_of([*(f"(subject reader-{number})" for number in range(62)), *EXAMPLE])
+        for name, session in (("example", store_of(EXAMPLE)), ("solver", loaded), ("many", many)):
+            decider = Decider(session)
+            foot = Foot("school", "2026-11-16 07:05 UTC", MARK)
+            yield name, session, map_page(decider, decider.decide_all(), foot)
+
+    def test_the_map(self):
+        """What is seen of each row gives every reader's view; the filter and a click on a cell do what they say."""
+        for name, session, text in self.maps():
+            path = Path(self.folder, "map.html")
+            path.write_text(text)
+            nodes = read_table(session.table)
+            readers = read_policy(session.state).subjects
+            for width, height in ((1280, 900), (390, 844)):
+                self.browser.open(path, width, height)
+                self.assertEqual(self.browser.complaints(), ([], []))
+                self.assertLessEqual(self.browser.run("document.documentElement.scrollWidth"), width, name)
+                rows = self.browser.run("[...document.querySelectorAll('tbody tr')].map((row) => row.innerText)")
+                labels, cells = zip(*(row.split("\t") for row in rows))
+                self.assertEqual([label.strip() for label in labels], [node.label for node in nodes])
+                for number, reader in enumerate(readers):
+                    letters = [cell[number * len(cell) // len(readers) + 1] for cell in cells]
+                    seen = [
+                        node if letter == "R" else Node(node.level, RESTRICTED)
+                        for node, letter in zip(nodes, letters)
+                        if letter in "RP"
+                    ]
+                    self.assertEqual(seen, read_view(view_of(session, reader)), reader)
+                self.browser.picture(f"map-{name}-{width}.png")
+                self.click("tbody tr:last-child i:last-child")
+                told = self.browser.run("document.getElementById('told').innerText").splitlines()
+                self.assertEqual(told[0], f"{readers[-1]} on {node_paths(nodes)[-1]}")
+                self.assertRegex(told[2], "^  read      (yes|no )  (no rule|rule [0-9]+: )")
+                self.browser.run("document.getElementById('filter').focus()")
+                self.browser.ask("Input.insertText", text="mon NOTE")
+                shown = "[...document.querySelectorAll('tbody tr')].filter((row) => row.offsetHeight > 0).length"
+                found = [path for path in node_paths(nodes) if "mon" in path and "note" in path]
+                above = {path.rsplit("/", up)[0] for path in found for up in range(path.count("/"))}
+                self.assertEqual(self.browser.run(shown), len(above), name)
+                said = f"{len(found)} of {len(nodes)} nodes"
+                self.assertEqual(self.browser.run("document.getElementById('count').innerText"), said)
+                self.assertEqual(self.browser.complaints(), ([], []))
+
+    def click(self, selector):
+        """Clicks on the last letter of the element."""
+        script = f"document.querySelector('{selector}').scrollIntoView({{block: 'center'}})"
+        self.browser.run(script)
+        box = self.browser.run(f"document.querySelector('{selector}').getBoundingClientRect().toJSON()")
+        place = {"x": box["right"] - 4, "y": (box["top"] + box["bottom"]) / 2, "button": "left", "clickCount": 1}
+        for kind in ("mousePressed", "mouseReleased"):
+            self.browser.ask("Input.dispatchMouseEvent", type=kind, **place)
+
     def test_valid(self):
         """tidy has nothing to say."""
         texts = [page("SHA", nodes, MARK, PUBLICATION) for _, nodes in self.samples()]
+        texts += [text for _, _, text in self.maps()]
         texts += [page("SHA", [], MARK), index([Row("a", "view-a.html", "view-a.csv", "view-a.json")], PUBLICATION)]
         for text in texts:
             run = subprocess.run(["tidy", "-q", "-e"], input=text.encode(), capture_output=True, timeout=SECONDS)
