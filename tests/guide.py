@@ -6,8 +6,8 @@ A block of `lines` is given to PROGRAM, and the block of `answers` after it is w
 answered otherwise is left out there. A block of `xml` is loaded, and must leave what the lines of the block of `matching` after it leave; without such a block it
 is a file of examples/. Blocks of `sh` and indented blocks are commands, each block a script that is run from the top folder and must succeed; what it exports
 holds in the later blocks of its page, and what it prints ends with the block of `answers` after it, if there is one. Lines of it that are the test command,
-which is running, are left out. A block of any other kind is a failure. In the table of refusals the example of row N must be refused with N, and so must a
-document in any other table. Documents and rows 12 to 14 need the library, and stay out without it. Ends with `N passed, M failed`.
+which is running, are left out. A block of any other kind is a failure. In the list of refusals the example of item N must be refused with N, and so must a
+document in a table. Documents and items 12 to 14 need the library, and stay out without it. Ends with `N passed, M failed`.
 """
 
 import argparse
@@ -185,8 +185,8 @@ def check_documents(page, text, shared):
 
 
 def check_refusals(page, text, program, shared):
-    """Rows `| N | .. | `line` |` of the table of refusals. Says whether there is one."""
-    rows = re.findall(r"^\| (\d+) \|.*\| `([^`]*)`[^|]*\|$", text, re.M)
+    """Items `- **N** ..; for example `line` ..` of the list of refusals. Says whether there is one."""
+    rows = re.findall(r"^- \*\*(\d+)\*\* .*; for example `([^`]*)`[^`]*$", text.replace("\n  ", " "), re.M)
     for number, line in rows:
         number = int(number)
         name = f"{page}: refusal {number}: {line}"
@@ -197,7 +197,7 @@ def check_refusals(page, text, program, shared):
         elif shared is not None:
             report(name, call_library(shared, BEFORE[number], line, **LIBRARY_ONLY[number]) == -number)
     if rows:
-        report(f"{page}: every refusal has a row", [int(number) for number, _ in rows] == sorted(BEFORE))
+        report(f"{page}: every refusal has an item", [int(number) for number, _ in rows] == sorted(BEFORE))
     return bool(rows)
 
 
@@ -209,15 +209,15 @@ def main():
     options = parser.parse_args()
     program = os.path.abspath(options.program)
     shared = options.library and os.path.abspath(options.library)
-    tables = 0
+    lists = 0
     for page in PAGES:
         if os.path.exists(os.path.join(ROOT, page)):
             text = check_page(page, program, options.lines_only, shared)
-            tables += check_refusals(page, text, program, shared)
+            lists += check_refusals(page, text, program, shared)
             if shared is not None:
                 check_documents(page, text, shared)
     check_man_page(program)
-    report("there is one table of refusals", tables == 1)
+    report("there is one list of refusals", lists == 1)
     print(f"{counts[True]} passed, {counts[False]} failed")
     sys.exit(1 if counts[False] else 0)
 

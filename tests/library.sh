@@ -144,7 +144,8 @@ stack_as_told() {
 }
 
 texts_as_told() {
-    sed -nE 's/^\| ([0-9]+) \| (.*) \| `.*$/\1 \2/p' "$root/README.md" | sed 's/ (library alone)$//' > "$work/told"
+    sed -E ':join; N; $!b join; s/\n  / /g' "$root/README.md" |
+        sed -nE 's/^- \*\*([0-9]+)\*\* (.*); for example `.*$/\1 \2/p' | sed 's/ (library alone)$//' > "$work/told"
     "$work/library" refusals > "$work/texts" && diff "$work/told" "$work/texts"
 }
 

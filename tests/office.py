@@ -367,7 +367,8 @@ class Refusals(Office):
         self.assertEqual(texts, [refusal[1:] for refusal in refusals.TABLE])
 
     def test_readme(self):
-        rows = re.findall(r"^\| (\d+) \| (.*?)(?: \(library alone\))? \| `", read_page("README.md"), re.M)
+        page = read_page("README.md").replace("\n  ", " ")
+        rows = re.findall(r"^- \*\*(\d+)\*\* (.*?)(?: \(library alone\))?; for example `", page, re.M)
         self.assertEqual(
             [(int(number), text) for number, text in rows], [(one.number, one.reason) for one in refusals.TABLE]
         )

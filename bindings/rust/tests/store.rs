@@ -33,13 +33,11 @@ fn page(name: &str) -> String {
 
 #[test]
 fn refusals_have_the_numbers_and_reasons_of_the_readme() {
-    let readme = page("README.md");
+    let readme = page("README.md").replace("\n  ", " ");
     let mut rows = readme.lines().filter_map(|row| {
-        let mut cells = row.strip_prefix("| ")?.split(" | ");
-        let number = cells.next()?.parse::<u64>().ok()?;
-        let reason = cells.next()?;
-        cells.next()?.strip_prefix('`')?;
-        Some((number, reason.strip_suffix(" (library alone)").unwrap_or(reason)))
+        let (number, rest) = row.strip_prefix("- **")?.split_once("** ")?;
+        let (reason, _) = rest.split_once("; for example `")?;
+        Some((number.parse::<u64>().ok()?, reason.strip_suffix(" (library alone)").unwrap_or(reason)))
     });
     for &refusal in Refusal::ALL {
         assert_eq!(Some((refusal.number(), refusal.reason())), rows.next());
