@@ -391,8 +391,7 @@ class Readme(Office):
         """Files, console sessions with what they print, and Python; each block of another kind is an error."""
         page = read_page("office/README.md")
         self.assertLessEqual(max(map(len, page.split("\n"))), COLUMNS)
-        self.write("timetable-office", f'#!/bin/sh\nexec {shlex.quote(sys.executable)} -S -m timetable_office "$@"\n')
-        os.chmod(self.path("timetable-office"), 0o700)
+        self.make_command()
         seen = set()
         for kind, content in re.findall(r"^```(\S+)\n(.*?)^```$", page, re.M | re.S):
             seen.add(kind)
@@ -405,6 +404,25 @@ class Readme(Office):
                 self.assertEqual(kind, "python")
                 exec(content, {})
         self.assertEqual(seen, {"school.lines", "week.xml", "console", "python"})
+
+    def test_the_examples_of_the_man_page(self):
+        """Every command is done, with the policy and the file of examples/, and the last ones give the store again."""
+        self.make_command()
+        for name in ("policy.lines", "week.xml"):
+            self.write(name, read_page(f"examples/{name}"))
+        page = read_page("office/timetable-office.1").replace("\\-", "-")
+        examples = re.findall(r"^\.EX\n(.*?)^\.EE$", page, re.M | re.S)
+        self.assertEqual(len(examples), 3)
+        for command in "".join(examples).splitlines():
+            printed = self.shell(f"{command}; echo status $?")
+            self.assertEqual(printed.splitlines()[-1], "status 0", printed)
+        self.assertIn("view-SHA~7.html", os.listdir(self.path("www")))
+        self.assertEqual(self.office("export", "again"), self.office("export", "school"))
+
+    def make_command(self):
+        """The installed command, for what `shell` runs."""
+        self.write("timetable-office", f'#!/bin/sh\nexec {shlex.quote(sys.executable)} -S -m timetable_office "$@"\n')
+        os.chmod(self.path("timetable-office"), 0o700)
 
     def shell(self, command):
         """What a command prints, on both streams."""
