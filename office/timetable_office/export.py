@@ -61,7 +61,7 @@ def export_document(session: Session) -> bytes:
         raise InputError(NO_TREE)
     root = _element(nodes)
     ElementTree.indent(root)
-    document = ElementTree.tostring(root, encoding="us-ascii", short_empty_elements=False) + b"\n"
+    document = ElementTree.tostring(root, short_empty_elements=False) + b"\n"
     made = session.library.session(records=session.records)
     run_lines(made, _listed(policy_lines(session)))
     made.load_xml(document)
