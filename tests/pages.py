@@ -810,6 +810,9 @@ class InTheBrowser(unittest.TestCase):
         yield "root", [Node(0, "school")]
         yield "long", [Node(node.level, "W" * 24) for node in week_nodes(2)]
         yield "deep", [Node(level, "W" * 24) for level in range(12)]
+        chain = [Node(level, "W" * 24) for level in range(3, 12)]
+        days = [[Node(1, day), Node(2, "p" * 24), *chain, *chain, Node(2, "q")] for day in ("D" * 24, "E" * 24)]
+        yield "deep-week", [Node(0, "school"), *days[0], *days[1]]
 
     def test_what_is_seen(self):
         """On a desk and on a phone: the words are those of the view, nothing is cut off, and nothing is asked for."""
