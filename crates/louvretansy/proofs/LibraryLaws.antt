@@ -13,10 +13,10 @@ use mir.Val.{SFits, toZ, ofZ}
 use Rattle.lines.specs.declared.line.Answer.{Answer}
 use Rattle.lines.specs.declared.line.Answer.the-variants.{Accepted, Refused}
 use Rattle.lines.specs.State.{storeOk}
-use Rattle.lines.specs.Outcome.{Reply, says, refuses, Outcome, Made, answerOf}
+use Rattle.lines.specs.Outcome.{Outcome, Made}
 use Rattle.lines.proofs.OutcomeLaws.{accepted-within}
 use Rattle.lines.proofs.StateLaws.{store-held}
-use Rattle.louvretansy.specs.Library.{stateBytes, returnValue, Returned, returnedFor, Short}
+use Rattle.louvretansy.specs.Library.{stateBytes, returnValue, Returned, Short}
 
 -- a length that fits an area is one that 64 bits with a sign hold
 pub length-fits : {n : ℕ} → n < 2 ^ 63 → SFits w64 (pos n)
@@ -54,12 +54,8 @@ module _ {o : Outcome} {before s' t' after : List ℕ} {r : Answer} (m : Made o 
       go (Accepted n) e = omega (arith, accepted-within m e, h)
       go (Refused n) e = tt
 
-  pub returned-for : {z : ℤ} → SFits w64 z → z ≡ returnedFor r → Returned o before (toZ w64 (ofZ w64 z)) s' t' after
-  returned-for f e = record { number = toZ-ofZ f ∙ e ∙ ap returnedFor (m .answer) ∙ go (o .reply); state = m .state; table = m .table; area = m .area }
-    where
-      go : (p : Reply) → returnedFor (answerOf p) ≡ returnValue p
-      go (says b) = refl
-      go (refuses k) = refl
+  pub returned-for : {z : ℤ} → SFits w64 z → z ≡ returnValue r → Returned o before (toZ w64 (ofZ w64 z)) s' t' after
+  returned-for f e = record { number = toZ-ofZ f ∙ e ∙ ap returnValue (m .answer); state = m .state; table = m .table; area = m .area }
 
 -- 13 lets a state of these bytes alone pass
 pub store-bytes : (s t : List ℕ) → storeOk s t ≡ true → length s ≡ stateBytes

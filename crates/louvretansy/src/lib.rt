@@ -7,7 +7,7 @@ ghost use lib.IntN.{pos, negℤ};
 ghost use lib.ListN.{length};
 ghost use Rattle.store.specs.Line.{step};
 ghost use Rattle.store.specs.LoadXml.{loadXml};
-ghost use Rattle.louvretansy.specs.Library.{stateBytes, Returned, Short, returnedFor};
+ghost use Rattle.louvretansy.specs.Library.{stateBytes, returnValue, Short, Returned};
 
 // Minus the number of a refusal.
 fn refused(number: u8) -> i64
@@ -19,7 +19,7 @@ fn refused(number: u8) -> i64
 // What is returned for an answer: its length, or minus the number of the refusal.
 fn returned(answer: Answer) -> i64
     requires { ⌜ Short answer ⌝ }
-    ensures { λ r. ⌜ r ≡ returnedFor answer ⌝ }
+    ensures { λ r. ⌜ r ≡ returnValue answer ⌝ }
 {
     match answer {
         Answer::Accepted(n) => n as i64,
