@@ -99,6 +99,24 @@ def make_library(folder, archive):
     return path
 
 
+def in_this_process(folder, words, given=b""):
+    """Runs a command of the companion from a folder: its status, its standard output and its standard error."""
+    streams = [io.TextIOWrapper(io.BytesIO(data)) for data in (given, b"", b"")]
+    saved = sys.stdin, sys.stdout, sys.stderr, os.getcwd()
+    sys.stdin, sys.stdout, sys.stderr = streams
+    os.chdir(folder)
+    try:
+        status = cli.main(words)
+    except SystemExit as ended:
+        status = ended.code
+    finally:
+        sys.stdin, sys.stdout, sys.stderr = saved[:3]
+        os.chdir(saved[3])
+    for stream in streams[1:]:
+        stream.flush()
+    return status, streams[1].buffer.getvalue().decode(), streams[2].buffer.getvalue().decode()
+
+
 class Office(unittest.TestCase):
     """A folder of its own for each test, and the command run in it."""
 
@@ -128,7 +146,7 @@ class Office(unittest.TestCase):
         return {name: value for name, value in environment.items() if value is not None}
 
     def in_a_process(self, words, given=b"", before=(), environment=None, **more):
-        """Runs a command in a process of its own: its status, its standard output and its standard error."""
+        """The same in a process of its own."""
         if "stdout" not in more:
             more["stdout"] = subprocess.PIPE
         environment = self.environment(**(environment or {}))
@@ -143,30 +161,13 @@ class Office(unittest.TestCase):
         )
         return run.returncode, (run.stdout or b"").decode(), run.stderr.decode()
 
-    def in_this_process(self, words, given=b""):
-        """The same, quicker."""
-        streams = [io.TextIOWrapper(io.BytesIO(data)) for data in (given, b"", b"")]
-        saved = sys.stdin, sys.stdout, sys.stderr, os.getcwd()
-        sys.stdin, sys.stdout, sys.stderr = streams
-        os.chdir(self.folder)
-        try:
-            status = cli.main(words)
-        except SystemExit as ended:
-            status = ended.code
-        finally:
-            sys.stdin, sys.stdout, sys.stderr = saved[:3]
-            os.chdir(saved[3])
-        for stream in streams[1:]:
-            stream.flush()
-        return status, streams[1].buffer.getvalue().decode(), streams[2].buffer.getvalue().decode()
-
     def office(self, *words, given="", status=0, says="", process=False, **more):
         """Runs a command: its status and what it says on standard error are as wanted. Returns what it prints."""
         if isinstance(given, list):
             given = text_of(given)
         given = given.encode() if isinstance(given, str) else given
         ended, printed, self.errors = (
-            self.in_a_process(words, given, **more) if process or more else self.in_this_process(words, given)
+            self.in_a_process(words, given, **more) if process or more else in_this_process(self.folder, words, given)
         )
         self.assertEqual(ended, status, self.errors)
         self.assertNotIn("Traceback", self.errors)
@@ -1405,8 +1406,8 @@ class Faults(Office):
             for offset in range(min(8, len(bad) - place)):
                 bad[place + offset] ^= rand.randrange(1, 256)
             self.write("store", bytes(bad))
-            status, printed, errors = self.in_this_process(["show", "store", "--as", "SHA"])
-            again, _, other_errors = self.in_this_process(["run", "-q", "store"], b"(child (tue))\n")
+            status, printed, errors = in_this_process(self.folder, ["show", "store", "--as", "SHA"])
+            again, _, other_errors = in_this_process(self.folder, ["run", "-q", "store"], b"(child (tue))\n")
             self.assertEqual(again, status, other_errors)
             if status == 0:
                 self.assertEqual(printed, OUTLINE)
@@ -1561,7 +1562,7 @@ class Faults(Office):
                 for free in range(0, 1000, 8):
                     self.leave_free(free)
                     before = self.files()
-                    status, _, errors = self.in_this_process(words, given)
+                    status, _, errors = in_this_process(self.folder, words, given)
                     if status == 0:
                         break
                     self.assertEqual((status, self.files()), (3, before), errors)

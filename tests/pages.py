@@ -38,11 +38,9 @@ from unittest import mock
 sys.path.insert(0, os.path.dirname(os.path.abspath(__file__)))
 import timetable  # noqa: E402
 import week  # noqa: E402
+from office import ARCHIVE, COLUMNS, OFFICE, SECONDS, in_this_process, make_library  # noqa: E402
 
-ROOT = timetable.ROOT
-OFFICE = os.path.join(ROOT, "office")
-sys.path.insert(0, OFFICE)
-from timetable_office import cli, publish  # noqa: E402
+from timetable_office import publish  # noqa: E402
 from timetable_office.decisions import Decider  # noqa: E402
 from timetable_office.errors import OutputError  # noqa: E402
 from timetable_office.library import Library  # noqa: E402
@@ -55,10 +53,7 @@ from timetable_office.store import Store  # noqa: E402
 from timetable_office.tree import RESTRICTED, Node, read_table, read_view  # noqa: E402
 from timetable_office.views import view_of  # noqa: E402
 
-ARCHIVE = os.path.join(ROOT, "target", "staticlib", "liblouvretansy.a")
 KILLS = 40
-COLUMNS = 120
-SECONDS = 60
 POLICY = timetable.EXAMPLE[:7]
 EXAMPLE = timetable.EXAMPLE[:9]
 PUBLICATION = Publication(datetime(2026, 11, 16, 7, 5, 9), "0123456789ab")
@@ -357,23 +352,10 @@ class Publishing(unittest.TestCase):
 
     def office(self, *words, given="", status=0, says=""):
         """Runs a command in this process, from the test's own folder."""
-        streams = [io.TextIOWrapper(io.BytesIO(data)) for data in (given.encode(), b"", b"")]
-        saved = sys.stdin, sys.stdout, sys.stderr, os.getcwd()
-        sys.stdin, sys.stdout, sys.stderr = streams
-        os.chdir(self.folder)
-        try:
-            ended = cli.main(words)
-        except SystemExit as left:
-            ended = left.code
-        finally:
-            sys.stdin, sys.stdout, sys.stderr = saved[:3]
-            os.chdir(saved[3])
-        for stream in streams[1:]:
-            stream.flush()
-        errors = streams[2].buffer.getvalue().decode()
+        ended, printed, errors = in_this_process(self.folder, words, given.encode())
         self.assertEqual(ended, status, errors)
         self.assertIn(says, errors)
-        return streams[1].buffer.getvalue().decode()
+        return printed
 
     def store(self, lines=EXAMPLE):
         self.office("new", "store", "--records", "64")
@@ -986,10 +968,7 @@ def main():
     parts = [Pages, Publishing] + ([InTheBrowser] if options.browser else [])
     tests = unittest.TestSuite(unittest.defaultTestLoader.loadTestsFromTestCase(part) for part in parts)
     with tempfile.TemporaryDirectory() as folder:
-        path = os.path.join(folder, "liblouvretansy.so")
-        words = ["gcc", "-shared", "-o", path, "-Wl,--whole-archive", options.archive, "-Wl,--no-whole-archive"]
-        subprocess.run(words, check=True)
-        os.environ["TIMETABLE_LIBRARY"] = path
+        path = os.environ["TIMETABLE_LIBRARY"] = make_library(folder, os.path.abspath(options.archive))
         library = Library(path)
         done = unittest.TextTestRunner(verbosity=1).run(tests)
     sys.exit(0 if done.wasSuccessful() else 1)
