@@ -1,5 +1,5 @@
 -- A form's reader, turn by turn, as the code goes through it. Assumes nothing.
-use Prim.Native.Nat.{ℕ, zero, suc, _+_, _-_, _≤_, _<_}
+use Prim.Native.Nat.{ℕ, zero, suc, _+_, _-_, _^_, _≤_, _<_}
 use mathlib.Core.Path.{_≡_, refl, sym, ap, subst, _∙_}
 use mathlib.Core.List.{List, [], _∷_, _++_, map, append-assoc}
 use mathlib.Core.Bool.{true, false}
@@ -19,20 +19,19 @@ use Rattle.forms.specs.declared.layout.Word.{Word}
 use Rattle.forms.specs.declared.layout.Word.the-variants as word
 use Rattle.forms.specs.declared.layout.Layout.{Layout}
 use Rattle.forms.specs.declared.reader.Progress.{Progress}
-use Rattle.forms.specs.declared.form.Form.the-variants.{NoForm}
-use Rattle.forms.specs.Layout.{words, shapeOf, wordAt}
+use Rattle.forms.specs.Layout.{words, stageOf, shapeOf, wordAt}
 use Rattle.forms.specs.How.Codes.{LaidOut, codesOf, byNumber, textNumberAt, endBy, saysBy, areaBy}
 use Rattle.forms.specs.Part.{runEnd}
 use Rattle.forms.specs.Kind.{Kind, Label, Path, Tree, Sign, Right, codeOf, partEnd}
 use Rattle.forms.specs.Word.{rights, rightAt, labelBytesAt}
-use Rattle.forms.specs.Form.{Places, are, none, _onTo_, closesLine, partsOf, placeIn, treePlace, nodesAt, formWith, endsIn, readForm}
-use Rattle.forms.specs.How.Reader.{stoppedAt, heldTo, Reading, Whole, Came, Begun, Moves, areaAfter, areaIn, areaFrom, formSaid}
+use Rattle.forms.specs.Form.{Places, are, none, _onTo_, closesLine, partsOf, placeIn, noForm, endsIn, readForm}
+use Rattle.forms.specs.How.Reader.{stoppedAt, heldTo, Reading, Whole, Came, Begun, Moves, areaAfter, areaIn, areaFrom, FormRead}
 use Rattle.forms.proofs.WordLaws.{among-is, numbered-among}
 
 -- A word with its kinds
 
-pub laid-out : (w : Word) → length (codesOf (shapeOf w)) ≡ 5 → LaidOut w (record { word = w; kinds = codesOf (shapeOf w) })
-laid-out w e = record { word = refl; kinds = refl; size = e }
+pub laid-out : (w : Word) → length (codesOf (shapeOf w)) ≡ 5 → LaidOut w (record { word = w; stage = stageOf w; kinds = codesOf (shapeOf w) })
+laid-out w e = record { word = refl; stage = refl; kinds = refl; size = e }
 
 pub laid-at : {w v : Word} {l : Layout} → w ≡ v → LaidOut w l → LaidOut v l
 laid-at e h = rw (← e) h
@@ -152,7 +151,8 @@ module _ (s : List ℕ) where
         count = λ _. refl;
         places = first;
         under = λ j. omega (arith, below j);
-        said = λ j k _. absurd (omega arith);
+        said = λ j k. absurd (omega arith);
+        unsaid = λ j _. zeros 4 j;
         five = refl;
         four = refl;
       });
@@ -181,7 +181,7 @@ module _ (s : List ℕ) (i : ℕ) (p : Progress) (g : p .good ≡ true) (w : Rea
 
   -- the shape is over: the reader stays
   pub next-over : code ≡ 0 → (a : List ℕ) → Came s (i + 1) p × Moves s i p a p a
-  unfolding areaAfter
+  unfolding areaAfter saysBy
   next-over h a =
       let z = kinds-over ks i (sym code-is ∙ h) in
       let y = drop-more ks i z in
@@ -194,7 +194,10 @@ module _ (s : List ℕ) (i : ℕ) (p : Progress) (g : p .good ≡ true) (w : Rea
           count = λ l. absurd (omega arith);
           places = w .places;
           under = w .under;
-          said = λ j _ k. w .said j (omega arith) k;
+          said = λ j l. byCase (eqb j i)
+              (λ b. let q = eqb-true j i b in rw (q, sym code-is ∙ h) (w .unsaid i (omega arith)))
+              (λ b. w .said j (omega (arith, eqb-false j i b)));
+          unsaid = λ j l. w .unsaid j (omega arith);
           five = w .five;
           four = w .four;
         })),
@@ -254,13 +257,14 @@ module _ (s : List ℕ) (i : ℕ) (p : Progress) (g : p .good ≡ true) (w : Rea
               count = λ _. omega arith;
               places = more-set (w .before ++ (p .at ∷ [])) (p .ends) (i + 1) e (omega arith) (omega arith) (w .places);
               under = set-under (p .ends) (i + 1) e (omega arith) (λ j. omega (arith, w .under j));
-              said = λ j x y. byCase (eqb j i)
+              said = λ j x. byCase (eqb j i)
                   (λ z.
                   let u = eqb-true j i z in
                   rw (u, getD-set-same (p .says) i v 0 (omega arith), getD-set-other (p .ends) (i + 1) i e 0 (λ y. omega arith), here, ← code-is) is)
                   (λ z.
                   let u = eqb-false j i z in
-                  rw (getD-set-other (p .says) i j v 0 u, getD-set-other (p .ends) (i + 1) j e 0 (λ y. omega arith)) (w .said j (byCase (leb i j) (λ t. absurd (u (omega (arith, leb-true i j t)))) (λ t. leb-false i j t)) y));
+                  rw (getD-set-other (p .says) i j v 0 u, getD-set-other (p .ends) (i + 1) j e 0 (λ y. omega arith)) (w .said j (byCase (leb i j) (λ t. absurd (u (omega (arith, leb-true i j t)))) (λ t. leb-false i j t))));
+              unsaid = λ j l. getD-set-other (p .says) i j v 0 (λ y. omega arith) ∙ w .unsaid j (omega arith);
               five = length-set (p .ends) (i + 1) e ∙ five;
               four = length-set (p .says) i v ∙ four;
             })),
@@ -303,52 +307,41 @@ module _ (s : List ℕ) (p : Progress) (g : p .good ≡ true) (w : Reading s 4 p
   unfolding areaAfter
   area-four a = rw (g, w .laid .word, over-four)
 
--- What the parts say makes the form
-
-pub form-said : (w : Word) (s : List ℕ) (e v : ℕ → ℕ) → ((j : ℕ) → j < length (shapeOf w) → v j ≡ saysBy (getD (codesOf (shapeOf w)) j 0) s (e j + 1))
-    → formSaid w e v ≡ formWith w s e (length (nodesAt s (treePlace (shapeOf w) 0 e)))
-unfolding saysBy treePlace
-form-said word.Subject s e v h = refl
-form-said word.Isa s e v h = refl
-form-said word.Rule s e v h = rw (h 0 (omega arith), h 1 (omega arith))
-form-said word.Root s e v h = refl
-form-said word.Child s e v h = rw (h 0 (omega arith))
-form-said word.User s e v h = refl
-form-said word.View s e v h = refl
-form-said word.Query s e v h = refl
-form-said word.Find s e v h = refl
-form-said word.Rename s e v h = refl
-form-said word.Update s e v h = refl
-form-said word.Append s e v h = rw (h 1 (omega arith))
-form-said word.Before s e v h = rw (h 1 (omega arith))
-form-said word.After s e v h = rw (h 1 (omega arith))
-form-said word.Remove s e v h = refl
-form-said word.Other s e v h = refl
-
 -- a right's bit is held in a byte
-right-small : (s : List ℕ) (at : ℕ) → rightAt s at < 256
+pub right-small : (s : List ℕ) (at : ℕ) → rightAt s at < 256
 unfolding rightAt
 right-small s at = among-is (λ (x : ℕ) _. x < 256) 0 rights (labelBytesAt s at) (omega arith, (omega arith, (omega arith, (omega arith, (omega arith, tt))))) (omega arith)
 
-module _ (s : List ℕ) (p : Progress) (w : Whole s p) where
-  word-is : p .layout .word ≡ wordAt s 1
-  word-is = w .laid .word
+-- The whole line was passed: what the reader hands on
+pub whole-read : (s : List ℕ) (p : Progress) → Whole s p → ((j : ℕ) → placeIn (p .ends) j + 1 < 2 ^ 64)
+    → FormRead s (record { word = p .layout .word; stage = p .layout .stage; ends = p .ends; says = p .says })
+unfolding readForm
+whole-read s p w small =
+    let word-is : p .layout .word ≡ wordAt s 1 = w .laid .word in
+    let f : placeIn (p .ends) ≡ placeIn (w .places) = λ t i. sym (w .same i) t in
+    record {
+      form = rw (w .read, f, word-is);
+      stage = w .laid .stage ∙ ap stageOf (sym word-is);
+      places = λ j. sym (w .same j) ∙ rw (w .read);
+      says = rw word-is (w .said);
+      ends = (w .five, small);
+      four = w .four;
+    }
 
-  says-are : (j : ℕ) → j < length (shapeOf (p .layout .word)) → getD (p .says) j 0 ≡ saysBy (getD (codesOf (shapeOf (p .layout .word))) j 0) s (placeIn (p .ends) j + 1)
-  says-are = rw word-is (λ j l. w .said j (omega (arith, few-kinds (shapeOf (wordAt s 1)) (sym (ap length (w .laid .kinds)) ∙ w .laid .size))) l)
+pub none-read : (s : List ℕ) → endsIn s ≡ none → FormRead s (record { word = word.Other; stage = 5; ends = replicate 5 0; says = replicate 4 0 })
+unfolding readForm saysBy
+none-read s e = record {
+  form = rw e;
+  stage = refl;
+  places = λ j. rw e (zeros 5 j);
+  says = λ j l. zeros 4 j ∙ sym (none-said j);
+  ends = (refl, λ j. omega (arith, zeros 5 j));
+  four = refl;
+}
+  where
+    none-said : (j : ℕ) → saysBy (getD (codesOf []) j 0) s (placeIn (replicate 5 0) j + 1) ≡ 0
+    none-said j = rw (zeros 5 j)
 
-  pub whole-form : formSaid (p .layout .word) (placeIn (p .ends)) (λ i. getD (p .says) i 0) ≡ readForm s
-  unfolding readForm
-  whole-form =
-      let f : placeIn (p .ends) ≡ placeIn (w .places) = λ t i. sym (w .same i) t in
-      form-said (p .layout .word) s (placeIn (p .ends)) (λ i. getD (p .says) i 0) says-are ∙ rw (w .read, f, word-is)
-
-  pub whole-right : p .layout .word ≡ word.Rule → getD (p .says) 1 0 < 256
-  unfolding saysBy
-  whole-right e =
-      let q = rw e at (says-are 1) in
-      omega (arith, q (omega arith), right-small s (placeIn (p .ends) 1 + 1))
-
-pub none-form : (s : List ℕ) → endsIn s ≡ none → NoForm ≡ readForm s
+pub none-form : (s : List ℕ) → endsIn s ≡ none → noForm ≡ readForm s
 unfolding readForm
 none-form s e = rw e

@@ -1,14 +1,14 @@
--- What is read as a form is what is written as one. Assumes nothing.
-use Prim.Native.Nat.{ℕ, suc, _+_, _≤_}
-use mathlib.Core.Path.{_≡_, refl, sym, ap, subst, _∙_}
+-- What is read as a form is what is written as one; every other line is no form (refusal 2). Assumes nothing.
+use Prim.Native.Nat.{ℕ, _+_, _≤_, _<_}
+use mathlib.Core.Path.{_≡_, refl, sym, ap, subst, fun-ext, _∙_}
 use mathlib.Core.List.{List, [], _∷_, _++_, map}
-use mathlib.Core.Bool.{Bool, true, false, cond, _&&_}
+use mathlib.Core.Bool.{Bool, true, false, cond, _&&_, Bool·beq}
 use mathlib.Core.Logic.{_⊎_, inl, inr, _↔_}
 use native.Mathlib.Omega.{arith}
-use lib.Dec.{eqb, leb}
+use lib.Dec.{T, eqb, leb}
 use lib.ListN.{length, getD, take, drop, length-drop, drop-of-length-le}
 use lib.Seq.{drop-append-seam, take-append-seam}
-use borrow.Author.Tests.{le-leb, leb-true, eqb-true, eqb-false}
+use borrow.Author.Tests.{le-leb, lt-leb, leb-true, eqb-true, eqb-false}
 use Rattle.rights.specs.Bytes.{byteAt, all}
 use Rattle.rights.specs.Labels.{labelByte}
 use Rattle.rights.specs.Policy.{Right, position, read, insert, update, delete, bitOf}
@@ -18,15 +18,15 @@ use Rattle.rights.specs.declared.path.Read.the-variants.{At, Bad}
 use Rattle.rights.proofs.PathTexts.{and-left, and-right, cond-elim, Reads, reads-byte, reads-take, run-all, run-length, run-over, byte-here}
 use Rattle.forms.specs.declared.layout.Word.{Word}
 use Rattle.forms.specs.declared.layout.Word.the-variants as word
-use Rattle.forms.specs.declared.form.Form.{Form}
-use Rattle.forms.specs.declared.form.Form.the-variants.{NoForm}
 use Rattle.forms.specs.Word.{accept, deny, signs, rights, sameText, among, labelBytesAt, signAt, rightAt}
+use Rattle.rights.proofs.RangeLaws.{on-range, beq-eq, lt-or-ge}
+use Rattle.forms.specs.Text.{lineByte}
 use Rattle.forms.specs.Part.{pathByte, labelEnd, runEnd, knownEnd}
-use Rattle.forms.specs.Kind.{Kind, Label, Path, Tree, Sign, Right as RightKind, partEnd}
+use Rattle.forms.specs.Kind.{Kind, Label, Path, Tree, Sign, Right as RightKind, isTree, partEnd}
 use Rattle.forms.specs.Tree.{_andThen_}
-use Rattle.forms.specs.Layout.{letters, shapeOf, formWords, words, wordAt}
-use Rattle.forms.specs.Form.{onePart, Places, are, none, _onTo_, closesLine, partsOf, placeIn, treePlace, nodesAt, formWith, endsIn, readForm, treeIn}
-use Rattle.forms.specs.FormText.{Value, Values, Said, writeRight, writeValue, writeValues, write, GoodValue, GoodValues, Good, nodesOr, nodesSaid}
+use Rattle.forms.specs.Layout.{noStage, stageOf, letters, shapeOf, formWords, words, wordAt}
+use Rattle.forms.specs.Form.{onePart, Places, are, none, _onTo_, closesLine, partsOf, placeIn, ReadForm, noForm, formAt, endsIn, readForm}
+use Rattle.forms.specs.Command.{Value, Values, Command, command, writeRight, writeValue, writeValues, written, runByte, GoodPath, GoodValue, GoodValues, GoodCommand}
 use Rattle.forms.proofs.WordLaws.{wordText, wordTexts, Every, among-is, among-or}
 use Rattle.forms.proofs.TreeTextLaws.{drop-over, label-reads, tree-complete, tree-sound, tree-unique, label-unique}
 
@@ -41,6 +41,18 @@ pub values-stop : (ks : List Kind) (vs : Values ks) → Stops (writeValues ks vs
 unfolding labelByte pathByte
 values-stop [] vs = record { no-label = refl; no-path = refl }
 values-stop (k ∷ ks) (v, vs) = record { no-label = refl; no-path = refl }
+
+-- a byte of a path is one that the reader takes for one
+path-byte : (b : ℕ) → pathByte b ≡ runByte b
+unfolding pathByte runByte lineByte
+path-byte b = go (lt-or-ge b 127)
+  where
+    go : (b < 127) ⊎ (127 ≤ b) → pathByte b ≡ runByte b
+    go (inl h) = beq-eq (pathByte b) (runByte b) (subst T (on-range (λ a. Bool·beq (pathByte a) (runByte a)) true 0 127 tt b (omega arith) (omega arith)) tt)
+    go (inr h) = rw (le-leb 33 b (omega arith), le-leb 42 b (omega arith), le-leb 32 b (omega arith), lt-leb b 39 (omega arith), lt-leb b 126 (omega arith))
+
+runs-same : (p : List ℕ) → all pathByte p ≡ all runByte p
+runs-same p = ap (λ f. all f p) (fun-ext path-byte)
 
 module _ (s : List ℕ) (at : ℕ) where
   -- label bytes that something else follows
@@ -71,7 +83,7 @@ module _ (s : List ℕ) (at : ℕ) where
   value-reads : (k : Kind) (v : Value k) (r : List ℕ) → GoodValue k v → drop at s ≡ writeValue k v ++ r → Stops r → partEnd k s at ≡ At (at + length (writeValue k v))
   unfolding GoodValue writeValue
   value-reads Label l r g e h = label-reads s at l r g e (h .no-label)
-  value-reads Path p r g e h = run-reads pathByte p r (g .0) (g .1) e (h .no-path)
+  value-reads Path p r g e h = run-reads pathByte p r (g .0) (runs-same p ∙ g .1) e (h .no-path)
   value-reads Tree t r g e h = tree-complete s at t r g e .0
   value-reads Sign b r g e h = sign-reads b r e (h .no-label) .0
   value-reads RightKind a r g e h = right-reads a r e (h .no-label) .0
@@ -95,96 +107,75 @@ parts-complete (k ∷ ks) (v, vs) g s at e =
     let d = part-after k v s at (writeValues ks vs) e in
     rw (b, value-reads s (at + 1) k v (writeValues ks vs) (g .0) (d .0) (values-stop ks vs), parts-complete ks vs (g .1) s (at + 1 + length (writeValue k v)) (d .1))
 
--- What is known of each word, one clause a word: it is written in label bytes, it is found by them, and its form is none only if it has no letters
+-- a tree is the last part
+abbrev pub treeLast : List Kind → Bool
+treeLast [] = true
+treeLast (k ∷ []) = true
+treeLast (k ∷ l ∷ ks) = cond (isTree k) false (treeLast (l ∷ ks))
+
+-- What is known of each word, one clause a word: it is written in label bytes and found by them, it has a stage if it has letters, at most four parts follow it,
+-- and a tree is the last of them
 pub record WordLaw (w : Word) : Type 0 where
   pub spelt : all labelByte (letters w) ≡ true
   pub found : among word.Other words (letters w) ≡ w
-  pub some : (s : List ℕ) (e : ℕ → ℕ) (n : ℕ) → formWith w s e n ≡ NoForm → length (letters w) ≡ 0
+  pub staged : eqb (stageOf w) noStage ≡ eqb (length (letters w)) 0
+  pub few : drop 5 (shapeOf w) ≡ []
+  pub tree-last : treeLast (shapeOf w) ≡ true
 
 pub word-law : (w : Word) → WordLaw w
 unfolding labelByte all among sameText
-word-law word.Subject = record { spelt = refl; found = refl; some = λ s e n q. cc }
-word-law word.Isa = record { spelt = refl; found = refl; some = λ s e n q. cc }
-word-law word.Rule = record { spelt = refl; found = refl; some = λ s e n q. cc }
-word-law word.Root = record { spelt = refl; found = refl; some = λ s e n q. cc }
-word-law word.Child = record { spelt = refl; found = refl; some = λ s e n q. cc }
-word-law word.User = record { spelt = refl; found = refl; some = λ s e n q. cc }
-word-law word.View = record { spelt = refl; found = refl; some = λ s e n q. cc }
-word-law word.Query = record { spelt = refl; found = refl; some = λ s e n q. cc }
-word-law word.Find = record { spelt = refl; found = refl; some = λ s e n q. cc }
-word-law word.Rename = record { spelt = refl; found = refl; some = λ s e n q. cc }
-word-law word.Update = record { spelt = refl; found = refl; some = λ s e n q. cc }
-word-law word.Append = record { spelt = refl; found = refl; some = λ s e n q. cc }
-word-law word.Before = record { spelt = refl; found = refl; some = λ s e n q. cc }
-word-law word.After = record { spelt = refl; found = refl; some = λ s e n q. cc }
-word-law word.Remove = record { spelt = refl; found = refl; some = λ s e n q. cc }
-word-law word.Other = record { spelt = refl; found = refl; some = λ s e n q. refl }
+word-law word.Subject = record { spelt = refl; found = refl; staged = refl; few = refl; tree-last = refl }
+word-law word.Isa = record { spelt = refl; found = refl; staged = refl; few = refl; tree-last = refl }
+word-law word.Rule = record { spelt = refl; found = refl; staged = refl; few = refl; tree-last = refl }
+word-law word.Root = record { spelt = refl; found = refl; staged = refl; few = refl; tree-last = refl }
+word-law word.Child = record { spelt = refl; found = refl; staged = refl; few = refl; tree-last = refl }
+word-law word.User = record { spelt = refl; found = refl; staged = refl; few = refl; tree-last = refl }
+word-law word.View = record { spelt = refl; found = refl; staged = refl; few = refl; tree-last = refl }
+word-law word.Query = record { spelt = refl; found = refl; staged = refl; few = refl; tree-last = refl }
+word-law word.Find = record { spelt = refl; found = refl; staged = refl; few = refl; tree-last = refl }
+word-law word.Rename = record { spelt = refl; found = refl; staged = refl; few = refl; tree-last = refl }
+word-law word.Update = record { spelt = refl; found = refl; staged = refl; few = refl; tree-last = refl }
+word-law word.Append = record { spelt = refl; found = refl; staged = refl; few = refl; tree-last = refl }
+word-law word.Before = record { spelt = refl; found = refl; staged = refl; few = refl; tree-last = refl }
+word-law word.After = record { spelt = refl; found = refl; staged = refl; few = refl; tree-last = refl }
+word-law word.Remove = record { spelt = refl; found = refl; staged = refl; few = refl; tree-last = refl }
+word-law word.Other = record { spelt = refl; found = refl; staged = refl; few = refl; tree-last = refl }
 
-abbrev pub endOf : Said → ℕ
+abbrev pub endOf : Command → ℕ
 endOf f = 1 + length (letters (f .word))
 
 -- the places in a line that says f
-abbrev pub placesIn : Said → List ℕ
+abbrev pub placesIn : Command → List ℕ
 placesIn f = placesOf (endOf f) (shapeOf (f .word)) (f .values)
 
 -- A good form, written, is read: its word, and the places of its parts
-pub record WrittenRead (f : Said) : Type 0 where
-  pub word : wordAt (write f) 1 ≡ f .word
-  pub ends : endsIn (write f) ≡ are (placesIn f)
+pub record WrittenRead (f : Command) : Type 0 where
+  pub word : wordAt (written f) 1 ≡ f .word
+  pub ends : endsIn (written f) ≡ are (placesIn f)
 
-pub after-word : (f : Said) → drop (endOf f) (write f) ≡ writeValues (shapeOf (f .word)) (f .values)
-unfolding write
-after-word f = drop-over (write f) 1 (letters (f .word)) (writeValues (shapeOf (f .word)) (f .values)) refl
+pub after-word : (f : Command) → drop (endOf f) (written f) ≡ writeValues (shapeOf (f .word)) (f .values)
+unfolding written
+after-word f = drop-over (written f) 1 (letters (f .word)) (writeValues (shapeOf (f .word)) (f .values)) refl
 
-pub form-complete : (f : Said) → Good f → WrittenRead f
-unfolding write wordAt endsIn
+pub form-complete : (f : Command) → GoodCommand f → WrittenRead f
+unfolding written wordAt endsIn
 form-complete f g =
     let r : List ℕ = writeValues (shapeOf (f .word)) (f .values) in
     let x = word-law (f .word) in
     let stop = values-stop (shapeOf (f .word)) (f .values) .no-label in
-    let l = label-at (write f) 1 (letters (f .word)) r (x .spelt) refl stop in
-    let w : wordAt (write f) 1 ≡ f .word = rw (l .0) (x .found) in
+    let l = label-at (written f) 1 (letters (f .word)) r (x .spelt) refl stop in
+    let w : wordAt (written f) 1 ≡ f .word = rw (l .0) (x .found) in
     record {
       word = w;
-      ends = rw (run-reads (write f) 1 labelByte (letters (f .word)) r (g .word) (x .spelt) refl stop, w) (parts-complete (shapeOf (f .word)) (f .values) (g .values) (write f) (endOf f) (after-word f));
+      ends = rw (run-reads (written f) 1 labelByte (letters (f .word)) r (g .word) (x .spelt) refl stop, w) (parts-complete (shapeOf (f .word)) (f .values) (g .values) (written f) (endOf f) (after-word f));
     }
 
--- the nodes that are put into the area are those of the tree that the line writes
-tree-said : (ks : List Kind) (vs : Values ks) → GoodValues ks vs → (s : List ℕ) (at i : ℕ) (p : ℕ → ℕ) → drop at s ≡ writeValues ks vs → ((j : ℕ) → p (i + j) ≡ placeIn (placesOf at ks vs) j)
-    → nodesAt s (treePlace ks i p) ≡ nodesSaid ks vs
-unfolding treePlace nodesOr GoodValue writeValue
-tree-said [] vs g s at i p e h = refl
-tree-said (k ∷ ks) (v, vs) g s at i p e h =
-    here k v (g .0) (d .0)
-    (tree-said ks vs (g .1) s (at + 1 + length (writeValue k v)) (suc i) p (d .1) (λ j. let z : suc i + j ≡ i + suc j = omega arith in ap p z ∙ h (suc j)))
-  where
-    d : (drop (at + 1) s ≡ writeValue k v ++ writeValues ks vs) × (drop (at + 1 + length (writeValue k v)) s ≡ writeValues ks vs)
-    d = part-after k v s at (writeValues ks vs) e
+-- what is read if f is typed: the word's form, with the parts at their places
+abbrev placed : Command → ReadForm
+placed f = formAt (f .word) (written f) (placeIn (placesIn f))
 
-    first : p i ≡ at
-    first = let z : i + 0 ≡ i = omega arith in ap p (sym z) ∙ h 0
-
-    here : (k : Kind) (v : Value k) → GoodValue k v → drop (at + 1) s ≡ writeValue k v ++ writeValues ks vs → nodesAt s (treePlace ks (suc i) p) ≡ nodesSaid ks vs
-        → nodesAt s (treePlace (k ∷ ks) i p) ≡ nodesOr k v (nodesSaid ks vs)
-    here Label v g d q = q
-    here Path v g d q = q
-    here Tree v g d q = rw first (tree-complete s (at + 1) v (writeValues ks vs) g d .1)
-    here Sign v g d q = q
-    here RightKind v g d q = q
-
-pub written-tree : (f : Said) → Good f → treeIn (write f) ≡ nodesSaid (shapeOf (f .word)) (f .values)
-unfolding treeIn
-written-tree f g =
-    let x = form-complete f g in
-    rw (x .word, x .ends)
-    (tree-said (shapeOf (f .word)) (f .values) (g .values) (write f) (endOf f) 0 (placeIn (placesIn f)) (after-word f) (λ j. let z : 0 + j ≡ j = omega arith in ap (placeIn (placesIn f)) z))
-
--- what the code answers if f is typed: the word's form, with the places of the parts and the number of the tree's nodes
-abbrev pub placed : Said → Form
-placed f = formWith (f .word) (write f) (placeIn (placesIn f)) (length (treeIn (write f)))
-
-pub written-form : (f : Said) → Good f → readForm (write f) ≡ placed f
-unfolding readForm treeIn
+pub written-form : (f : Command) → GoodCommand f → readForm (written f) ≡ placed f
+unfolding readForm
 written-form f g = let x = form-complete f g in rw (x .word, x .ends)
 
 -- What is read as a form was written
@@ -247,7 +238,7 @@ module _ (s : List ℕ) (at : ℕ) where
         text = reads-take s at (runAt labelByte s at);
       }))
       λ _. never-read
-  value-sound Path j = λ e. let x = run-sound pathByte j e in record { is = x .is; good = (x .some, x .of); text = x .text }
+  value-sound Path j = λ e. let x = run-sound pathByte j e in record { is = x .is; good = (x .some, sym (runs-same (x .is)) ∙ x .of); text = x .text }
   value-sound Tree j = λ e. let t = tree-sound s at j e in record { is = t .is; good = t .good; text = t .text }
   value-sound Sign j =
       cond-elim (eqb (signAt s at) 0) (λ _. never-read)
@@ -310,8 +301,8 @@ word-found s at =
     among-or (λ w t. (t ≡ letters w) × (1 ≤ length (letters w))) word.Other words (labelBytesAt s at) (each-lettered formWords refl)
 
 -- A line whose word and parts were read is a good form, written
-pub form-sound : (s es : List ℕ) → labelBytesAt s 1 ≡ letters (wordAt s 1) → 1 ≤ length (letters (wordAt s 1)) → endsIn s ≡ are es → (f : Said) × Good f × (s ≡ write f)
-unfolding endsIn write
+pub form-sound : (s es : List ℕ) → labelBytesAt s 1 ≡ letters (wordAt s 1) → 1 ≤ length (letters (wordAt s 1)) → endsIn s ≡ are es → (f : Command) × GoodCommand f × (s ≡ written f)
+unfolding endsIn written
 form-sound s es l n =
     cond-elim (eqb (byteAt s 0) 40)
     (λ p. then-elim (runEnd labelByte s 1) _ λ e a b.
@@ -324,46 +315,33 @@ form-sound s es l n =
     ))
     λ _. never-are
 
--- A line says a good form, written, or nothing
-pub read-or-none : (s : List ℕ) → (readForm s ≡ NoForm) ⊎ ((f : Said) × Good f × (s ≡ write f))
+-- A line is a good command, written, or no form
+pub command-or-none : (s : List ℕ) → (readForm s ≡ noForm) ⊎ ((f : Command) × GoodCommand f × (s ≡ written f))
 unfolding readForm
-read-or-none s = go (endsIn s) refl (word-found s 1)
+command-or-none s = go (endsIn s) refl (word-found s 1)
   where
     go : (r : Places) → endsIn s ≡ r → (wordAt s 1 ≡ word.Other) ⊎ ((labelBytesAt s 1 ≡ letters (wordAt s 1)) × (1 ≤ length (letters (wordAt s 1))))
-        → (readForm s ≡ NoForm) ⊎ ((f : Said) × Good f × (s ≡ write f))
+        → (readForm s ≡ noForm) ⊎ ((f : Command) × GoodCommand f × (s ≡ written f))
     go none q w = inl (rw q)
     go (are es) q (inl o) = inl (rw (q, o))
     go (are es) q (inr (l, n)) = inr (form-sound s es l n q)
 
-placed-some : (f : Said) → Good f → placed f ≡ NoForm → ⊥
-placed-some f g e = omega (arith, g .word, word-law (f .word) .some _ _ _ e)
+-- A good form is not none
+placed-some : (f : Command) → GoodCommand f → placed f ≡ noForm → ⊥
+placed-some f g e = let z : length (letters (f .word)) ≡ 0 = ap (λ (r : ReadForm). length (letters (r .word))) e in omega (arith, g .word, z)
 
-pub read-said : (s : List ℕ) → (readForm s ≡ NoForm → ⊥) → (f : Said) × Good f × (s ≡ write f)
-read-said s h = go (read-or-none s)
-  where
-    go : (readForm s ≡ NoForm) ⊎ ((f : Said) × Good f × (s ≡ write f)) → (f : Said) × Good f × (s ≡ write f)
-    go (inl e) = absurd (h e)
-    go (inr x) = x
-
--- The answer is a form exactly if the line is that form, written
-pub reads-written : (s : List ℕ) (c : Form) → (c ≡ NoForm → ⊥) → (readForm s ≡ c) ↔ ((f : Said) × Good f × (s ≡ write f) × (c ≡ placed f))
-reads-written s c h = (
-  λ e. let x = read-said s (λ z. h (sym e ∙ z)) in (x .0, x .1, x .2, sym e ∙ ap readForm (x .2) ∙ written-form (x .0) (x .1)),
-  λ x. ap readForm (x .2) ∙ written-form (x .0) (x .1) ∙ sym (x .3),
-)
-
--- A line is refused with 2 exactly if no good form is written so
-pub refused-none : (s : List ℕ) → (readForm s ≡ NoForm) ↔ ((f : Said) → Good f → s ≡ write f → ⊥)
-refused-none s = (
+-- A line is refused with 2 exactly if no good command is written so
+pub none-written : (s : List ℕ) → (readForm s ≡ noForm) ↔ ((f : Command) → GoodCommand f → s ≡ written f → ⊥)
+none-written s = (
   λ e f g q. placed-some f g (sym (written-form f g) ∙ ap readForm (sym q) ∙ e),
-  λ h. go h (read-or-none s),
+  λ h. go h (command-or-none s),
 )
   where
-    go : ((f : Said) → Good f → s ≡ write f → ⊥) → (readForm s ≡ NoForm) ⊎ ((f : Said) × Good f × (s ≡ write f)) → readForm s ≡ NoForm
+    go : ((f : Command) → GoodCommand f → s ≡ written f → ⊥) → (readForm s ≡ noForm) ⊎ ((f : Command) × GoodCommand f × (s ≡ written f)) → readForm s ≡ noForm
     go h (inl e) = e
     go h (inr x) = absurd (h (x .0) (x .1) (x .2))
 
--- At most one good form is written so
+-- At most one good command is written so
 
 abbrev rightNamed : List ℕ → Right
 rightNamed w = cond (eqb (length w) 8) position (cond (eqb (length w) 4) read (cond (eqb (getD w 0 0) 105) insert (cond (eqb (getD w 0 0) 117) update delete)))
@@ -407,15 +385,12 @@ values-unique (k ∷ ks) (x, xs) (y, ys) g h e =
     let q = values-unique ks xs ys (g .1) (h .1) (p .1) in
     rw (p .0, q)
 
-abbrev said : (w : Word) → Values (shapeOf w) → Said
-said w vs = record { word = w; values = vs }
-
-pub unique : (f g : Said) → Good f → Good g → write f ≡ write g → f ≡ g
-unfolding write
-unique f g a b e =
+pub command-unique : (f g : Command) → GoodCommand f → GoodCommand g → written f ≡ written g → f ≡ g
+unfolding written
+command-unique f g a b e =
     let w : f .word ≡ g .word = sym (form-complete f a .word) ∙ ap (λ (s : List ℕ). wordAt s 1) e ∙ form-complete g b .word in
     let t : letters (f .word) ++ writeValues (shapeOf (f .word)) (f .values) ≡ letters (g .word) ++ writeValues (shapeOf (g .word)) (g .values) = cc in
     let u = label-unique (letters (f .word)) (letters (g .word)) _ _ (word-law (f .word) .spelt) (word-law (g .word) .spelt) (values-stop (shapeOf (f .word)) (f .values) .no-label) (values-stop (shapeOf (g .word)) (g .values) .no-label) t in
-    subst (λ (v : Word). (vs : Values (shapeOf v)) → GoodValues (shapeOf v) vs → writeValues (shapeOf (f .word)) (f .values) ≡ writeValues (shapeOf v) vs → f ≡ said v vs) w
-    (λ vs h q. ap (said (f .word)) (values-unique (shapeOf (f .word)) (f .values) vs (a .values) h q))
+    subst (λ (v : Word). (vs : Values (shapeOf v)) → GoodValues (shapeOf v) vs → writeValues (shapeOf (f .word)) (f .values) ≡ writeValues (shapeOf v) vs → f ≡ command v vs) w
+    (λ vs h q. ap (command (f .word)) (values-unique (shapeOf (f .word)) (f .values) vs (a .values) h q))
     (g .values) (b .values) (u .1)

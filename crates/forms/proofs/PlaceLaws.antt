@@ -18,18 +18,17 @@ use Rattle.rights.proofs.ListLaws.{byCase, rest-of}
 use Rattle.rights.proofs.RecordLaws.{pasted-none}
 use Rattle.forms.specs.declared.layout.Word.{Word}
 use Rattle.forms.specs.declared.layout.Word.the-variants as word
-use Rattle.forms.specs.declared.form.Form.the-variants.{NoForm}
 use Rattle.forms.specs.Part.{runEnd}
 use Rattle.forms.specs.Kind.{Kind, Label, Path, Tree, Sign, Right, isTree, partEnd}
 use Rattle.forms.specs.Layout.{shapeOf, wordAt}
 use Rattle.forms.specs.Tree.{recordsOf}
-use Rattle.forms.specs.Form.{Places, are, none, _onTo_, onePart, partsOf, placeIn, treePlace, nodesAt, endsIn, readForm, treeIn}
+use Rattle.forms.specs.Form.{Places, are, none, _onTo_, onePart, partsOf, placeIn, noForm, heldAt, allHeldAt, endsIn, readForm, nodesHeld, treeIn}
 use Rattle.forms.specs.How.Codes.{areaBy}
 use Rattle.forms.specs.How.Reader.{areaAfter, areaIn, Whole, Rises, between, Once}
 use Rattle.forms.specs.declared.reader.Progress.{Progress}
-use Rattle.forms.specs.FormText.{Values, writeValue, writeValues, Said, Good, write}
+use Rattle.forms.specs.Command.{Values, writeValue, writeValues, Command, GoodCommand, written}
 use Rattle.forms.proofs.FormLaws.{none-form}
-use Rattle.forms.proofs.FormTextLaws.{never-are, then-elim, placesOf, placesIn, endOf, part-after, after-word, form-complete, read-or-none}
+use Rattle.forms.proofs.FormTextLaws.{treeLast, word-law, never-are, then-elim, placesOf, placesIn, endOf, part-after, after-word, form-complete, command-or-none}
 
 -- What parts that are there say of the places
 
@@ -49,65 +48,41 @@ one-is k s at e q =
 
 -- The area: a tree is the last part, so its records are the only ones that were put
 
-abbrev treeLast : List Kind → Bool
-treeLast [] = true
-treeLast (k ∷ []) = true
-treeLast (k ∷ l ∷ ks) = cond (isTree k) false (treeLast (l ∷ ks))
-
-tree-last : (w : Word) → treeLast (shapeOf w) ≡ true
-tree-last word.Subject = refl
-tree-last word.Isa = refl
-tree-last word.Rule = refl
-tree-last word.Root = refl
-tree-last word.Child = refl
-tree-last word.User = refl
-tree-last word.View = refl
-tree-last word.Query = refl
-tree-last word.Find = refl
-tree-last word.Rename = refl
-tree-last word.Update = refl
-tree-last word.Append = refl
-tree-last word.Before = refl
-tree-last word.After = refl
-tree-last word.Remove = refl
-tree-last word.Other = refl
-
-place-later : (ks : List Kind) (i x : ℕ) (ys : List ℕ) → treePlace ks (suc i) (placeIn (x ∷ ys)) ≡ treePlace ks i (placeIn ys)
-unfolding treePlace
-place-later [] i x ys = refl
-place-later (k ∷ ks) i x ys = ap (λ (r : Read). cond (isTree k) (At (placeIn ys i + 1)) r) (place-later ks (suc i) x ys)
+held-later : (ks : List Kind) (s : List ℕ) (i x : ℕ) (ys : List ℕ) → allHeldAt ks s (placeIn (x ∷ ys)) (suc i) ≡ allHeldAt ks s (placeIn ys) i
+held-later [] s i x ys = refl
+held-later (k ∷ ks) s i x ys = ap (λ hs. (heldAt k s (placeIn ys i) (placeIn ys (suc i)), hs)) (held-later ks s (suc i) x ys)
 
 module _ (s a : List ℕ) where
   abbrev Put : List Kind → ℕ → List ℕ → Type 0
-  Put ks at es = areaAfter ks s at a ≡ pasted a 0 (recordsOf (nodesAt s (treePlace ks 0 (placeIn es))))
+  Put ks at es = areaAfter ks s at a ≡ pasted a 0 (recordsOf (nodesHeld ks (allHeldAt ks s (placeIn es) 0)))
 
   put-next : (k : Kind) (ks : List Kind) (at e : ℕ) (ys : List ℕ) → treeLast (k ∷ ks) ≡ true → byteAt s at ≡ 32 → partEnd k s (at + 1) ≡ At e → (treeLast ks ≡ true → Put ks e ys) → Put (k ∷ ks) at (at ∷ ys)
-  unfolding areaAfter treePlace areaBy recordsOf
+  unfolding areaAfter areaBy recordsOf
   put-next Tree [] at e ys l b q ih = rw (b, q)
   put-next Tree (j ∷ ks) at e ys l b q ih = absurd (let z : _≡_ {A = ℕ} 0 1 = cc in omega arith)
-  put-next Label ks at e ys l b q ih = rw (b, q, place-later ks 0 at ys) (ih (later ks l))
+  put-next Label ks at e ys l b q ih = rw (b, q, held-later ks s 0 at ys) (ih (later ks l))
     where
       later : (ks : List Kind) → treeLast (Label ∷ ks) ≡ true → treeLast ks ≡ true
       later [] l = refl
       later (j ∷ ks) l = l
-  put-next Path ks at e ys l b q ih = rw (b, q, place-later ks 0 at ys) (ih (later ks l))
+  put-next Path ks at e ys l b q ih = rw (b, q, held-later ks s 0 at ys) (ih (later ks l))
     where
       later : (ks : List Kind) → treeLast (Path ∷ ks) ≡ true → treeLast ks ≡ true
       later [] l = refl
       later (j ∷ ks) l = l
-  put-next Sign ks at e ys l b q ih = rw (b, q, place-later ks 0 at ys) (ih (later ks l))
+  put-next Sign ks at e ys l b q ih = rw (b, q, held-later ks s 0 at ys) (ih (later ks l))
     where
       later : (ks : List Kind) → treeLast (Sign ∷ ks) ≡ true → treeLast ks ≡ true
       later [] l = refl
       later (j ∷ ks) l = l
-  put-next Right ks at e ys l b q ih = rw (b, q, place-later ks 0 at ys) (ih (later ks l))
+  put-next Right ks at e ys l b q ih = rw (b, q, held-later ks s 0 at ys) (ih (later ks l))
     where
       later : (ks : List Kind) → treeLast (Right ∷ ks) ≡ true → treeLast ks ≡ true
       later [] l = refl
       later (j ∷ ks) l = l
 
   parts-put : (ks : List Kind) (at : ℕ) (es : List ℕ) → treeLast ks ≡ true → partsOf ks s at ≡ are es → Put ks at es
-  unfolding partsOf areaAfter treePlace recordsOf
+  unfolding partsOf areaAfter recordsOf
   parts-put [] at es l = λ q. pasted-none a 0
   parts-put (k ∷ ks) at es l =
       then-elim (onePart k s at) _ λ e o q.
@@ -115,18 +90,18 @@ module _ (s a : List ℕ) where
       let y = one-is k s at e o in
       rw (x .2) (put-next k ks at e (x .0) l (y .0) (y .1) (λ m. parts-put ks e (x .0) m (x .1)))
 
-  area-read : (es : List ℕ) → endsIn s ≡ are es → areaIn s a ≡ pasted a 0 (recordsOf (treeIn s))
-  unfolding endsIn areaIn treeIn
+  area-read : (es : List ℕ) → endsIn s ≡ are es → areaIn s a ≡ pasted a 0 (recordsOf (treeIn (readForm s)))
+  unfolding endsIn areaIn readForm
   area-read es q =
       byCase (eqb (byteAt s 0) 40)
-      (λ b. let r = rw b at q in then-elim (runEnd labelByte s 1) _ (λ e o p. rw (b, o, p) (parts-put (shapeOf (wordAt s 1)) e es (tree-last (wordAt s 1)) p)) r)
+      (λ b. let r = rw b at q in then-elim (runEnd labelByte s 1) _ (λ e o p. rw (b, o, p) (parts-put (shapeOf (wordAt s 1)) e es (word-law (wordAt s 1) .tree-last) p)) r)
       (λ b. never-are (rw b at q))
 
   -- the area of a line that is a form has the records of its tree, and nothing else was put
-  pub area-form : (readForm s ≡ NoForm → ⊥) → areaIn s a ≡ pasted a 0 (recordsOf (treeIn s))
+  pub area-form : (readForm s ≡ noForm → ⊥) → areaIn s a ≡ pasted a 0 (recordsOf (treeIn (readForm s)))
   area-form n = go (endsIn s) refl
     where
-      go : (r : Places) → endsIn s ≡ r → areaIn s a ≡ pasted a 0 (recordsOf (treeIn s))
+      go : (r : Places) → endsIn s ≡ r → areaIn s a ≡ pasted a 0 (recordsOf (treeIn (readForm s)))
       go (are es) q = area-read es q
       go none q = absurd (n (sym (none-form s q)))
 
@@ -145,17 +120,17 @@ bytes-between s (b ∷ es) a r =
     let z : a + (b - a) ≡ b = omega (arith, r .0) in
     ap (λ (v : List ℕ). take (b - a) (drop a s) ++ v) (bytes-between s es b (r .1) ∙ sym (drop-drop (b - a) a s ∙ ap (λ (n : ℕ). drop n s) z)) ∙ take-append-drop (b - a) (drop a s)
 
-pub places-once : (s es : List ℕ) → endsIn s ≡ are es → (readForm s ≡ NoForm → ⊥) → Once s es
-places-once s es q n = go (read-or-none s)
+pub places-once : (s es : List ℕ) → endsIn s ≡ are es → (readForm s ≡ noForm → ⊥) → Once s es
+places-once s es q n = go (command-or-none s)
   where
-    go : (readForm s ≡ NoForm) ⊎ ((f : Said) × Good f × (s ≡ write f)) → Once s es
+    go : (readForm s ≡ noForm) ⊎ ((f : Command) × GoodCommand f × (s ≡ written f)) → Once s es
     go (inl e) = absurd (n e)
     go (inr x) =
-        let f : Said = x .0 in
+        let f : Command = x .0 in
         let y : es ≡ placesIn f = ap list-of (sym q ∙ ap endsIn (x .2) ∙ form-complete f (x .1) .ends) in
-        let r : Rises 0 (es ++ (length s ∷ [])) = rw (y, x .2) (rises-parts (shapeOf (f .word)) (f .values) (write f) (endOf f) 0 (after-word f) (omega arith)) in
+        let r : Rises 0 (es ++ (length s ∷ [])) = rw (y, x .2) (rises-parts (shapeOf (f .word)) (f .values) (written f) (endOf f) 0 (after-word f) (omega arith)) in
         record { rises = r; bytes = bytes-between s es 0 r }
 
 -- "a place that only moves on": so it is with the places at which the reader stood
-pub reader-once : (s : List ℕ) (p : Progress) (w : Whole s p) → (readForm s ≡ NoForm → ⊥) → Once s (w .places)
+pub reader-once : (s : List ℕ) (p : Progress) (w : Whole s p) → (readForm s ≡ noForm → ⊥) → Once s (w .places)
 reader-once s p w n = places-once s (w .places) (w .read) n

@@ -7,37 +7,17 @@ use native.Mathlib.Omega.{arith}
 use lib.ListN.{length, drop}
 use borrow.Author.Tests.{ne-eqb}
 use Rattle.rights.proofs.ListLaws.{byCase}
-use Rattle.forms.specs.declared.layout.Word.{Word}
-use Rattle.forms.specs.declared.layout.Word.the-variants as word
 use Rattle.forms.specs.declared.reader.Progress.{Progress}
 use Rattle.forms.specs.Layout.{shapeOf}
 use Rattle.forms.specs.Form.{closesLine}
 use Rattle.forms.specs.How.Reader.{Going, Came, Reading, Begun, Moves, Takes, areaAfter, areaIn, areaFrom, areaLeft, shutAt, stoppedAt}
 use Rattle.forms.proofs.FormLaws.{none-came, line-closed, line-unclosed, area-four}
-
--- no form has more than four parts
-few : (w : Word) → drop 5 (shapeOf w) ≡ []
-few word.Subject = refl
-few word.Isa = refl
-few word.Rule = refl
-few word.Root = refl
-few word.Child = refl
-few word.User = refl
-few word.View = refl
-few word.Query = refl
-few word.Find = refl
-few word.Rename = refl
-few word.Update = refl
-few word.Append = refl
-few word.Before = refl
-few word.After = refl
-few word.Remove = refl
-few word.Other = refl
+use Rattle.forms.proofs.FormTextLaws.{word-law}
 
 -- what the area is in the end, is what it is once the line was passed
 area-over : (s : List ℕ) (p : Progress) (a : List ℕ) → areaFrom s 5 p a ≡ a
 unfolding areaAfter
-area-over s p a = byCase (p .good) (λ g. rw (g, few (p .layout .word))) (λ g. rw g)
+area-over s p a = byCase (p .good) (λ g. rw (g, word-law (p .layout .word) .few)) (λ g. rw g)
 
 module _ (s : List ℕ) (t : ℕ) (p : Progress) (x : Going s t p) where
   pub takes-word : t ≡ 0 → (r : Progress) → Begun s r → (a : List ℕ) → Takes s t p a r a

@@ -1,54 +1,68 @@
--- What a line says (document 01, "Lines"): each form that is listed there with its values, as it is written there, and which values may be written.
--- Nothing here speaks of how a line is read.
+-- What a line says (document 01, "Lines"): a form by its word, with the values of its parts, as it is written there, and which values may be written.
+-- Which forms there are, and the kinds of their parts, is the table `layout`. Nothing here speaks of how a line is read.
 use Prim.Native.Nat.{ℕ, _≤_}
 use mathlib.Core.Path.{_≡_}
 use mathlib.Core.Bool.{Bool, true, not, cond, _&&_, _||_}
-use mathlib.Core.List.{List, _++_}
+use mathlib.Core.List.{List, [], _∷_, _++_}
 use lib.Dec.{eqb}
 use lib.ListN.{length}
 use Rattle.rights.specs.Bytes.{bytes, all}
-use Rattle.rights.specs.Policy.{Right}
-use Rattle.rights.specs.Tree.{Tree, writeTree}
+use Rattle.rights.specs.Policy.{Right, position, read, insert, update, delete, bitOf}
+use Rattle.rights.specs.Tree.{Tree, writeTree, nodesOf}
+use Rattle.forms.specs.declared.layout.Word.{Word}
 use Rattle.forms.specs.Text.{lineByte}
-use Rattle.forms.specs.TreeText.{GoodLabel, GoodTree}
-use Rattle.forms.specs.FormText.{writeRight}
+use Rattle.forms.specs.Word.{accept, deny}
+use Rattle.forms.specs.Kind.{Kind}
+use Rattle.forms.specs.Kind as kind
+use Rattle.forms.specs.Layout.{stageOf, letters, shapeOf}
+use Rattle.forms.specs.Form.{Held, AllHeld, ReadForm}
+use Rattle.forms.specs.TreeText.{GoodTree, GoodLabel}
 
--- A name, a label and a path stand as their text; a rule says whether it accepts.
-pub data Command : Type 0 where
-  -- A: `(subject N)`, `(isa N R)`: "N is an R"
-  subject : List ℕ → Command
-  isa : List ℕ → List ℕ → Command
-  -- B: `(rule accept|deny RIGHT PATH N)`
-  rule : Bool → Right → List ℕ → List ℕ → Command
-  -- C: `(root L)`; D: `(child TREE)`
-  root : List ℕ → Command
-  child : Tree → Command
-  -- E
-  user : List ℕ → Command
-  view : Command
-  query find : List ℕ → Command
-  rename update : List ℕ → List ℕ → Command
-  append before after : List ℕ → Tree → Command
-  remove : List ℕ → Command
+-- What a part of each kind says: a name, a label or a path its text, a tree, whether a rule accepts, a right
+abbrev pub Value : Kind → Type 0
+Value kind.Label = List ℕ
+Value kind.Path = List ℕ
+Value kind.Tree = Tree
+Value kind.Sign = Bool
+Value kind.Right = Right
+
+abbrev pub Values : List Kind → Type 0
+Values [] = Unit {0}
+Values (k ∷ ks) = Value k × Values ks
+
+pub record Command : Type 0 where
+  pub word : Word
+  pub values : Values (shapeOf word)
+
+abbrev pub command : (w : Word) → Values (shapeOf w) → Command
+command w vs = record { word = w; values = vs }
+
+-- the stage that it belongs to
+abbrev pub stageFor : Command → ℕ
+stageFor c = stageOf (c .word)
+
+unfoldable pub writeRight : Right → List ℕ
+writeRight position = bytes "position"
+writeRight read = bytes "read"
+writeRight insert = bytes "insert"
+writeRight update = bytes "update"
+writeRight delete = bytes "delete"
+
+unfoldable pub writeValue : (k : Kind) → Value k → List ℕ
+writeValue kind.Label l = l
+writeValue kind.Path p = p
+writeValue kind.Tree t = writeTree t
+writeValue kind.Sign b = cond b accept deny
+writeValue kind.Right r = writeRight r
 
 -- "Parts are parted by one space; no other spaces."
+abbrev pub writeValues : (ks : List Kind) → Values ks → List ℕ
+writeValues [] vs = bytes ")"
+writeValues (k ∷ ks) (v, vs) = bytes " " ++ (writeValue k v ++ writeValues ks vs)
+
+-- `(`, the word, the parts, `)`
 unfoldable pub written : Command → List ℕ
-written (subject n) = bytes "(subject " ++ (n ++ bytes ")")
-written (isa n r) = bytes "(isa " ++ (n ++ (bytes " " ++ (r ++ bytes ")")))
-written (rule a r p n) =
-    bytes "(rule " ++ (cond a (bytes "accept") (bytes "deny") ++ (bytes " " ++ (writeRight r ++ (bytes " " ++ (p ++ (bytes " " ++ (n ++ bytes ")")))))))
-written (root l) = bytes "(root " ++ (l ++ bytes ")")
-written (child t) = bytes "(child " ++ (writeTree t ++ bytes ")")
-written (user n) = bytes "(user " ++ (n ++ bytes ")")
-written view = bytes "(view)"
-written (query p) = bytes "(query " ++ (p ++ bytes ")")
-written (find p) = bytes "(find " ++ (p ++ bytes ")")
-written (rename p l) = bytes "(rename " ++ (p ++ (bytes " " ++ (l ++ bytes ")")))
-written (update p l) = bytes "(update " ++ (p ++ (bytes " " ++ (l ++ bytes ")")))
-written (append p t) = bytes "(append " ++ (p ++ (bytes " " ++ (writeTree t ++ bytes ")")))
-written (before p t) = bytes "(before " ++ (p ++ (bytes " " ++ (writeTree t ++ bytes ")")))
-written (after p t) = bytes "(after " ++ (p ++ (bytes " " ++ (writeTree t ++ bytes ")")))
-written (remove p) = bytes "(remove " ++ (p ++ bytes ")")
+written c = bytes "(" ++ (letters (c .word) ++ writeValues (shapeOf (c .word)) (c .values))
 
 -- "any run of one or more bytes without space or parenthesis passes as a path"; each byte of a line is 32 to 126
 unfoldable pub runByte : ℕ → Bool
@@ -58,19 +72,33 @@ abbrev pub GoodPath : List ℕ → Type 0
 GoodPath p = (1 ≤ length p) × (all runByte p ≡ true)
 
 -- What may be written: "Labels also serve as subject names."
-unfoldable pub GoodCommand : Command → Type 0
-GoodCommand (subject n) = GoodLabel n
-GoodCommand (isa n r) = GoodLabel n × GoodLabel r
-GoodCommand (rule a r p n) = GoodPath p × GoodLabel n
-GoodCommand (root l) = GoodLabel l
-GoodCommand (child t) = GoodTree t
-GoodCommand (user n) = GoodLabel n
-GoodCommand view = Unit {0}
-GoodCommand (query p) = GoodPath p
-GoodCommand (find p) = GoodPath p
-GoodCommand (rename p l) = GoodPath p × GoodLabel l
-GoodCommand (update p l) = GoodPath p × GoodLabel l
-GoodCommand (append p t) = GoodPath p × GoodTree t
-GoodCommand (before p t) = GoodPath p × GoodTree t
-GoodCommand (after p t) = GoodPath p × GoodTree t
-GoodCommand (remove p) = GoodPath p
+unfoldable pub GoodValue : (k : Kind) → Value k → Type 0
+GoodValue kind.Label l = GoodLabel l
+GoodValue kind.Path p = GoodPath p
+GoodValue kind.Tree t = GoodTree t
+GoodValue kind.Sign b = Unit {0}
+GoodValue kind.Right r = Unit {0}
+
+abbrev pub GoodValues : (ks : List Kind) → Values ks → Type 0
+GoodValues [] vs = Unit {0}
+GoodValues (k ∷ ks) (v, vs) = GoodValue k v × GoodValues ks vs
+
+-- a word of a form, which has letters, and good values
+pub record GoodCommand (c : Command) : Type 0 where
+  pub word : 1 ≤ length (letters (c .word))
+  pub values : GoodValues (shapeOf (c .word)) (c .values)
+
+-- The command as a form that is read: a tree by its nodes, a right by its bit (law written-read)
+abbrev pub heldOf : (k : Kind) → Value k → Held k
+heldOf kind.Label l = l
+heldOf kind.Path p = p
+heldOf kind.Tree t = nodesOf 0 t
+heldOf kind.Sign b = b
+heldOf kind.Right r = bitOf r
+
+abbrev pub allHeldOf : (ks : List Kind) → Values ks → AllHeld ks
+allHeldOf [] vs = tt
+allHeldOf (k ∷ ks) (v, vs) = (heldOf k v, allHeldOf ks vs)
+
+abbrev pub formOf : Command → ReadForm
+formOf c = record { word = c .word; parts = allHeldOf (shapeOf (c .word)) (c .values) }

@@ -10,13 +10,12 @@ use Rattle.rights.specs.Nodes.{Node}
 use Rattle.rights.specs.declared.path.Read.{Read}
 use Rattle.rights.specs.declared.path.Read.the-variants.{At, Bad}
 use Rattle.forms.specs.declared.layout.Word.{Word}
+use Rattle.forms.specs.declared.layout.Word.the-variants.{Other}
 use Rattle.forms.specs.declared.form.Part.{Part}
-use Rattle.forms.specs.declared.form.Form.{Form}
-use Rattle.forms.specs.declared.form.Form.the-variants.{NoForm}
 use Rattle.forms.specs.Word.{signAt, rightAt}
-use Rattle.forms.specs.Layout.{Holds, FormOf, layout, shapeOf, wordAt}
+use Rattle.forms.specs.Layout.{shapeOf, wordAt}
 use Rattle.forms.specs.Part.{runEnd}
-use Rattle.forms.specs.Kind.{Kind, Label, Path, Tree, Sign, Right, isTree, partEnd}
+use Rattle.forms.specs.Kind.{Kind, Label, Path, Tree, Sign, Right, partEnd}
 use Rattle.forms.specs.Tree.{_andThen_, treeNodes}
 
 -- "Parts are parted by one space": a space and a part
@@ -58,48 +57,66 @@ partAt e i = part (e i) (e (suc i))
 abbrev pub bytesOf : List ℕ → Part → List ℕ
 bytesOf line p = take (p .end - p .at) (drop (p .at) line)
 
--- where the tree of a shape stands, whose first part stands after place i
-unfoldable pub treePlace : List Kind → ℕ → (ℕ → ℕ) → Read
-treePlace [] i e = Bad
-treePlace (k ∷ ks) i e = cond (isTree k) (At (e i + 1)) (treePlace ks (suc i) e)
+-- What is held of a part of each kind: the bytes of a label or a path, a tree's nodes, whether a sign accepts, the bit of a right
+abbrev pub Held : Kind → Type 0
+Held Label = List ℕ
+Held Path = List ℕ
+Held Tree = List Node
+Held Sign = Bool
+Held Right = ℕ
 
-abbrev pub nodesAt : List ℕ → Read → List Node
-nodesAt s (At i) = treeNodes s i
-nodesAt s Bad = []
+abbrev pub AllHeld : List Kind → Type 0
+AllHeld [] = Unit {0}
+AllHeld (k ∷ ks) = Held k × AllHeld ks
 
--- what a form holds of the part of kind k that stands after place i; its tree has n nodes
-abbrev pub heldAt : (k : Kind) → List ℕ → (ℕ → ℕ) → ℕ → ℕ → Holds k
-heldAt Label s e n i = partAt e i
-heldAt Path s e n i = partAt e i
-heldAt Tree s e n i = n
-heldAt Sign s e n i = eqb (signAt s (e i + 1)) 1
-heldAt Right s e n i = rightAt s (e i + 1)
+-- A form that was read: its word, and what is held of its parts
+pub record ReadForm : Type 0 where
+  pub word : Word
+  pub parts : AllHeld (shapeOf word)
 
--- a form made of the parts that stand after place i
-abbrev pub madeOf : (ks : List Kind) → FormOf ks → List ℕ → (ℕ → ℕ) → ℕ → ℕ → Form
-madeOf [] f s e n i = f
-madeOf (k ∷ ks) f s e n i = madeOf ks (f (heldAt k s e n i)) s e n (suc i)
+-- refusal 2
+abbrev pub noForm : ReadForm
+noForm = record { word = Other; parts = tt }
 
--- the form of a word whose parts stand after the places e; its tree has n nodes
-abbrev pub formWith : Word → List ℕ → (ℕ → ℕ) → ℕ → Form
-formWith w s e n = madeOf (shapeOf w) (layout w .form) s e n 0
+-- of the part of kind k that follows a space at a, up to b; of the parts of a shape that stand after place i
+abbrev pub heldAt : (k : Kind) → List ℕ → ℕ → ℕ → Held k
+heldAt Label s a b = bytesOf s (part a b)
+heldAt Path s a b = bytesOf s (part a b)
+heldAt Tree s a b = treeNodes s (a + 1)
+heldAt Sign s a b = eqb (signAt s (a + 1)) 1
+heldAt Right s a b = rightAt s (a + 1)
 
-abbrev pub nodesBy : Word → List ℕ → Places → List Node
-nodesBy w s (are es) = nodesAt s (treePlace (shapeOf w) 0 (placeIn es))
-nodesBy w s none = []
+abbrev pub allHeldAt : (ks : List Kind) → List ℕ → (ℕ → ℕ) → ℕ → AllHeld ks
+allHeldAt [] s e i = tt
+allHeldAt (k ∷ ks) s e i = (heldAt k s (e i) (e (suc i)), allHeldAt ks s e (suc i))
 
-abbrev pub formBy : Word → List ℕ → Places → Form
-formBy w s (are es) = formWith w s (placeIn es) (length (nodesAt s (treePlace (shapeOf w) 0 (placeIn es))))
-formBy w s none = NoForm
+-- the form of a word whose parts stand after the places e
+abbrev pub formAt : Word → List ℕ → (ℕ → ℕ) → ReadForm
+formAt w s e = record { word = w; parts = allHeldAt (shapeOf w) s e 0 }
+
+abbrev pub formBy : Word → List ℕ → Places → ReadForm
+formBy w s (are es) = formAt w s (placeIn es)
+formBy w s none = noForm
 
 -- `(`, a word, and the parts of its shape: the places after them
 unfoldable pub endsIn : List ℕ → Places
 endsIn s = cond (eqb (byteAt s 0) 40) (runEnd labelByte s 1 andThen (none, λ e. partsOf (shapeOf (wordAt s 1)) s e)) none
 
--- What a line says; NoForm is refusal 2
-unfoldable pub readForm : List ℕ → Form
+-- What a line says
+unfoldable pub readForm : List ℕ → ReadForm
 readForm s = formBy (wordAt s 1) s (endsIn s)
 
--- the nodes of the tree that a line holds; none if it holds no tree or is refused
-unfoldable pub treeIn : List ℕ → List Node
-treeIn s = nodesBy (wordAt s 1) s (endsIn s)
+-- the nodes of a form's tree; none if it holds no tree
+abbrev pub nodesOr : (k : Kind) → Held k → List Node → List Node
+nodesOr Label l ns = ns
+nodesOr Path p ns = ns
+nodesOr Tree t ns = t
+nodesOr Sign b ns = ns
+nodesOr Right r ns = ns
+
+abbrev pub nodesHeld : (ks : List Kind) → AllHeld ks → List Node
+nodesHeld [] hs = []
+nodesHeld (k ∷ ks) (h, hs) = nodesOr k h (nodesHeld ks hs)
+
+abbrev pub treeIn : ReadForm → List Node
+treeIn f = nodesHeld (shapeOf (f .word)) (f .parts)

@@ -1,57 +1,64 @@
--- The forms of a line (document 01, "Lines"), a row each: how the word is written, the kinds of the parts that follow it, and the form that they make.
+-- The forms of a line (document 01, "Lines"), a row each: the stage that it belongs to, how its word is written, and the kinds of the parts that follow the word.
 -- A new form is a row here and an entry of formWords.
-use Prim.Native.Nat.{ℕ, _-_}
-use mathlib.Core.Bool.{Bool}
+use Prim.Native.Nat.{ℕ}
 use mathlib.Core.List.{List, [], _∷_, map}
 use Rattle.rights.specs.Bytes.{bytes}
 use Rattle.forms.specs.declared.layout.Word.{Word}
 use Rattle.forms.specs.declared.layout.Word.the-variants as word
-use Rattle.forms.specs.declared.form.Part.{Part}
-use Rattle.forms.specs.declared.form.Form.{Form}
-use Rattle.forms.specs.declared.form.Form.the-variants as form
 use Rattle.forms.specs.Word.{among, labelBytesAt}
 use Rattle.forms.specs.Kind.{Kind, Label, Path, Tree, Sign, Right}
 
--- what a form holds of a part of each kind: where a label or a path stands, how many nodes a tree has, whether a sign accepts, the bit of a right
-abbrev pub Holds : Kind → Type 0
-Holds Label = Part
-Holds Path = Part
-Holds Tree = ℕ
-Holds Sign = Bool
-Holds Right = ℕ
+-- "Stages, in order" A to E, by number
+abbrev pub stageA : ℕ
+stageA = 0
 
--- a form that is made of parts of these kinds
-abbrev pub FormOf : List Kind → Type 0
-FormOf [] = Form
-FormOf (k ∷ ks) = Holds k → FormOf ks
+abbrev pub stageB : ℕ
+stageB = 1
+
+abbrev pub stageC : ℕ
+stageC = 2
+
+abbrev pub stageD : ℕ
+stageD = 3
+
+abbrev pub stageE : ℕ
+stageE = 4
+
+-- what is no form belongs to no stage
+abbrev pub noStage : ℕ
+noStage = 5
 
 pub record FormRow : Type 0 where
+  pub stage : ℕ
   pub letters : List ℕ
   pub shape : List Kind
-  pub form : FormOf shape
 
-abbrev pub row : List ℕ → (ks : List Kind) → FormOf ks → FormRow
-row w ks f = record { letters = w; shape = ks; form = f }
+abbrev pub row : ℕ → List ℕ → List Kind → FormRow
+row g w ks = record { stage = g; letters = w; shape = ks }
 
 abbrev pub layout : Word → FormRow
-layout word.Subject = row (bytes "subject") (Label ∷ []) form.Subject
-layout word.Isa = row (bytes "isa") (Label ∷ Label ∷ []) form.Isa
-layout word.Rule = row (bytes "rule") (Sign ∷ Right ∷ Path ∷ Label ∷ []) form.Rule
-layout word.Root = row (bytes "root") (Label ∷ []) form.Root
-layout word.Child = row (bytes "child") (Tree ∷ []) form.Child
-layout word.User = row (bytes "user") (Label ∷ []) form.User
-layout word.View = row (bytes "view") [] form.View
-layout word.Query = row (bytes "query") (Path ∷ []) form.Query
-layout word.Find = row (bytes "find") (Path ∷ []) form.Find
-layout word.Rename = row (bytes "rename") (Path ∷ Label ∷ []) form.Rename
-layout word.Update = row (bytes "update") (Path ∷ Label ∷ []) form.Update
-layout word.Append = row (bytes "append") (Path ∷ Tree ∷ []) form.Append
-layout word.Before = row (bytes "before") (Path ∷ Tree ∷ []) form.Before
-layout word.After = row (bytes "after") (Path ∷ Tree ∷ []) form.After
-layout word.Remove = row (bytes "remove") (Path ∷ []) form.Remove
-layout word.Other = row [] [] form.NoForm
+layout word.Subject = row stageA (bytes "subject") (Label ∷ [])
+-- "N is an R"
+layout word.Isa = row stageA (bytes "isa") (Label ∷ Label ∷ [])
+layout word.Rule = row stageB (bytes "rule") (Sign ∷ Right ∷ Path ∷ Label ∷ [])
+layout word.Root = row stageC (bytes "root") (Label ∷ [])
+layout word.Child = row stageD (bytes "child") (Tree ∷ [])
+layout word.User = row stageE (bytes "user") (Label ∷ [])
+layout word.View = row stageE (bytes "view") []
+layout word.Query = row stageE (bytes "query") (Path ∷ [])
+layout word.Find = row stageE (bytes "find") (Path ∷ [])
+layout word.Rename = row stageE (bytes "rename") (Path ∷ Label ∷ [])
+layout word.Update = row stageE (bytes "update") (Path ∷ Label ∷ [])
+layout word.Append = row stageE (bytes "append") (Path ∷ Tree ∷ [])
+layout word.Before = row stageE (bytes "before") (Path ∷ Tree ∷ [])
+layout word.After = row stageE (bytes "after") (Path ∷ Tree ∷ [])
+layout word.Remove = row stageE (bytes "remove") (Path ∷ [])
+-- no form
+layout word.Other = row noStage [] []
 
--- how each form's word is written, and the parts of each form
+abbrev pub stageOf : Word → ℕ
+stageOf w = layout w .stage
+
 abbrev pub letters : Word → List ℕ
 letters w = layout w .letters
 

@@ -6,6 +6,5 @@ pub mod Kind
 pub mod Layout
 pub mod Form
 pub mod TreeText
-pub mod FormText
 pub mod Command
 pub mod How

@@ -14,13 +14,15 @@ use Rattle.views.specs.Change.{free}
 use Rattle.views.specs.declared.insert.Place.{Place}
 use Rattle.views.specs.declared.insert.Place.the-variants as place
 use Rattle.forms.specs.TreeText.{GoodTree}
-use Rattle.forms.specs.Command.{Command, GoodCommand}
-use Rattle.forms.specs.Command as command
+use Rattle.forms.specs.declared.layout.Word.{Word}
+use Rattle.forms.specs.declared.layout.Word.the-variants as word
+use Rattle.forms.specs.Layout.{stageOf, shapeOf}
+use Rattle.forms.specs.Command.{Values, command, GoodValue, GoodCommand}
 use Rattle.lines.specs.Refusal.{Check}
 use Rattle.lines.specs.State.{stageC, userByte, policyBytes, policyIn, storeOk}
 use Rattle.lines.specs.Work.{onView, workInsert}
 use Rattle.lines.proofs.StateLaws.{store-held}
-use Rattle.lines.specs.Clause.{stageFor, sizeOf, treeBytes, clause}
+use Rattle.lines.specs.Clause.{sizeOf, treeBytes, clause}
 use Rattle.lines.specs.Conditions.{Conditions, pathRows, insertRows, rows}
 use Rattle.lines.proofs.ConditionLaws.{Tells}
 use Rattle.lines.proofs.NameRows.{less-told, equal-told, path-told, bracket-told, restricted-told, unknown-told, declared-told, before-told, repeated-told, subjects-told, isa-told, rules-told}
@@ -41,28 +43,30 @@ module _ (s t : List ℕ) (L : Conditions) (ls : List Check) where
       (path-told p, λ _. (equal-told (userByte s) 0, λ _. (tree-told u g, λ _. (place-told s t u g at p, λ _. (places-room-told s t u g at p, λ _. w)))))
 
   -- the own checks of each form beside its own rows
-  pub own-tells : (c : Command) → GoodCommand c → storeOk s t ≡ true → (stageC < stageFor c → 1 ≤ count t) → Tells L ls → Tells (rows s t c ++ L) (clause c s t .checks ++ ls)
-  unfolding GoodCommand
-  own-tells (command.subject n) g ok h w = (declared-told (policyIn s) n, λ _. (subjects-told (policyBytes s), λ _. (same, λ _. w)))
-  own-tells (command.isa n r) g ok h w =
+  pub own-tells : (w : Word) (vs : Values (shapeOf w)) → GoodCommand (command w vs) → storeOk s t ≡ true → (stageC < stageOf w → 1 ≤ count t) → Tells L ls
+      → Tells (rows s t (command w vs) ++ L) (clause (command w vs) s t .checks ++ ls)
+  unfolding GoodValue
+  own-tells word.Subject (n, tt) g ok h w = (declared-told (policyIn s) n, λ _. (subjects-told (policyBytes s), λ _. (same, λ _. w)))
+  own-tells word.Isa (n, (r, tt)) g ok h w =
       let p = store-held s t ok .policy in (
         unknown-told (policyIn s) n,
         λ kn. (unknown-told (policyIn s) r, λ kr. (before-told (policyBytes s) p n r kn kr, λ _. (repeated-told (policyBytes s) p n r kn kr, λ _. (isa-told (policyBytes s), λ _. w)))),
       )
-  own-tells (command.rule a r p n) g ok h w =
+  own-tells word.Rule (a, (r, (p, (n, tt)))) g ok h w =
       (path-told p, λ _. (unknown-told (policyIn s) n, λ _. (bracket-told p, λ _. (rules-told (policyBytes s), λ _. (restricted-told p, λ _. w)))))
-  own-tells (command.root l) g ok h w = (same, λ _. (less-told (free t) 1, λ _. w))
-  own-tells (command.child u) g ok h w =
+  own-tells word.Root (l, tt) g ok h w = (same, λ _. (less-told (free t) 1, λ _. w))
+  own-tells word.Child (u, tt) g ok h w =
       let k = store-held s t ok .table in
       let r = h (omega arith) in
-      (tree-told u g, λ _. (child-told s t u g k r, λ _. (child-room-told s t u g k r, λ _. w)))
-  own-tells (command.user n) g ok h w = (unknown-told (policyIn s) n, λ _. w)
-  own-tells command.view g ok h w = (equal-told (userByte s) 0, λ _. w)
-  own-tells (command.query p) g ok h w = path-tells p w
-  own-tells (command.find p) g ok h w = path-tells p w
-  own-tells (command.rename p l) g ok h w = (path-told p, λ _. (equal-told (userByte s) 0, λ _. (or-told (sameLabel l restricted) (policyWord (policyIn s) l), λ _. w)))
-  own-tells (command.update p l) g ok h w = (path-told p, λ _. (equal-told (userByte s) 0, λ _. (or-told (sameLabel l restricted) (policyWord (policyIn s) l), λ _. w)))
-  own-tells (command.append p u) g ok h w = insert-tells place.Append p u (g .1) w
-  own-tells (command.before p u) g ok h w = insert-tells place.Before p u (g .1) w
-  own-tells (command.after p u) g ok h w = insert-tells place.After p u (g .1) w
-  own-tells (command.remove p) g ok h w = path-tells p w
+      (tree-told u (g .values .0), λ _. (child-told s t u (g .values .0) k r, λ _. (child-room-told s t u (g .values .0) k r, λ _. w)))
+  own-tells word.User (n, tt) g ok h w = (unknown-told (policyIn s) n, λ _. w)
+  own-tells word.View tt g ok h w = (equal-told (userByte s) 0, λ _. w)
+  own-tells word.Query (p, tt) g ok h w = path-tells p w
+  own-tells word.Find (p, tt) g ok h w = path-tells p w
+  own-tells word.Rename (p, (l, tt)) g ok h w = (path-told p, λ _. (equal-told (userByte s) 0, λ _. (or-told (sameLabel l restricted) (policyWord (policyIn s) l), λ _. w)))
+  own-tells word.Update (p, (l, tt)) g ok h w = (path-told p, λ _. (equal-told (userByte s) 0, λ _. (or-told (sameLabel l restricted) (policyWord (policyIn s) l), λ _. w)))
+  own-tells word.Append (p, (u, tt)) g ok h w = insert-tells place.Append p u (g .values .1 .0) w
+  own-tells word.Before (p, (u, tt)) g ok h w = insert-tells place.Before p u (g .values .1 .0) w
+  own-tells word.After (p, (u, tt)) g ok h w = insert-tells place.After p u (g .values .1 .0) w
+  own-tells word.Remove (p, tt) g ok h w = path-tells p w
+  own-tells word.Other tt g ok h w = absurd (omega (arith, g .word))

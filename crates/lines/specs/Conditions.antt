@@ -17,8 +17,10 @@ use Rattle.rights.specs.Tree.{Tree, nodesOf}
 use Rattle.views.specs.Change.{lower, free}
 use Rattle.views.specs.declared.insert.Place.{Place}
 use Rattle.views.specs.declared.insert.Place.the-variants as place
-use Rattle.forms.specs.Command.{Command}
-use Rattle.forms.specs.Command as command
+use Rattle.forms.specs.declared.layout.Word.{Word}
+use Rattle.forms.specs.declared.layout.Word.the-variants as word
+use Rattle.forms.specs.Layout.{shapeOf}
+use Rattle.forms.specs.Command.{Values, Command}
 use Rattle.lines.specs.PolicyEdit.{isaHeld, bracketed, stepList}
 use Rattle.lines.specs.Refusal.{rank}
 use Rattle.lines.specs.State.{userByte, policyIn}
@@ -91,34 +93,38 @@ module _ (s t : List ℕ) where
       ++ ((9, TreeRestricted u) ∷ (10, DeepPlace at p u) ∷ (11, free t < markCount (doneIn (changeAt at) s t p) * sizeOf u) ∷ [])
 
   -- each form's own rows; a number without a row never applies to the form
-  abbrev pub rows : Command → Conditions
-  rows (command.subject n) = (5, Declared (policyIn s) n) ∷ (7, 64 ≤ length (policyIn s .names)) ∷ (9, IsRestricted n) ∷ []
-  rows (command.isa n r) =
+  abbrev pub rowsBy : (w : Word) → Values (shapeOf w) → Conditions
+  rowsBy word.Subject (n, tt) = (5, Declared (policyIn s) n) ∷ (7, 64 ≤ length (policyIn s .names)) ∷ (9, IsRestricted n) ∷ []
+  rowsBy word.Isa (n, (r, tt)) =
       (5, Unknown (policyIn s) n)
       ∷ (5, Unknown (policyIn s) r)
       ∷ (5, NotBefore (policyIn s) r n)
       ∷ (5, Repeated (policyIn s) n r)
       ∷ (7, 128 ≤ length (policyIn s .isa))
       ∷ []
-  rows (command.rule a r p n) =
+  rowsBy word.Rule (a, (r, (p, (n, tt)))) =
       (4, NoPath p)
       ∷ (5, Unknown (policyIn s) n)
       ∷ (6, PathThat bracketed p)
       ∷ (7, 128 ≤ length (policyIn s .rules))
       ∷ (9, PathThat namesRestricted p)
       ∷ []
-  rows (command.root l) = (9, IsRestricted l) ∷ (11, free t < 1) ∷ []
-  rows (command.child u) = (9, TreeRestricted u) ∷ (10, DeepAt 1 u) ∷ (11, free t < sizeOf u) ∷ []
-  rows (command.user n) = (5, Unknown (policyIn s) n) ∷ []
-  rows command.view = (8, userByte s ≡ 0) ∷ []
-  rows (command.query p) = pathRows p
-  rows (command.find p) = pathRows p
-  rows (command.rename p l) = relabelRows p l
-  rows (command.update p l) = relabelRows p l
-  rows (command.append p u) = insertRows place.Append p u
-  rows (command.before p u) = insertRows place.Before p u
-  rows (command.after p u) = insertRows place.After p u
-  rows (command.remove p) = pathRows p
+  rowsBy word.Root (l, tt) = (9, IsRestricted l) ∷ (11, free t < 1) ∷ []
+  rowsBy word.Child (u, tt) = (9, TreeRestricted u) ∷ (10, DeepAt 1 u) ∷ (11, free t < sizeOf u) ∷ []
+  rowsBy word.User (n, tt) = (5, Unknown (policyIn s) n) ∷ []
+  rowsBy word.View tt = (8, userByte s ≡ 0) ∷ []
+  rowsBy word.Query (p, tt) = pathRows p
+  rowsBy word.Find (p, tt) = pathRows p
+  rowsBy word.Rename (p, (l, tt)) = relabelRows p l
+  rowsBy word.Update (p, (l, tt)) = relabelRows p l
+  rowsBy word.Append (p, (u, tt)) = insertRows place.Append p u
+  rowsBy word.Before (p, (u, tt)) = insertRows place.Before p u
+  rowsBy word.After (p, (u, tt)) = insertRows place.After p u
+  rowsBy word.Remove (p, tt) = pathRows p
+  rowsBy word.Other tt = []
+
+  abbrev pub rows : Command → Conditions
+  rows c = rowsBy (c .word) (c .values)
 
 -- the condition of number n holds
 abbrev pub Holds : ℕ → Conditions → Type 0

@@ -10,22 +10,7 @@ use Rattle.rights.specs.Table.{count, tableOk}
 use Rattle.rights.specs.Policy.{Policy}
 use Rattle.rights.specs.PolicyBytes.{policyOf, subjectCount, ruleCount}
 use Rattle.rights.specs.PolicyCheck.{policyOk}
-
--- "Stages, in order" A to E, by number
-abbrev pub stageA : ℕ
-stageA = 0
-
-abbrev pub stageB : ℕ
-stageB = 1
-
-abbrev pub stageC : ℕ
-stageC = 2
-
-abbrev pub stageD : ℕ
-stageD = 3
-
-abbrev pub stageE : ℕ
-stageE = 4
+pub use Rattle.forms.specs.Layout.{stageA, stageB, stageC, stageD, stageE}
 
 -- the stage that a state is in; the session's user, 0 for none, else one more than the subject's number; the policy
 abbrev pub stage : List ℕ → ℕ

@@ -1,6 +1,5 @@
 // The lines that write the policy (document 01, stages A and B).
 use crate::limits::POLICY_AT;
-use crate::limits::STAGE_B;
 use crate::line::Answer;
 use crate::policy_edit::Found;
 use crate::policy_edit::add_isa;
@@ -18,6 +17,7 @@ use crate::refusals::POLICY_FULL;
 use crate::refusals::RULE_BRACKET;
 use crate::refusals::area_refusal;
 use answers::answer::answer_ok;
+use forms::limits::STAGE_B;
 use rights::bytes::wide;
 use rights::labels::is_restricted;
 use rights::limits::ISA_MAX;

@@ -1,6 +1,5 @@
 // The line that logs a subject in (document 01, stage E).
 use crate::limits::POLICY_AT;
-use crate::limits::STAGE_E;
 use crate::line::Answer;
 use crate::policy_edit::Found;
 use crate::policy_edit::find_name;
@@ -8,6 +7,7 @@ use crate::policy_edit::number_in;
 use crate::refusals::BAD_NAME;
 use crate::refusals::area_refusal;
 use answers::answer::answer_ok;
+use forms::limits::STAGE_E;
 ghost use mathlib.Core.Path.{_≡_};
 ghost use mathlib.Core.Bool.{true};
 ghost use Rattle.lines.specs.State.{storeOk};

@@ -1,9 +1,9 @@
 // The state (document 01, "Lines" and 13; docs/FORMAT.md): the session, then the policy.
 use crate::limits::POLICY_AT;
-use crate::limits::STAGE_B;
-use crate::limits::STAGE_C;
-use crate::limits::STAGE_E;
 use crate::limits::STATE_BYTES;
+use forms::limits::STAGE_B;
+use forms::limits::STAGE_C;
+use forms::limits::STAGE_E;
 use rights::bytes::zeros_at;
 use rights::policy_check::policy_ok;
 use rights::table::count_of;

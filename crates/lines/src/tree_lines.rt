@@ -1,12 +1,12 @@
 // The lines that write the tree before anybody logs in (document 01, stages C and D), and what all lines that insert a tree have in common.
-use crate::limits::STAGE_C;
-use crate::limits::STAGE_D;
 use crate::line::Answer;
 use crate::refusals::BANNED_LABEL;
 use crate::refusals::LEVEL_TOO_DEEP;
 use crate::refusals::TABLE_FULL;
 use crate::refusals::area_refusal;
 use answers::answer::answer_ok;
+use forms::limits::STAGE_C;
+use forms::limits::STAGE_D;
 use rights::bytes::wide;
 use rights::labels::is_restricted;
 use rights::limits::COUNT_BYTES;

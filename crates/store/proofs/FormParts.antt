@@ -1,59 +1,45 @@
--- What the parts of a form that was read are: a new label is a good one, a right is one of the five, a tree is a good tree.
--- Assumes nothing.
+-- What the parts of a form that was read are: a label is a good one, a right is one of the five, a tree is a good tree. Assumes nothing.
 use Prim.Native.Nat.{ℕ, suc, _+_, _*_, _≤_}
-use mathlib.Core.Path.{_≡_, refl, ap}
-use mathlib.Core.List.{List, [], _∷_}
+use mathlib.Core.Path.{_≡_, refl}
+use mathlib.Core.List.{List, [], _∷_, _++_}
+use mathlib.Core.Logic.{_⊎_, inl, inr}
 use native.Mathlib.Omega.{arith}
 use lib.ListN.{length, length-append}
+use Rattle.rights.specs.Nodes.{Node}
 use Rattle.rights.specs.Policy.{Right, bitOf}
-use mathlib.Core.Logic.{_⊎_, inl, inr}
-use Rattle.forms.specs.declared.layout.Word.{Word}
-use Rattle.forms.specs.declared.layout.Word.the-variants as word
-use Rattle.forms.specs.declared.form.Part.{Part}
-use Rattle.forms.specs.declared.form.Form.{Form}
-use Rattle.forms.specs.declared.form.Form.the-variants as form
 use Rattle.rights.specs.Tree as text
 use Rattle.rights.specs.Tree.{writeTree, writeTrees, nodesOf, nodesIn}
 use Rattle.forms.specs.TreeText.{GoodTree, GoodTrees, GoodLabel}
 use Rattle.forms.specs.Kind.{Kind}
 use Rattle.forms.specs.Kind as kind
-use Rattle.forms.specs.Layout.{shapeOf}
-use Rattle.forms.specs.Form.{part, bytesOf, placeIn, formWith, readForm, treeIn}
-use Rattle.forms.specs.FormText.{Values, Said, writeValue, GoodValue, GoodValues, write, Good, nodesOr, nodesSaid}
-use Rattle.forms.proofs.FormTextLaws.{right-reads, values-stop, placesOf, endOf, after-word, written-form, written-tree, read-or-none}
-use Rattle.forms.proofs.CommandLaws.{PartSaid, AllSaid, all-said}
+use Rattle.forms.specs.Layout.{letters, shapeOf}
+use Rattle.forms.specs.Form.{Held, AllHeld, ReadForm, noForm, readForm}
+use Rattle.forms.specs.Command.{Value, Values, Command, writeValue, writeValues, written, GoodValue, GoodValues, GoodCommand, heldOf, allHeldOf}
+use Rattle.forms.proofs.FormTextLaws.{command-or-none}
+use Rattle.forms.proofs.CommandLaws.{written-read}
 
--- a part that holds a good label
-abbrev pub LabelPart : List ℕ → Part → Type 0
-LabelPart s p = GoodLabel (bytesOf s p)
-
--- the line's tree, of m nodes
-pub record TreePart (s : List ℕ) (m : ℕ) : Type 0 where
+-- the nodes of a tree that a line of s writes
+pub record TreePart (s : List ℕ) (ns : List Node) : Type 0 where
   pub is : text.Tree
   pub good : GoodTree is
-  pub nodes : treeIn s ≡ nodesOf 0 is
-  pub size : m ≡ length (treeIn s)
+  pub nodes : ns ≡ nodesOf 0 is
   pub short : length (writeTree is) ≤ length s
-  pub small : 32 * m ≤ 16 * length s
+  pub small : 32 * length ns ≤ 16 * length s
 
--- what the laws of a form lean on: a new label is a good one, a right is one of the five, a tree is a good tree
-abbrev pub Fits : List ℕ → Form → Type 0
-Fits s (form.Subject n) = LabelPart s n
-Fits s (form.Isa n r) = Unit {0}
-Fits s (form.Rule a b p n) = (r : Right) × (b ≡ bitOf r)
-Fits s (form.Root l) = LabelPart s l
-Fits s (form.Child m) = TreePart s m
-Fits s (form.User n) = Unit {0}
-Fits s form.View = Unit {0}
-Fits s (form.Query p) = Unit {0}
-Fits s (form.Find p) = Unit {0}
-Fits s (form.Rename p l) = LabelPart s l
-Fits s (form.Update p l) = LabelPart s l
-Fits s (form.Append p m) = TreePart s m
-Fits s (form.Before p m) = TreePart s m
-Fits s (form.After p m) = TreePart s m
-Fits s (form.Remove p) = Unit {0}
-Fits s form.NoForm = Unit {0}
+-- what the laws of a form lean on, by the kind of each part
+abbrev pub PartFits : List ℕ → (k : Kind) → Held k → Type 0
+PartFits s kind.Label l = GoodLabel l
+PartFits s kind.Path p = Unit {0}
+PartFits s kind.Tree ns = TreePart s ns
+PartFits s kind.Sign b = Unit {0}
+PartFits s kind.Right b = (r : Right) × (b ≡ bitOf r)
+
+abbrev pub AllFit : List ℕ → (ks : List Kind) → AllHeld ks → Type 0
+AllFit s [] hs = Unit {0}
+AllFit s (k ∷ ks) (h, hs) = PartFits s k h × AllFit s ks hs
+
+abbrev pub Fits : List ℕ → ReadForm → Type 0
+Fits s f = AllFit s (shapeOf (f .word)) (f .parts)
 
 -- a node takes three bytes or more of the text
 mutual
@@ -70,42 +56,28 @@ mutual
       let n : length (writeTrees (text.more t ts)) ≡ 1 + length (writeTree t) + length (writeTrees ts) = simp length-append (omega arith) in
       omega (arith, n, length-append (nodesOf k t) (nodesIn k ts), tree-size t k (g .0), trees-size ts k (g .1))
 
-tree-part : (s : List ℕ) (t : text.Tree) (n : ℕ) → GoodTree t → treeIn s ≡ nodesOf 0 t → n ≡ length (treeIn s) → {a : ℕ} {ks : List Kind} {vs : Values ks} → PartSaid s a kind.Tree t ks vs → TreePart s n
-unfolding writeValue
-tree-part s t n g e q h =
-    record { is = t; good = g; nodes = e; size = q; short = omega (arith, h .inside); small = omega (arith, tree-size t 0 g, ap length e, h .inside) }
+value-fits : (s : List ℕ) (k : Kind) (v : Value k) → GoodValue k v → length (writeValue k v) ≤ length s → PartFits s k (heldOf k v)
+unfolding writeValue GoodValue
+value-fits s kind.Label l g h = g
+value-fits s kind.Path p g h = tt
+value-fits s kind.Tree t g h = record { is = t; good = g; nodes = refl; short = h; small = omega (arith, tree-size t 0 g, h) }
+value-fits s kind.Sign b g h = tt
+value-fits s kind.Right r g h = (r, refl)
 
-label-part : (s l : List ℕ) {a : ℕ} {ks : List Kind} {vs : Values ks} → GoodLabel l → PartSaid s a kind.Label l ks vs → LabelPart s (part a (a + 1 + length l))
-unfolding writeValue
-label-part s l g h = rw (h .holds) g
-
-module _ (s : List ℕ) (a : ℕ) where
-  -- the parts of each form
-  said-fits : (w : Word) (vs : Values (shapeOf w)) → GoodValues (shapeOf w) vs → AllSaid s a (shapeOf w) vs → treeIn s ≡ nodesSaid (shapeOf w) vs → Fits s (formWith w s (placeIn (placesOf a (shapeOf w) vs)) (length (treeIn s)))
-  unfolding writeValue GoodValue nodesOr
-  said-fits word.Subject (n, tt) g h t = label-part s n (g .0) (h .0)
-  said-fits word.Isa vs g h t = tt
-  said-fits word.Rule (b, (r, (p, (n, tt)))) g h t = (r, right-reads s _ r _ (h .1 .0 .follows) (values-stop (kind.Path ∷ kind.Label ∷ []) (p, (n, tt)) .no-label) .1)
-  said-fits word.Root (l, tt) g h t = label-part s l (g .0) (h .0)
-  said-fits word.Child (u, tt) g h t = tree-part s u _ (g .0) t refl (h .0)
-  said-fits word.User vs g h t = tt
-  said-fits word.View vs g h t = tt
-  said-fits word.Query vs g h t = tt
-  said-fits word.Find vs g h t = tt
-  said-fits word.Rename (p, (l, tt)) g h t = label-part s l (g .1 .0) (h .1 .0)
-  said-fits word.Update (p, (l, tt)) g h t = label-part s l (g .1 .0) (h .1 .0)
-  said-fits word.Append (p, (u, tt)) g h t = tree-part s u _ (g .1 .0) t refl (h .1 .0)
-  said-fits word.Before (p, (u, tt)) g h t = tree-part s u _ (g .1 .0) t refl (h .1 .0)
-  said-fits word.After (p, (u, tt)) g h t = tree-part s u _ (g .1 .0) t refl (h .1 .0)
-  said-fits word.Remove vs g h t = tt
-  said-fits word.Other vs g h t = tt
+values-fit : (s : List ℕ) (ks : List Kind) (vs : Values ks) → GoodValues ks vs → length (writeValues ks vs) ≤ length s → AllFit s ks (allHeldOf ks vs)
+values-fit s [] vs g h = tt
+values-fit s (k ∷ ks) (v, vs) g h =
+    let n = length-append (writeValue k v) (writeValues ks vs) in
+    (value-fits s k v (g .0) (omega arith), values-fit s ks vs (g .1) (omega arith))
 
 -- What was read fits its line.
 pub form-fits : (s : List ℕ) → Fits s (readForm s)
-form-fits s = go (read-or-none s)
+unfolding written
+form-fits s = go (command-or-none s)
   where
-    go : (readForm s ≡ form.NoForm) ⊎ ((f : Said) × Good f × (s ≡ write f)) → Fits s (readForm s)
+    go : (readForm s ≡ noForm) ⊎ ((c : Command) × GoodCommand c × (s ≡ written c)) → Fits s (readForm s)
     go (inl e) = rw e tt
-    go (inr (f, g, q)) =
-        rw q (rw (written-form f g)
-        (said-fits (write f) (endOf f) (f .word) (f .values) (g .values) (all-said (write f) (endOf f) (shapeOf (f .word)) (f .values) (after-word f)) (written-tree f g)))
+    go (inr (c, g, q)) =
+        let ks = shapeOf (c .word) in
+        rw q (rw (written-read c g)
+        (values-fit (written c) ks (c .values) (g .values) (omega (arith, length-append (letters (c .word)) (writeValues ks (c .values))))))

@@ -4,39 +4,52 @@ use mathlib.Core.Path.{_≡_, refl, sym, ap, _∙_, subst}
 use mathlib.Core.List.{List, [], _∷_, _++_, append-assoc}
 use mathlib.Core.Bool.{Bool, true, false, cond, _&&_, Bool·beq, and-eq-true-iff}
 use native.Mathlib.Omega.{arith}
-use borrow.Author.Tests.{leb-true, le-leb, lt-leb, leb-false, not-false}
+use borrow.Author.Tests.{eq-eqb, ne-eqb, leb-true, le-leb, lt-leb, leb-false, not-false}
 use lib.Dec.{leb, ltb}
-use lib.ListN.{length, take, drop, replicate, length-append, length-drop, length-replicate, drop-of-length-le}
+use lib.ListN.{length, getD, take, drop, replicate, length-append, length-drop, length-replicate, drop-of-length-le}
 use lib.Seq.{take-at, take-all, take-nil}
 use Rattle.rights.specs.Record.{nodeRecord, pasted}
 use Rattle.rights.proofs.ListLaws.{byCase}
 use Rattle.rights.proofs.RecordOfLaws.{length-node}
-use Rattle.forms.specs.declared.form.Part.{Part}
+use Rattle.forms.specs.declared.layout.Word.{Word}
 use Rattle.forms.specs.declared.form.Form.{Form}
-use Rattle.forms.specs.declared.form.Form.the-variants.{Root}
 use Rattle.forms.specs.Text.{lineOk}
 use Rattle.rights.specs.Nodes.{Node, node}
 use Rattle.forms.specs.Tree.{held, recordsOf}
 use Rattle.rights.specs.Tree as text
 use Rattle.rights.specs.Tree.{nodesOf, nodesIn}
 use Rattle.forms.specs.TreeText.{GoodTree, GoodTrees, GoodLabel}
-use Rattle.forms.specs.Form.{readForm, treeIn}
-use Rattle.forms.specs.How.Reader.{areaIn}
+use Rattle.forms.specs.Layout.{stageOf, shapeOf}
+use Rattle.forms.specs.Form.{placeIn, formAt, readForm, treeIn}
+use Rattle.forms.specs.How.Codes.{codesOf, saysBy}
+use Rattle.forms.specs.How.Reader.{FormRead, areaIn}
 use Rattle.forms.proofs.PlaceLaws.{area-form}
 use Rattle.lines.specs.State.{stage, storeOk}
 use Rattle.lines.specs.Outcome.{refusal, Made}
-use Rattle.lines.specs.Refusal.{Passed, firstRefusal}
+use Rattle.lines.specs.Refusal.{Check, Passed, firstRefusal}
+use Rattle.lines.specs.Clause.{workOf}
 use Rattle.lines.specs.Effect.{Work, guarded, Performs}
 use Rattle.lines.specs.declared.line.Answer.{Answer}
 use Rattle.lines.specs.declared.line.Answer.the-variants.{Refused}
 use Rattle.lines.proofs.OutcomeLaws.{made-at}
 use Rattle.lines.proofs.RefusalLaws.{first-behind, first-front, passed, passed-append, performs-refused, performed-guarded}
-use Rattle.store.specs.Line.{stageOf, inStage, isNoForm, workOf, textChecks, formChecks, lineChecks, step}
+use Rattle.store.specs.Line.{inStage, isNoForm, textChecks, formChecks, lineChecks, step}
 use Rattle.store.proofs.FormParts.{TreePart, Fits, form-fits}
 
--- the parts of a form that was read, where its variant is known
-pub fits-at : (line : List ℕ) {f g : Form} → f ≡ readForm line → f ≡ g → Fits line g
-fits-at line e q = subst (Fits line) (sym e ∙ q) (form-fits line)
+-- A form that was read, where its word is known
+module _ {line : List ℕ} {f : Form} (r : FormRead line f) {w : Word} (e : f .word ≡ w) where
+  pub read-as : readForm line ≡ formAt w line (placeIn (f .ends))
+  read-as = r .form ∙ ap (λ v. formAt v line (placeIn (f .ends))) e
+
+  pub fits-as : Fits line (formAt w line (placeIn (f .ends)))
+  fits-as = subst (Fits line) read-as (form-fits line)
+
+  pub says-as : (j : ℕ) → j < 4 → getD (f .says) j 0 ≡ saysBy (getD (codesOf (shapeOf w)) j 0) line (placeIn (f .ends) j + 1)
+  says-as = subst (λ v. (j : ℕ) → j < 4 → getD (f .says) j 0 ≡ saysBy (getD (codesOf (shapeOf v)) j 0) line (placeIn (f .ends) j + 1)) e (r .says)
+
+  pub tree-as : (b : List ℕ) → b ≡ pasted (replicate 16384 0) 0 (recordsOf (treeIn (readForm line)))
+      → b ≡ pasted (replicate 16384 0) 0 (recordsOf (treeIn (formAt w line (placeIn (f .ends)))))
+  tree-as b q = q ∙ ap (λ g. pasted (replicate 16384 0) 0 (recordsOf (treeIn g))) read-as
 
 -- the smaller of two numbers
 abbrev least : ℕ → ℕ → ℕ
@@ -77,38 +90,37 @@ mutual
       ap length (records-append (nodesOf k t) (nodesIn k ts)) ∙ length-append (recordsOf (nodesOf k t)) (recordsOf (nodesIn k ts))
       ∙ omega (arith, tree-records t k (g .0), trees-records ts k (g .1), length-append (nodesOf k t) (nodesIn k ts))
 
-module _ {line : List ℕ} {m : ℕ} (w : TreePart line m) where
-  size-is : length (recordsOf (treeIn line)) ≡ m * 32
-  size-is = rw (w .nodes) (tree-records (w .is) 0 (w .good)) ∙ ap (λ k. k * 32) (sym (w .size ∙ ap length (w .nodes)))
+module _ {line : List ℕ} {ns : List Node} (w : TreePart line ns) where
+  size-is : length (recordsOf ns) ≡ length ns * 32
+  size-is = rw (w .nodes) (tree-records (w .is) 0 (w .good))
 
-  few : lineOk line ≡ true → m ≤ 512
+  few : lineOk line ≡ true → length ns ≤ 512
   unfolding lineOk
   few ok =
       let f = simp (lineOk, and-eq-true-iff) at ok in
       omega (arith, w .small, leb-true (length line) 1024 (f .0))
 
-  module _ (area : List ℕ) (e : area ≡ pasted (replicate 16384 0) 0 (recordsOf (treeIn line))) (ok : lineOk line ≡ true) where
+  module _ {m : ℕ} (n : m ≡ length ns) (area : List ℕ) (e : area ≡ pasted (replicate 16384 0) 0 (recordsOf ns)) (ok : lineOk line ≡ true) where
     length-area : length area ≡ 16384
     length-area =
-        ap length e ∙ length-append (recordsOf (treeIn line)) (drop (0 + length (recordsOf (treeIn line))) (replicate 16384 0))
-        ∙ omega (arith, size-is, few ok, length-drop (0 + length (recordsOf (treeIn line))) (replicate {A = ℕ} 16384 0), length-replicate {A = ℕ} 16384 0)
+        ap length e ∙ length-append (recordsOf ns) (drop (0 + length (recordsOf ns)) (replicate 16384 0))
+        ∙ omega (arith, size-is, few ok, length-drop (0 + length (recordsOf ns)) (replicate {A = ℕ} 16384 0), length-replicate {A = ℕ} 16384 0)
 
     pub tree-asks : (m ≤ 1024) × (m * 32 ≤ length area)
-    tree-asks = (omega (arith, few ok), omega (arith, few ok, length-area))
+    tree-asks = (omega (arith, n, few ok), omega (arith, n, few ok, length-area))
 
-    pub tree-taken : (x : List ℕ) → x ≡ take (m * 32) area → x ≡ recordsOf (treeIn line)
-    tree-taken x q = q ∙ rw e (take-at (recordsOf (treeIn line)) (drop (0 + length (recordsOf (treeIn line))) (replicate 16384 0)) (m * 32) size-is)
+    pub tree-taken : (x : List ℕ) → x ≡ take (m * 32) area → x ≡ recordsOf ns
+    tree-taken x q = q ∙ rw e (take-at (recordsOf ns) (drop (0 + length (recordsOf ns)) (replicate 16384 0)) (m * 32) (rw n size-is))
 
     -- what the lines with a tree ask of it
     pub tree-holds : (x : List ℕ) → x ≡ take (m * 32) area → (m * 32 ≤ length x) × (m ≤ 16384)
-    tree-holds x q = (omega (arith, ap length (tree-taken x q), size-is), omega (arith, few ok))
+    tree-holds x q = (omega (arith, n, ap length (tree-taken x q), size-is), omega (arith, n, few ok))
 
 -- a root line comes before any root
-pub root-stage : {f : Form} {l : Part} (g : ℕ) → f ≡ Root l → inStage (stageOf f) g ≡ true → g < 2
-root-stage g e h = byCase (leb 2 g)
+pub root-stage : (g : ℕ) → inStage 2 g ≡ true → g < 2
+root-stage g h = byCase (leb 2 g)
     (λ q. absurd (
-    let z : inStage 2 g ≡ true = rw e at h in
-    let w : (leb g 2 && false) ≡ true = rw q at z in
+    let w : (leb g 2 && false) ≡ true = rw q at h in
     let f = simp (and-eq-true-iff) at w in
     let y : _≡_ {A = ℕ} 0 1 = cc in
     omega arith))
@@ -143,30 +155,16 @@ module _ (s t line : List ℕ) where
   pub text-passed : {d : ℕ} → d ≡ firstRefusal (textChecks s t line) → d ≡ 0 → (storeOk s t ≡ true) × (lineOk line ≡ true)
   text-passed {d} e z = let p = passed (textChecks s t line) d refl e z in (not-false (storeOk s t) (p .0), not-false (lineOk line) (p .1 .0))
 
-module _ (f : Form) (g : ℕ) where
-  pub at-none : isNoForm f ≡ true → 2 ≡ firstRefusal (formChecks f g)
-  at-none e = rw e
+module _ (k g : ℕ) where
+  pub at-none : k ≡ 5 → 2 ≡ firstRefusal (formChecks k g)
+  at-none e = rw (eq-eqb k 5 e)
 
-  module _ {k : ℕ} {b : Bool} (n : isNoForm f ≡ false) (e : k ≡ stageOf f) (q : b ≡ inStage k g) where
-    pub at-stage : b ≡ false → 3 ≡ firstRefusal (formChecks f g)
-    at-stage r = let z : inStage (stageOf f) g ≡ false = ap (λ j. inStage j g) (sym e) ∙ sym q ∙ r in rw (n, z)
+  module _ {b : Bool} (n : k ≡ 5 → ⊥) (q : b ≡ inStage k g) where
+    pub at-stage : b ≡ false → 3 ≡ firstRefusal (formChecks k g)
+    at-stage r = rw (ne-eqb k 5 n, sym q ∙ r)
 
-    pub at-form : b ≡ true → 0 ≡ firstRefusal (formChecks f g)
-    at-form r = let z : inStage (stageOf f) g ≡ true = ap (λ j. inStage j g) (sym e) ∙ sym q ∙ r in rw (n, z)
-
--- what both let pass
-pub run-asks : (s t line : List ℕ) {d g : ℕ} {f : Form} → d ≡ firstRefusal (textChecks s t line) → d ≡ 0 → f ≡ readForm line
-    → g ≡ firstRefusal (formChecks f (stage s)) → g ≡ 0
-    → (storeOk s t ≡ true) × (lineOk line ≡ true) × (f ≡ readForm line) × (inStage (stageOf f) (stage s) ≡ true) × (isNoForm f ≡ false)
-run-asks s t line {d} {g} {f} e z q k w =
-    let p = text-passed s t line e z in
-    let h = passed (formChecks f (stage s)) g refl k w in
-    (p .0, p .1, q, not-false (inStage (stageOf f) (stage s)) (h .1 .0), h .0)
-
--- the area of a line that is a form has the records of its tree
-pub tree-area : (line a : List ℕ) {f : Form} {b : List ℕ} → f ≡ readForm line → isNoForm f ≡ false → b ≡ areaIn line a → b ≡ pasted a 0 (recordsOf (treeIn line))
-tree-area line a {f} q some e =
-    e ∙ area-form line a (λ z. let y : isNoForm f ≡ true = ap isNoForm (q ∙ z) in absurd (let x : true ≡ false = sym y ∙ some in let v : _≡_ {A = ℕ} 0 1 = cc in omega arith))
+    pub at-form : b ≡ true → 0 ≡ firstRefusal (formChecks k g)
+    at-form r = rw (ne-eqb k 5 n, sym q ∙ r)
 
 -- a refusal leaves all as it was
 pub refused : {n : ℕ} {s t area : List ℕ} → Made (refusal n s t) area (Refused n) s t area
@@ -175,42 +173,57 @@ refused = record { answer = refl; state = refl; table = refl; area = refl }
 -- The whole line
 
 module _ (s t line : List ℕ) where
-  abbrev form : Form
-  form = readForm line
-
   abbrev ownWork : Work
-  ownWork = workOf form s t line (recordsOf (treeIn line))
+  ownWork = workOf (readForm line) s t
+
+  abbrev ownFront : List Check
+  ownFront = formChecks (stageOf (readForm line .word)) (stage s)
 
   abbrev whole : Work
-  whole = guarded (lineChecks s t line form) ownWork
+  whole = guarded (lineChecks s t line) ownWork
 
   -- refused before it is read
   pub text-refused : {d : ℕ} {area : List ℕ} → d ≡ firstRefusal (textChecks s t line) → (d ≡ 0 → ⊥) → Made (step s t line (length area)) area (Refused d) s t area
   unfolding step
-  text-refused {d} e h = performs-refused whole s t (first-front (textChecks s t line) (formChecks form (stage s) ++ ownWork .checks) d e h) h
+  text-refused {d} e h = performs-refused whole s t (first-front (textChecks s t line) (ownFront ++ ownWork .checks) d e h) h
 
-  -- refused for its form
-  module _ {d : ℕ} (e : d ≡ firstRefusal (textChecks s t line)) (z : d ≡ 0) {f : Form} (q : f ≡ readForm line) {g : ℕ} (k : g ≡ firstRefusal (formChecks f (stage s))) where
+  -- the form that was read, where its stage was asked for
+  module _ {d : ℕ} (e : d ≡ firstRefusal (textChecks s t line)) (z : d ≡ 0) {f : Form} (q : FormRead line f) {g : ℕ} (k : g ≡ firstRefusal (formChecks (f .stage) (stage s))) where
     passed-text : Passed (textChecks s t line)
     passed-text = passed (textChecks s t line) d refl e z
 
-    read : g ≡ firstRefusal (formChecks form (stage s))
-    read = k ∙ ap (λ f. firstRefusal (formChecks f (stage s))) q
+    stage-is : f .stage ≡ stageOf (readForm line .word)
+    stage-is = q .stage ∙ ap (λ r. stageOf (r .word)) (sym (q .form))
 
+    read : g ≡ firstRefusal ownFront
+    read = k ∙ ap (λ j. firstRefusal (formChecks j (stage s))) stage-is
+
+    -- refused for its form
     pub form-refused : {area : List ℕ} → (g ≡ 0 → ⊥) → Made (step s t line (length area)) area (Refused g) s t area
     unfolding step
     form-refused h =
         performs-refused whole s t
-        (first-front (formChecks form (stage s)) (ownWork .checks) g read h
-        ∙ sym (first-behind (textChecks s t line) (formChecks form (stage s) ++ ownWork .checks) passed-text))
+        (first-front ownFront (ownWork .checks) g read h ∙ sym (first-behind (textChecks s t line) (ownFront ++ ownWork .checks) passed-text))
         h
 
-    -- taken to the form's own work
-    pub line-run : {area s' t' area' : List ℕ} {r : Answer} → g ≡ 0 → Performs (workOf f s t line (recordsOf (treeIn line))) s t area r s' t' area'
-        → Made (step s t line (length area)) area r s' t' area'
-    unfolding step
-    line-run {area} {s'} {t'} {area'} {r} w m =
-        made-at
-        (performed-guarded (lineChecks s t line form) ownWork (length area) s t
-        (passed-append (textChecks s t line) (formChecks form (stage s)) passed-text (passed (formChecks form (stage s)) g refl read w)))
-        (subst (λ f. Performs (workOf f s t line (recordsOf (treeIn line))) s t area r s' t' area') q m)
+    module _ (w : g ≡ 0) where
+      passed-form : Passed ownFront
+      passed-form = passed ownFront g refl read w
+
+      -- what both let pass; the area of a line that is a form has the records of its tree
+      pub run-asks : (a b : List ℕ) → b ≡ areaIn line a
+          → (storeOk s t ≡ true) × (lineOk line ≡ true) × FormRead line f × (inStage (stageOf (f .word)) (stage s) ≡ true) × (b ≡ pasted a 0 (recordsOf (treeIn (readForm line))))
+      run-asks a b h =
+          let p = text-passed s t line e z in (
+            p .0,
+            p .1,
+            q,
+            ap (λ j. inStage j (stage s)) (sym (q .stage) ∙ stage-is) ∙ not-false (inStage (stageOf (readForm line .word)) (stage s)) (passed-form .1 .0),
+            h ∙ area-form line a (λ y. let x : true ≡ false = ap (λ r. isNoForm (stageOf (r .word))) (sym y) ∙ passed-form .0 in absurd (let v : _≡_ {A = ℕ} 0 1 = cc in omega arith)),
+          )
+
+      -- taken to the form's own work
+      pub line-run : {area s' t' area' : List ℕ} {r : Answer} → Performs ownWork s t area r s' t' area' → Made (step s t line (length area)) area r s' t' area'
+      unfolding step
+      line-run {area} m =
+          made-at (performed-guarded (lineChecks s t line) ownWork (length area) s t (passed-append (textChecks s t line) ownFront passed-text passed-form)) m

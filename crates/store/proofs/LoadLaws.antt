@@ -23,8 +23,8 @@ use Rattle.rights.proofs.TableLaws.{table-long}
 use Rattle.views.specs.Change.{raise, chunks, deepest, tooDeep, free, hasRoom, changed}
 use Rattle.views.proofs.NestedLaws.{all-append}
 use Rattle.answers.specs.Answer.{okText}
-use Rattle.forms.specs.Command.{Command}
-use Rattle.forms.specs.Command as command
+use Rattle.forms.specs.declared.layout.Word.the-variants as word
+use Rattle.forms.specs.Command.{Command, command}
 use Rattle.forms.specs.TreeText.{GoodTree, GoodTrees}
 use Rattle.lines.specs.Allowed.{Session, sessionIn, HoldsSession, HoldsStore}
 use Rattle.lines.specs.Clause.{treeBytes, clause}
@@ -163,7 +163,7 @@ stage-behind (more u us) = (omega arith, omega arith)
 
 module _ (room : ℕ) (s t l : List ℕ) where
   abbrev rootChecks : List Check
-  rootChecks = checksOf s t (command.root l) room
+  rootChecks = checksOf s t (command word.Root (l, tt)) room
 
   root-passed : storeOk s t ≡ true → stage s < 2 → (IsRestricted l → ⊥) → 1 ≤ capacity (length t) → 5 ≤ room → Passed rootChecks
   root-passed ok early a c r =
@@ -187,9 +187,9 @@ module _ (room : ℕ) (s t l : List ℕ) where
   )
 
   root-leaves : Passed rootChecks
-      → stepUnlimited s t (command.root l) room ≡ leaving okText (withStage 2 s) (tableBytes (length t) (map nodeBytes (node 0 l ∷ [])))
+      → stepUnlimited s t (command word.Root (l, tt)) room ≡ leaving okText (withStage 2 s) (tableBytes (length t) (map nodeBytes (node 0 l ∷ [])))
   unfolding changed
-  root-leaves p = carried-out s t (command.root l) room p
+  root-leaves p = carried-out s t (command word.Root (l, tt)) room p
 
 -- The child lines, on a table of n bytes with the root l; s is the state before the root line
 
@@ -211,7 +211,7 @@ module _ (room n : ℕ) (head : 4 ≤ n) (s : List ℕ) (ok : stateOk s ≡ true
     some = omega (arith, count-made n head (node 0 l ∷ d) allowed fits)
 
     abbrev childChecks : List Check
-    childChecks = checksOf (withStage g s) (tableOf d) (command.child u) room
+    childChecks = checksOf (withStage g s) (tableOf d) (command word.Child (u, tt)) room
 
     restricted-told : (TreeRestricted u → ⊥) ↔ (treeRestricted (sizeOf u) (treeBytes u) ≡ false)
     restricted-told = passes-exactly (tree-told u good)
@@ -241,10 +241,10 @@ module _ (room n : ℕ) (head : 4 ≤ n) (s : List ℕ) (ok : stateOk s ≡ true
     )
 
     child-leaves : Passed childChecks → All LowLevel (nodesOf 1 u)
-        → stepUnlimited (withStage g s) (tableOf d) (command.child u) room ≡ leaving okText (withStage 3 s) (tableOf (d ++ nodesOf 1 u))
+        → stepUnlimited (withStage g s) (tableOf d) (command word.Child (u, tt)) room ≡ leaving okText (withStage 3 s) (tableOf (d ++ nodesOf 1 u))
     unfolding changed
     child-leaves p a =
-        carried-out (withStage g s) (tableOf d) (command.child u) room p
+        carried-out (withStage g s) (tableOf d) (command word.Child (u, tt)) room p
         ∙ ap (leaving okText (withStage 3 s))
         (ap₂ tableBytes (length-made n head (node 0 l ∷ d) allowed fits)
         (child-last (tableOf d) (treeBytes u) (sizeOf u) sound some
@@ -285,7 +285,7 @@ module _ (room n : ℕ) (head : 4 ≤ n) (s : List ℕ) (ok : stateOk s ≡ true
   children-told (more u us) g d low high good shape now fits s' t' x =
       let e : (d ++ nodesOf 1 u) ++ nodesIn 1 us ≡ d ++ (nodesOf 1 u ++ nodesIn 1 us) = append-assoc d (nodesOf 1 u) (nodesIn 1 us) in
       let whole : TreeShaped (node 0 l ∷ ((d ++ nodesOf 1 u) ++ nodesIn 1 us)) = rw e shape in
-      let p = answered (withStage g s) (tableOf d) (command.child u) room okText (x .0) in
+      let p = answered (withStage g s) (tableOf d) (command word.Child (u, tt)) room okText (x .0) in
       let k = passed-child g low high d now fits u (good .0) p in
       let levels = low-levels (nodesOf 1 u) (k .1) in
       let labels = relevel LabelOk 0 1 u (free-labels u (good .0) (k .0)) in
@@ -338,7 +338,7 @@ module _ (room : ℕ) (s t : List ℕ) where
       → (storeOk s t ≡ true) × (stage s < 2) × Loadable room t u
   unfolding nodesOf GoodTree
   taken (tree l us) g s' t' x =
-      let p = answered s t (command.root l) room okText (x .0) in
+      let p = answered s t (command word.Root (l, tt)) room okText (x .0) in
       let k = passed-root room s t l p in
       let rest = subst (Follow room (childCommands us) s' t') (root-leaves room s t l p) (x .1) in
       let now : AllowedNodes (node 0 l ∷ []) = record {

@@ -13,16 +13,18 @@ use Rattle.rights.specs.Bytes.{all}
 use Rattle.rights.specs.Table.{count}
 use Rattle.rights.proofs.ListLaws.{byCase}
 use Rattle.forms.specs.Text.{lineByte, lineOk}
-use Rattle.forms.specs.Command.{Command, written, GoodCommand}
-use Rattle.forms.specs.Command as command
-use Rattle.forms.proofs.CommandLaws.{command-or-none, none-written}
+use Rattle.forms.specs.declared.layout.Word.{Word}
+use Rattle.forms.specs.declared.layout.Word.the-variants as word
+use Rattle.forms.specs.Layout.{shapeOf}
+use Rattle.forms.specs.Command.{Values, Command, command, stageFor, written, GoodCommand}
+use Rattle.forms.proofs.FormTextLaws.{command-or-none, none-written}
 use Rattle.lines.specs.Effect.{guarded, checksIn, performed}
 use Rattle.lines.specs.Outcome.{says, refuses, Outcome}
 use Rattle.lines.specs.Refusal.{Check, check, areaCheck, badStore, badLine, noForm, checked, indexIn, rising, Ordered}
 use Rattle.rights.specs.Held.{storedNodes}
 use Rattle.lines.specs.State.{stage, storeOk}
 use Rattle.lines.specs.Allowed.{sessionIn}
-use Rattle.lines.specs.Clause.{stageFor, clause}
+use Rattle.lines.specs.Clause.{clause}
 use Rattle.lines.specs.Conditions.{Some, Holds, First}
 use Rattle.lines.proofs.StateLaws.{store-held}
 use Rattle.lines.proofs.OwnRows.{own-tells}
@@ -108,27 +110,28 @@ module _ (s t : List ℕ) (lent : (i : ℕ) → getD t i 0 < 256) (room : ℕ) w
   checksFor c = checksIn room (guarded (frontChecks c s t) (clause c s t))
 
   -- the checks of each form stand in the paper's order, each with the number of its row
-  pub record InOrder (c : Command) : Type 0 where
-    pub numbers : (line : List ℕ) (g : GoodCommand c) (e : line ≡ written c) → numbered (refusals s t room (table.says c g e)) (checksFor c) ≡ true
+  pub record InOrder (c : Command) (g : GoodCommand c) : Type 0 where
+    pub numbers : (line : List ℕ) (e : line ≡ written c) → numbered (refusals s t room (table.says c g e)) (checksFor c) ≡ true
     pub ordered : Ordered (checksFor c)
 
-  pub checks-ordered : (c : Command) → InOrder c
+  pub checks-ordered : (w : Word) (vs : Values (shapeOf w)) (g : GoodCommand (command w vs)) → InOrder (command w vs) g
   unfolding rising indexIn
-  checks-ordered (command.subject n) = record { numbers = λ l g e. refl; ordered = refl }
-  checks-ordered (command.isa n r) = record { numbers = λ l g e. refl; ordered = refl }
-  checks-ordered (command.rule a r p n) = record { numbers = λ l g e. refl; ordered = refl }
-  checks-ordered (command.root l) = record { numbers = λ l g e. refl; ordered = refl }
-  checks-ordered (command.child u) = record { numbers = λ l g e. refl; ordered = refl }
-  checks-ordered (command.user n) = record { numbers = λ l g e. refl; ordered = refl }
-  checks-ordered command.view = record { numbers = λ l g e. refl; ordered = refl }
-  checks-ordered (command.query p) = record { numbers = λ l g e. refl; ordered = refl }
-  checks-ordered (command.find p) = record { numbers = λ l g e. refl; ordered = refl }
-  checks-ordered (command.rename p l) = record { numbers = λ l g e. refl; ordered = refl }
-  checks-ordered (command.update p l) = record { numbers = λ l g e. refl; ordered = refl }
-  checks-ordered (command.append p u) = record { numbers = λ l g e. refl; ordered = refl }
-  checks-ordered (command.before p u) = record { numbers = λ l g e. refl; ordered = refl }
-  checks-ordered (command.after p u) = record { numbers = λ l g e. refl; ordered = refl }
-  checks-ordered (command.remove p) = record { numbers = λ l g e. refl; ordered = refl }
+  checks-ordered word.Subject vs g = record { numbers = λ l e. refl; ordered = refl }
+  checks-ordered word.Isa vs g = record { numbers = λ l e. refl; ordered = refl }
+  checks-ordered word.Rule vs g = record { numbers = λ l e. refl; ordered = refl }
+  checks-ordered word.Root vs g = record { numbers = λ l e. refl; ordered = refl }
+  checks-ordered word.Child vs g = record { numbers = λ l e. refl; ordered = refl }
+  checks-ordered word.User vs g = record { numbers = λ l e. refl; ordered = refl }
+  checks-ordered word.View vs g = record { numbers = λ l e. refl; ordered = refl }
+  checks-ordered word.Query vs g = record { numbers = λ l e. refl; ordered = refl }
+  checks-ordered word.Find vs g = record { numbers = λ l e. refl; ordered = refl }
+  checks-ordered word.Rename vs g = record { numbers = λ l e. refl; ordered = refl }
+  checks-ordered word.Update vs g = record { numbers = λ l e. refl; ordered = refl }
+  checks-ordered word.Append vs g = record { numbers = λ l e. refl; ordered = refl }
+  checks-ordered word.Before vs g = record { numbers = λ l e. refl; ordered = refl }
+  checks-ordered word.After vs g = record { numbers = λ l e. refl; ordered = refl }
+  checks-ordered word.Remove vs g = record { numbers = λ l e. refl; ordered = refl }
+  checks-ordered word.Other vs g = absurd (omega (arith, g .word))
 
   -- What a line's checks are, and what they tell
   record Told {line : List ℕ} (w : Says line) : Type 0 where
@@ -152,8 +155,8 @@ module _ (s t : List ℕ) (lent : (i : ℕ) → getD t i 0 < 256) (room : ℕ) w
         text = clause c s t .text;
         said = refl;
         is = z;
-        numbers = checks-ordered c .numbers line g e;
-        ordered = checks-ordered c .ordered;
+        numbers = checks-ordered (c .word) (c .values) g .numbers line e;
+        ordered = checks-ordered (c .word) (c .values) g .ordered;
         tells = (
           store-told s t lent,
           λ a. (
@@ -162,7 +165,7 @@ module _ (s t : List ℕ) (lent : (i : ℕ) → getD t i 0 < 256) (room : ℕ) w
               stage-told (stageFor c) (stage s),
               λ b.
                   let n = length (clause c s t .text) in
-                  own-tells s t ((12, room < n) ∷ []) (areaCheck room n ∷ []) c g (not-false (storeOk s t) a) (λ l. root-there s t (stageFor c) (not-false (storeOk s t) a) l (not-false (inStage (stageFor c) (stage s)) b)) (less-told room n, λ _. tt),
+                  own-tells s t ((12, room < n) ∷ []) (areaCheck room n ∷ []) (c .word) (c .values) g (not-false (storeOk s t) a) (λ l. root-there s t (stageFor c) (not-false (storeOk s t) a) l (not-false (inStage (stageFor c) (stage s)) b)) (less-told room n, λ _. tt),
             ),
           ),
         );

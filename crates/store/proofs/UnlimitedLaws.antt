@@ -14,9 +14,10 @@ use Rattle.rights.specs.Tree.{Tree, tree, Trees, none, more, writeTree, writeTr
 use Rattle.rights.proofs.PathComplete.{all-append}
 use Rattle.rights.proofs.PathTexts.{and-left}
 use Rattle.rights.proofs.TableLaws.{both}
-use Rattle.forms.specs.Command.{Command, written, runByte, GoodPath, GoodCommand}
-use Rattle.forms.specs.Command as command
-use Rattle.forms.specs.FormText.{writeRight}
+use Rattle.forms.specs.Kind.{Kind, Label, Path, Tree as TreeKind, Sign, Right as RightKind}
+use Rattle.forms.specs.Layout.{letters, shapeOf}
+use Rattle.forms.specs.Command.{Value, Values, Command, writeRight, writeValue, writeValues, written, runByte, GoodPath, GoodValue, GoodValues, GoodCommand}
+use Rattle.forms.proofs.FormTextLaws.{word-law}
 use Rattle.forms.specs.Text.{lineByte, lineOk}
 use Rattle.forms.specs.TreeText.{GoodLabel, GoodTree, GoodTrees}
 use Rattle.forms.proofs.WordLaws.{label-range}
@@ -33,11 +34,12 @@ unfolding all
 all-in p q h [] a = refl
 all-in p q h (x ∷ xs) a = let f = both (p x) (all p xs) a in rw (h x (f .0)) (all-in p q h xs (f .1))
 
-label-clean : (l : List ℕ) → GoodLabel l → all lineByte l ≡ true
+letters-clean : (l : List ℕ) → all labelByte l ≡ true → all lineByte l ≡ true
 unfolding lineByte
-label-clean l g =
-    all-in labelByte lineByte
-    (λ b e. let r = label-range b e in rw (le-leb 32 b (omega (arith, r .0)), le-leb b 126 (omega (arith, r .1)))) l (g .2)
+letters-clean = all-in labelByte lineByte (λ b e. let r = label-range b e in rw (le-leb 32 b (omega (arith, r .0)), le-leb b 126 (omega (arith, r .1))))
+
+label-clean : (l : List ℕ) → GoodLabel l → all lineByte l ≡ true
+label-clean l g = letters-clean l (g .2)
 
 path-clean : (p : List ℕ) → GoodPath p → all lineByte p ≡ true
 unfolding runByte
@@ -67,41 +69,24 @@ mutual
   trees-clean none g = refl
   trees-clean (more u us) g = all-append lineByte (writeTree u) (writeTrees us) (tree-clean u (g .0)) (trees-clean us (g .1))
 
--- a word and a value, and what follows or the `)`
-part : (w x rest : List ℕ) → all lineByte w ≡ true → all lineByte x ≡ true → all lineByte rest ≡ true → all lineByte (w ++ (x ++ rest)) ≡ true
-part w x rest a b c = all-append lineByte w (x ++ rest) a (all-append lineByte x rest b c)
+value-clean : (k : Kind) (v : Value k) → GoodValue k v → all lineByte (writeValue k v) ≡ true
+unfolding writeValue GoodValue
+value-clean Label l g = label-clean l g
+value-clean Path p g = path-clean p g
+value-clean TreeKind u g = tree-clean u g
+value-clean Sign a g = sign-clean a
+value-clean RightKind r g = right-clean r
 
-last : (w x : List ℕ) → all lineByte w ≡ true → all lineByte x ≡ true → all lineByte (w ++ (x ++ bytes ")")) ≡ true
+values-clean : (ks : List Kind) (vs : Values ks) → GoodValues ks vs → all lineByte (writeValues ks vs) ≡ true
 unfolding all lineByte
-last w x a b = part w x (bytes ")") a b refl
-
--- two values
-two : (w x y : List ℕ) → all lineByte w ≡ true → all lineByte x ≡ true → all lineByte y ≡ true
-    → all lineByte (w ++ (x ++ (bytes " " ++ (y ++ bytes ")")))) ≡ true
-unfolding all lineByte
-two w x y a b c = part w x (bytes " " ++ (y ++ bytes ")")) a b (last (bytes " ") y refl c)
+values-clean [] vs g = refl
+values-clean (k ∷ ks) (v, vs) g = all-append lineByte (writeValue k v) (writeValues ks vs) (value-clean k v (g .0)) (values-clean ks vs (g .1))
 
 command-clean : (c : Command) → GoodCommand c → all lineByte (written c) ≡ true
-unfolding written GoodCommand all lineByte
-command-clean (command.subject n) g = last (bytes "(subject ") n refl (label-clean n g)
-command-clean (command.isa n r) g = two (bytes "(isa ") n r refl (label-clean n (g .0)) (label-clean r (g .1))
-command-clean (command.rule a r p n) g =
-    part (bytes "(rule ") (cond a (bytes "accept") (bytes "deny")) (bytes " " ++ (writeRight r ++ (bytes " " ++ (p ++ (bytes " " ++ (n ++ bytes ")"))))))
-    refl (sign-clean a)
-    (part (bytes " ") (writeRight r) (bytes " " ++ (p ++ (bytes " " ++ (n ++ bytes ")")))) refl (right-clean r)
-    (two (bytes " ") p n refl (path-clean p (g .0)) (label-clean n (g .1))))
-command-clean (command.root l) g = last (bytes "(root ") l refl (label-clean l g)
-command-clean (command.child u) g = last (bytes "(child ") (writeTree u) refl (tree-clean u g)
-command-clean (command.user n) g = last (bytes "(user ") n refl (label-clean n g)
-command-clean command.view g = refl
-command-clean (command.query p) g = last (bytes "(query ") p refl (path-clean p g)
-command-clean (command.find p) g = last (bytes "(find ") p refl (path-clean p g)
-command-clean (command.rename p l) g = two (bytes "(rename ") p l refl (path-clean p (g .0)) (label-clean l (g .1))
-command-clean (command.update p l) g = two (bytes "(update ") p l refl (path-clean p (g .0)) (label-clean l (g .1))
-command-clean (command.append p u) g = two (bytes "(append ") p (writeTree u) refl (path-clean p (g .0)) (tree-clean u (g .1))
-command-clean (command.before p u) g = two (bytes "(before ") p (writeTree u) refl (path-clean p (g .0)) (tree-clean u (g .1))
-command-clean (command.after p u) g = two (bytes "(after ") p (writeTree u) refl (path-clean p (g .0)) (tree-clean u (g .1))
-command-clean (command.remove p) g = last (bytes "(remove ") p refl (path-clean p g)
+unfolding written all lineByte
+command-clean c g =
+    all-append lineByte (letters (c .word)) (writeValues (shapeOf (c .word)) (c .values))
+    (letters-clean (letters (c .word)) (word-law (c .word) .spelt)) (values-clean (shapeOf (c .word)) (c .values) (g .values))
 
 -- A line of at most 1,024 bytes that writes a command does what it would do if lines had no length limit.
 pub step-unlimited : (s t : List ℕ) (room : ℕ) (c : Command) → GoodCommand c → length (written c) ≤ 1024

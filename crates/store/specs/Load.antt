@@ -9,9 +9,9 @@ use Rattle.rights.specs.Held.{tableBytes, nodeBytes}
 use Rattle.rights.specs.Table.{capacity}
 use Rattle.rights.specs.Tree.{Tree, tree, Trees, none, more, nodesOf, sizeOf}
 use Rattle.answers.specs.Answer.{okText}
-use Rattle.forms.specs.Command.{Command}
-use Rattle.forms.specs.Command as command
-use Rattle.lines.specs.Clause.{stageFor, clause}
+use Rattle.forms.specs.declared.layout.Word.the-variants as word
+use Rattle.forms.specs.Command.{Command, command, stageFor}
+use Rattle.lines.specs.Clause.{clause}
 use Rattle.lines.specs.Conditions.{TreeRestricted, DeepAt}
 use Rattle.lines.specs.Effect.{guarded, performed}
 use Rattle.lines.specs.Outcome.{Outcome, says}
@@ -22,10 +22,10 @@ use Rattle.store.specs.Line.{inStage}
 -- The lines that match a tree: `(root L)` with the root's label, then `(child TREE)` for each child of the root, in order.
 abbrev pub childCommands : Trees → List Command
 childCommands none = []
-childCommands (more u us) = command.child u ∷ childCommands us
+childCommands (more u us) = command word.Child (u, tt) ∷ childCommands us
 
 abbrev pub matchingLines : Tree → List Command
-matchingLines (tree l us) = command.root l ∷ childCommands us
+matchingLines (tree l us) = command word.Root (l, tt) ∷ childCommands us
 
 -- What the line of a command would answer and leave "if lines had no length limit": 13 and 3, the form's own checks and 12. A line within the limit
 -- does just this (law step-unlimited).

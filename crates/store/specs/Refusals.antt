@@ -8,12 +8,12 @@ use mathlib.Core.List.{List, [], _∷_, _++_}
 use mathlib.Core.Logic.{_⊎_}
 use lib.ListN.{length}
 use Rattle.forms.specs.Text.{lineOk}
-use Rattle.forms.specs.Command.{Command, written, GoodCommand}
+use Rattle.forms.specs.Command.{Command, stageFor, written, GoodCommand}
 use Rattle.rights.specs.Nodes.{Nodes}
 use Rattle.lines.specs.State.{stageC, stage, storeOk}
 use Rattle.lines.specs.Allowed.{Session, HoldsStore}
 use Rattle.lines.specs.Refusal.{Check, check, badStore, badLine, wrongStage}
-use Rattle.lines.specs.Clause.{stageFor, clause}
+use Rattle.lines.specs.Clause.{clause}
 use Rattle.lines.specs.Conditions.{Some, Conditions, rows}
 use Rattle.store.specs.Line.{inStage}
 

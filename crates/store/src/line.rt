@@ -1,17 +1,16 @@
 // One call for every line (document 01, "Lines" and "Who can be turned down").
 use forms::form::Form;
 use forms::form::Part;
+use forms::form::part_at;
 use forms::form::read_form;
+use forms::layout::Word;
+use forms::limits::NO_STAGE;
+use forms::limits::STAGE_C;
 use forms::limits::TREE_BYTES;
 use forms::text::line_ok;
 use lines::changes::insert;
 use lines::changes::remove;
 use lines::changes::rename;
-use lines::limits::STAGE_A;
-use lines::limits::STAGE_B;
-use lines::limits::STAGE_C;
-use lines::limits::STAGE_D;
-use lines::limits::STAGE_E;
 use lines::line::Answer;
 use lines::policy_lines::declare;
 use lines::policy_lines::relate;
@@ -32,45 +31,22 @@ use views::done::Change;
 use views::insert::Place;
 ghost use mathlib.Core.Path.{_≡_};
 ghost use mathlib.Core.Bool.{true, cond};
-ghost use Prim.Native.Nat.{_*_, _≤_};
+ghost use Prim.Native.Nat.{_*_, _≤_, _<_};
 ghost use lib.Dec.{leb};
 ghost use lib.ListN.{length, take, replicate};
+ghost use Rattle.rights.specs.Marks.{bit};
 ghost use Rattle.rights.specs.Record.{pasted};
 ghost use Rattle.forms.specs.Text.{lineOk};
 ghost use Rattle.forms.specs.Tree.{recordsOf};
-ghost use Rattle.forms.specs.Form.{readForm, treeIn};
+ghost use Rattle.forms.specs.Layout.{stageOf};
+ghost use Rattle.forms.specs.Form.{partAt, placeIn, bytesOf, readForm, treeIn};
+ghost use Rattle.forms.specs.How.Reader.{Ends, FormRead};
 ghost use Rattle.lines.specs.State.{stage, storeOk};
 ghost use Rattle.lines.specs.Outcome.{Made};
 ghost use Rattle.lines.specs.Refusal.{firstRefusal};
 ghost use Rattle.lines.specs.Effect.{Performs};
-ghost use Rattle.store.specs.Line.{stageOf, inStage, bytesOf, acceptByte, workOf, textChecks, formChecks, step};
-
-// What is no form belongs to no stage.
-const NO_STAGE: u8 = 5;
-
-// The stage that a form belongs to.
-fn stage_of(f: Form) -> u8
-    ensures { λ r. ⌜ r ≡ stageOf f ⌝ }
-{
-    match f {
-        Form::Subject(_) => STAGE_A,
-        Form::Isa(_, _) => STAGE_A,
-        Form::Rule(_, _, _, _) => STAGE_B,
-        Form::Root(_) => STAGE_C,
-        Form::Child(_) => STAGE_D,
-        Form::User(_) => STAGE_E,
-        Form::View => STAGE_E,
-        Form::Query(_) => STAGE_E,
-        Form::Find(_) => STAGE_E,
-        Form::Rename(_, _) => STAGE_E,
-        Form::Update(_, _) => STAGE_E,
-        Form::Append(_, _) => STAGE_E,
-        Form::Before(_, _) => STAGE_E,
-        Form::After(_, _) => STAGE_E,
-        Form::Remove(_) => STAGE_E,
-        Form::NoForm => NO_STAGE,
-    }
-}
+ghost use Rattle.lines.specs.Clause.{workOf};
+ghost use Rattle.store.specs.Line.{inStage, textChecks, formChecks, step};
 
 // Whether a form of stage k may come where the state is in stage g.
 fn in_stage(k: u8, g: u8) -> bool
@@ -95,11 +71,10 @@ fn text_refusal(state: &[u8], table: &[u8], line: &[u8]) -> u8
     0
 }
 
-// The refusal of the form that was read, in stage g.
-fn form_refusal(f: Form, g: u8) -> u8
-    ensures { λ r. ⌜ r ≡ firstRefusal (formChecks f g) ⌝ }
+// The refusal of a form of stage k, in stage g.
+fn form_refusal(k: u8, g: u8) -> u8
+    ensures { λ r. ⌜ r ≡ firstRefusal (formChecks k g) ⌝ }
 {
-    let k = stage_of(f);
     if k == NO_STAGE {
         return NO_FORM;
     }
@@ -111,7 +86,7 @@ fn form_refusal(f: Form, g: u8) -> u8
 
 // 1 for accept, 0 for deny.
 fn accept_byte(accept: bool) -> u8
-    ensures { λ r. ⌜ r ≡ acceptByte accept ⌝ }
+    ensures { λ r. ⌜ r ≡ bit accept ⌝ }
 {
     if accept { 1 } else { 0 }
 }
@@ -123,10 +98,12 @@ fn smaller(a: usize, b: usize) -> usize
     if a <= b { a } else { b }
 }
 
-// The bytes of a part of the line, as far as the line goes.
-fn part_of(line: &[u8], p: Part) -> &[u8]
-    ensures { λ r. ⌜ now r ≡ bytesOf (now (line .entry)) p ⌝ }
+// The bytes of the part that stands after place i, as far as the line goes.
+fn part_of<'a>(line: &'a [u8], ends: &[usize; 5], i: usize) -> &'a [u8]
+    requires { ⌜ (i < 4) × Ends (now ends) ⌝ }
+    ensures { λ r. ⌜ now r ≡ bytesOf (now (line .entry)) (partAt (placeIn (now (ends .entry))) i) ⌝ }
 {
+    let p = part_at(ends, i);
     let end = smaller(p.end, line.len());
     let at = smaller(p.at, end);
     &line[at..end]
@@ -150,75 +127,84 @@ fn run(
     area: &mut [u8],
     f: Form,
 ) -> Answer
-    requires { ⌜ (storeOk (now state) (now table) ≡ true) × (lineOk (now line) ≡ true) × (f ≡ readForm (now line))
-        × (inStage (stageOf f) (stage (now state)) ≡ true)
-        × (now tree ≡ pasted (replicate 16384 0) 0 (recordsOf (treeIn (now line)))) ⌝ }
-    ensures { λ r. ⌜ Performs (workOf f (now (state .entry)) (now (table .entry)) (now (line .entry)) (recordsOf (treeIn (now (line .entry)))))
+    requires { ⌜ (storeOk (now state) (now table) ≡ true) × (lineOk (now line) ≡ true) × FormRead (now line) f
+        × (inStage (stageOf (f .word)) (stage (now state)) ≡ true)
+        × (now tree ≡ pasted (replicate 16384 0) 0 (recordsOf (treeIn (readForm (now line))))) ⌝ }
+    ensures { λ r. ⌜ Performs (workOf (readForm (now (line .entry))) (now (state .entry)) (now (table .entry)))
         (now (state .entry)) (now (table .entry)) (now (area .entry)) r (now (state .exit)) (now (table .exit)) (now (area .exit)) ⌝ }
 {
-    match f {
-        Form::NoForm => Answer::Refused(NO_FORM),
-        Form::Subject(n) => declare(state, table, part_of(line, n), area),
-        Form::Isa(n, r) => relate(state, table, part_of(line, n), part_of(line, r), area),
-        Form::Rule(a, b, p, n) => rule(
+    let word = f.word;
+    let ends = f.ends;
+    let says = f.says;
+    match word {
+        Word::Other => Answer::Refused(NO_FORM),
+        Word::Subject => declare(state, table, part_of(line, &ends, 0), area),
+        Word::Isa => relate(
             state,
             table,
-            accept_byte(a),
-            b,
-            part_of(line, p),
-            part_of(line, n),
+            part_of(line, &ends, 0),
+            part_of(line, &ends, 1),
             area,
         ),
-        Form::Root(l) => root(state, table, part_of(line, l), area),
-        Form::Child(m) => child(state, table, tree_of(tree, m), m, area),
-        Form::User(n) => log_in(state, table, part_of(line, n), area),
-        Form::View => view(state, table, area),
-        Form::Query(p) => ask_path(Ask::Query, state, table, part_of(line, p), area),
-        Form::Find(p) => ask_path(Ask::Find, state, table, part_of(line, p), area),
-        Form::Rename(p, l) => rename(
+        Word::Rule => rule(
+            state,
+            table,
+            accept_byte(says[0] == 1),
+            says[1] as u8,
+            part_of(line, &ends, 2),
+            part_of(line, &ends, 3),
+            area,
+        ),
+        Word::Root => root(state, table, part_of(line, &ends, 0), area),
+        Word::Child => child(state, table, tree_of(tree, says[0]), says[0], area),
+        Word::User => log_in(state, table, part_of(line, &ends, 0), area),
+        Word::View => view(state, table, area),
+        Word::Query => ask_path(Ask::Query, state, table, part_of(line, &ends, 0), area),
+        Word::Find => ask_path(Ask::Find, state, table, part_of(line, &ends, 0), area),
+        Word::Rename => rename(
             state,
             table,
             Change::Rename,
-            part_of(line, p),
-            part_of(line, l),
+            part_of(line, &ends, 0),
+            part_of(line, &ends, 1),
             area,
         ),
-        Form::Update(p, l) => rename(
+        Word::Update => rename(
             state,
             table,
             Change::Update,
-            part_of(line, p),
-            part_of(line, l),
+            part_of(line, &ends, 0),
+            part_of(line, &ends, 1),
             area,
         ),
-        Form::Append(p, m) => insert(
+        Word::Append => insert(
             state,
             table,
             Place::Append,
-            part_of(line, p),
-            tree_of(tree, m),
-            m,
+            part_of(line, &ends, 0),
+            tree_of(tree, says[1]),
+            says[1],
             area,
         ),
-        Form::Before(p, m) => insert(
+        Word::Before => insert(
             state,
             table,
             Place::Before,
-            part_of(line, p),
-            tree_of(tree, m),
-            m,
+            part_of(line, &ends, 0),
+            tree_of(tree, says[1]),
+            says[1],
             area,
         ),
-        Form::After(p, m) => insert(
+        Word::After => insert(
             state,
             table,
             Place::After,
-            part_of(line, p),
-            tree_of(tree, m),
-            m,
+            part_of(line, &ends, 0),
+            tree_of(tree, says[1]),
+            says[1],
             area,
         ),
-        Form::Remove(p) => remove(state, table, part_of(line, p), area),
+        Word::Remove => remove(state, table, part_of(line, &ends, 0), area),
     }
 }
 
@@ -233,7 +219,7 @@ pub fn line(state: &mut [u8], table: &mut [u8], line: &[u8], area: &mut [u8]) ->
     }
     let mut tree = [0u8; TREE_BYTES];
     let f = read_form(line, &mut tree);
-    let turned = form_refusal(f, state[0]);
+    let turned = form_refusal(f.stage, state[0]);
     if turned != 0 {
         return Answer::Refused(turned);
     }

@@ -1,7 +1,7 @@
 // The call that loads the solver's file (document 02, card 2), in place of root and child lines.
 use answers::answer::answer_ok;
-use lines::limits::STAGE_C;
-use lines::limits::STAGE_D;
+use forms::limits::STAGE_C;
+use forms::limits::STAGE_D;
 use lines::line::Answer;
 use lines::refusals::BAD_STORE;
 use lines::refusals::BANNED_LABEL;

@@ -15,7 +15,7 @@ use mathlib.Core.Path.{_≡_}
 use lib.ListN.{length, replicate}
 use Rattle.forms.specs.declared.layout.Word.{Word}
 use Rattle.forms.specs.declared.layout.Layout.{Layout}
-use Rattle.forms.specs.Layout.{shapeOf}
+use Rattle.forms.specs.Layout.{stageOf, shapeOf}
 
 -- The code compares words by textNumber: a text as a textNumber, its first byte lowest. Law numbered-among says that this comes to the same.
 unfoldable pub textNumber : List ℕ → ℕ
@@ -55,8 +55,9 @@ areaBy n s at a = cond (eqb n 3) (pasted a 0 (recordsOf (treeNodes s at))) a
 abbrev pub codesOf : List Kind → List ℕ
 codesOf ks = map codeOf ks ++ replicate (1 + (4 - length ks)) 0
 
--- a word with the kinds of its parts
+-- a word with its stage and the kinds of its parts
 pub record LaidOut (w : Word) (r : Layout) : Type 0 where
   pub word : r .word ≡ w
+  pub stage : r .stage ≡ stageOf w
   pub kinds : r .kinds ≡ codesOf (shapeOf w)
   pub size : length (r .kinds) ≡ 5

@@ -16,10 +16,10 @@ use Rattle.forms.specs.declared.part.PartRead.{PartRead}
 use Rattle.forms.specs.declared.reader.Progress.{Progress}
 use Rattle.forms.specs.declared.form.Form.{Form}
 use Rattle.forms.specs.Part.{runEnd}
-use Rattle.forms.specs.Kind.{Kind, Label, Path, Tree, Sign, Right, codeOf, partEnd}
-use Rattle.forms.specs.Layout.{Holds, FormOf, layout, shapeOf, wordAt}
+use Rattle.forms.specs.Kind.{Kind, codeOf, partEnd}
+use Rattle.forms.specs.Layout.{stageOf, shapeOf, wordAt}
 use Rattle.forms.specs.Tree.{_andThen_, treeEnd, treeNodes, tailEnd, tailNodes, recordsOf}
-use Rattle.forms.specs.Form.{placeIn, are, none, _onTo_, partAt, partsOf, closesLine, endsIn}
+use Rattle.forms.specs.Form.{Places, placeIn, are, none, _onTo_, partsOf, closesLine, endsIn, formAt, readForm}
 use Rattle.forms.specs.How.Codes.{LaidOut, codesOf, endBy, saysBy, areaBy}
 
 -- the place that reading came to, if it moved on
@@ -68,8 +68,7 @@ shutAt s p =
 
 -- What the form's parts say, so far as they were passed: what stands in says is what the part of that number says
 abbrev pub Said : List ℕ → ℕ → Progress → Type 0
-Said s i p =
-    (j : ℕ) → j < i → j < length (shapeOf (wordAt s 1)) → getD (p .says) j 0 ≡ saysBy (getD (codesOf (shapeOf (wordAt s 1))) j 0) s (placeIn (p .ends) j + 1)
+Said s i p = (j : ℕ) → j < i → getD (p .says) j 0 ≡ saysBy (getD (codesOf (shapeOf (wordAt s 1))) j 0) s (placeIn (p .ends) j + 1)
 
 -- The word and i parts were passed, or all parts if there are fewer. The reader stands after them; before are the places at which it stood, after the word
 -- and after each part, and what is to be read of the line is what stands from the reader's place on.
@@ -82,6 +81,7 @@ pub record Reading (s : List ℕ) (i : ℕ) (p : Progress) : Type 0 where
   pub places : (j : ℕ) → placeIn (before ++ (p .at ∷ [])) j ≡ placeIn (p .ends) j
   pub under : (j : ℕ) → placeIn (p .ends) j ≤ p .at
   pub said : Said s i p
+  pub unsaid : (j : ℕ) → i ≤ j → getD (p .says) j 0 ≡ 0
   pub five : length (p .ends) ≡ 5
   pub four : length (p .says) ≡ 4
 
@@ -143,24 +143,23 @@ pub record Takes (s : List ℕ) (t : ℕ) (p : Progress) (a : List ℕ) (q : Pro
   pub on : p .at ≤ q .at
   pub area : areaLeft s t p a ≡ areaLeft s (t + 1) q b
 
+-- the places of a line's parts; none if it is no form
+abbrev pub listed : Places → List ℕ
+listed (are es) = es
+listed none = []
+
 -- five places, each with room for a step
 abbrev pub Ends : List ℕ → Type 0
 Ends es = (length es ≡ 5) × ((i : ℕ) → placeIn es i + 1 < 2 ^ 64)
 
--- what a form holds of part i of kind k, by its place and by what it says
-abbrev pub heldSaid : (k : Kind) → (ℕ → ℕ) → (ℕ → ℕ) → ℕ → Holds k
-heldSaid Label e v i = partAt e i
-heldSaid Path e v i = partAt e i
-heldSaid Tree e v i = v i
-heldSaid Sign e v i = eqb (v i) 1
-heldSaid Right e v i = v i
-
-abbrev pub madeSaid : (ks : List Kind) → FormOf ks → (ℕ → ℕ) → (ℕ → ℕ) → ℕ → Form
-madeSaid [] f e v i = f
-madeSaid (k ∷ ks) f e v i = madeSaid ks (f (heldSaid k e v i)) e v (suc i)
-
-abbrev pub formSaid : Word → (ℕ → ℕ) → (ℕ → ℕ) → Form
-formSaid w e v = madeSaid (shapeOf w) (layout w .form) e v 0
+-- What the reader of a line hands on: the form's word and stage, the places of its parts, and what each of them says
+pub record FormRead (s : List ℕ) (f : Form) : Type 0 where
+  pub form : readForm s ≡ formAt (f .word) s (placeIn (f .ends))
+  pub stage : f .stage ≡ stageOf (f .word)
+  pub places : (j : ℕ) → placeIn (f .ends) j ≡ placeIn (listed (endsIn s)) j
+  pub says : (j : ℕ) → j < 4 → getD (f .says) j 0 ≡ saysBy (getD (codesOf (shapeOf (f .word))) j 0) s (placeIn (f .ends) j + 1)
+  pub ends : Ends (f .ends)
+  pub four : length (f .says) ≡ 4
 
 -- Each place lies behind the one before it
 unfoldable pub Rises : ℕ → List ℕ → Type 0

@@ -2,7 +2,7 @@
 use native.Mathlib.Omega.{arith}
 use lib.ListN.{replicate}
 use Rattle.lines.proofs.StateLaws.{store-held}
-use Rattle.store.proofs.LineLaws.{form-room, text-passed, text-refused, form-refused, run-asks, tree-area, line-run}
+use Rattle.store.proofs.LineLaws.{form-room, text-passed, text-refused, form-refused, run-asks, line-run}
 use borrow.Author.Needs.{needs}
 use Rattle.store.proofs.line.line.Statement.{statement}
 use Rattle.store.proofs.line.line.Tie as tie
@@ -29,26 +29,20 @@ run-requires : tie.Need-run-requires
 run-requires c κs =
     let at-if2 = c .before .before .before .before in let at-form-refusal = at-if2 .before in
     let at-read-form = at-form-refusal .before .before .before in let at-if1 = at-read-form .before .before in let at-text-refusal = at-if1 .before in
-    let p = run-asks _ _ _ (at-text-refusal .text-refusal .ensures) (at-if1 .if1 .left)
-    (at-read-form .read-form .ensures .0) (at-form-refusal .form-refusal .ensures) (at-if2 .if2 .left) in (
-      p .0,
-      p .1,
-      p .2,
-      p .3,
-      tree-area _ (replicate 16384 0) (p .2) (p .4) (at-read-form .read-form .ensures .1),
-    )
+    run-asks _ _ _ (at-text-refusal .text-refusal .ensures) (at-if1 .if1 .left) (at-read-form .read-form .ensures .0)
+    (at-form-refusal .form-refusal .ensures) (at-if2 .if2 .left) (replicate 16384 0) _ (at-read-form .read-form .ensures .1)
 
 returns-3 : tie.Need-returns-3
 returns-3 c =
     let at-run = c .before .before .before .before .before .before in let at-if2 = at-run .before .before .before .before .before in
     let at-form-refusal = at-if2 .before in let at-read-form = at-form-refusal .before .before .before in let at-if1 = at-read-form .before .before in
     let at-text-refusal = at-if1 .before in
-    line-run _ _ _ (at-text-refusal .text-refusal .ensures) (at-if1 .if1 .left)
-    (at-read-form .read-form .ensures .0) (at-form-refusal .form-refusal .ensures) (at-if2 .if2 .left) (at-run .run .ensures)
+    line-run _ _ _ (at-text-refusal .text-refusal .ensures) (at-if1 .if1 .left) (at-read-form .read-form .ensures .0)
+    (at-form-refusal .form-refusal .ensures) (at-if2 .if2 .left) (at-run .run .ensures)
 
 pub line-spec : {M : Type 1} → statement M
 line-spec =
     tie.close
-    (tie.spec (λ c κs. search needs) (λ c. search needs) (λ c. search needs) returns (λ c. search needs) read-form-requires
-    slice-read-form-refusal (λ c κs. search needs) (λ c. search needs) (λ c. search needs) returns-2 (λ c. search needs)
-    run-requires (λ c. search needs) (λ c. search needs) (λ c. search needs) returns-3)
+    (tie.spec (λ c κs. search needs) (λ c. search needs) (λ c. search needs) returns (λ c. search needs)
+    read-form-requires slice-read-form-refusal (λ c κs. search needs) (λ c. search needs) (λ c. search needs)
+    returns-2 (λ c. search needs) run-requires (λ c. search needs) (λ c. search needs) (λ c. search needs) returns-3)
