@@ -7,6 +7,7 @@ use mathlib.Core.Logic.{_⊎_, inl, inr}
 use native.Mathlib.Omega.{arith}
 use borrow.Author.Tests.{ltb-false, not-false}
 use lib.ListN.{length}
+use Rattle.forms.specs.Layout.{stageOf}
 use Rattle.forms.specs.Form.{readForm}
 use Rattle.forms.specs.Text.{lineOk}
 use Rattle.lines.specs.State.{stage, storeOk}
@@ -14,11 +15,12 @@ use Rattle.lines.specs.Effect.{stateAfter, tableAfter, Work, guarded, checksIn,
 use Rattle.lines.specs.Outcome.{Reply, says, refuses, Outcome, answerOf}
 use Rattle.lines.specs.declared.line.Answer.the-variants as answer
 use Rattle.lines.specs.Refusal.{areaCheck}
-use Rattle.store.specs.Line.{stageOf, inStage, lineChecks, step}
+use Rattle.lines.specs.Clause.{workOf}
+use Rattle.store.specs.Line.{inStage, lineChecks, step}
 use Rattle.lines.proofs.CheckLaws.{passed-both, Refused, Went, checked-cases, refused-is}
 use Rattle.lines.proofs.OutcomeLaws.{said-refused}
 use Rattle.guarantee.proofs.Sound.{EffectSound}
-use Rattle.guarantee.proofs.FormLaws.{workIn, read-law}
+use Rattle.guarantee.proofs.FormLaws.{read-law}
 
 abbrev saidBy : Reply → List ℕ
 saidBy (says b) = b
@@ -32,11 +34,11 @@ accepted-said (refuses k) n e = absurd (let z : _≡_ {A = ℕ} 0 1 = cc in omeg
 module _ (s t line : List ℕ) where
   -- the work of the form that was read
   abbrev pub lineWork : Work
-  lineWork = workIn line (readForm line) s t
+  lineWork = workOf (readForm line) s t
 
   -- with the checks that every line meets
   abbrev guardedWork : Work
-  guardedWork = guarded (lineChecks s t line (readForm line)) lineWork
+  guardedWork = guarded (lineChecks s t line) lineWork
 
   -- the work carried out
   abbrev pub done : Outcome
@@ -45,7 +47,7 @@ module _ (s t line : List ℕ) where
   pub record Accepted (room : ℕ) : Type 0 where
     pub passes : storeOk s t ≡ true
     pub bytes : lineOk line ≡ true
-    pub sound : EffectSound (readForm line) line s t (lineWork .effect)
+    pub sound : EffectSound (readForm line) s t (lineWork .effect)
     pub fits : length (lineWork .text) ≤ room
     pub is : step s t line room ≡ done
 
@@ -63,7 +65,7 @@ module _ (s t line : List ℕ) where
             inr (record {
               passes = ok;
               bytes = not-false (lineOk line) (p .0 .1 .0);
-              sound = read-law line .sound s t ok (not-false (inStage (stageOf (readForm line)) (stage s)) (p .0 .1 .1 .1 .0)) (p .0 .1 .1 .1 .1);
+              sound = read-law line .sound s t ok (not-false (inStage (stageOf (readForm line .word)) (stage s)) (p .0 .1 .1 .1 .0)) (p .0 .1 .1 .1 .1);
               fits = omega (arith, ltb-false room (length (lineWork .text)) (p .1 .0));
               is = x .is;
             })
@@ -92,7 +94,7 @@ module _ (s t line : List ℕ) where
 
     -- What holds of the store before, and of the store after every effect that is sound, holds after every line.
     pub after-line : (Q : List ℕ → List ℕ → Type 0) → Q s t
-        → (storeOk s t ≡ true → EffectSound (readForm line) line s t (lineWork .effect) → Q (stateAfter (lineWork .effect) s) (tableAfter (lineWork .effect) t))
+        → (storeOk s t ≡ true → EffectSound (readForm line) s t (lineWork .effect) → Q (stateAfter (lineWork .effect) s) (tableAfter (lineWork .effect) t))
         → Q (step s t line room .state) (step s t line room .table)
     after-line Q q k = go line-cases
       where

@@ -30,7 +30,7 @@ use Rattle.forms.specs.Word.{sameText, among, signAt, rightAt}
 use Rattle.forms.specs.Layout.{wordAt}
 use Rattle.forms.specs.Part.{pathByte, labelEnd, runEnd, knownEnd}
 use Rattle.forms.specs.Tree.{openEnd, tailEnd, treeEnd, tailNodes, treeNodes, recordsOf}
-use Rattle.forms.specs.Form.{partsOf, treePlace, endsIn, readForm, treeIn}
+use Rattle.forms.specs.Form.{partsOf, endsIn, readForm}
 use Rattle.lines.specs.PolicyEdit.{subjectFrom, subjectNamed, isaHeld, bracketed, hasBracket, stepList, stepsIn, pathRestricted, stepRecords, withLine}
 use Rattle.forms.specs.Text.{lineByte, lineOk}
 use Rattle.lines.specs.State.{sessionOk, stateOk, storeOk}
@@ -38,13 +38,14 @@ use Rattle.lines.specs.Effect.{guarded, performed}
 use Rattle.lines.specs.Outcome.{Reply, Outcome}
 use Rattle.lines.specs.Refusal.{checked}
 use Rattle.lines.specs.Work.{treeRestricted}
-use Rattle.store.specs.Line.{workOf, lineChecks, step}
+use Rattle.lines.specs.Clause.{workOf}
+use Rattle.store.specs.Line.{lineChecks, step}
 use Rattle.guarantee.proofs.SessionKept.{store-kept}
 
 -- A line from a store that passes: `step` without 13.
 unfoldable pub passed : List ℕ → List ℕ → Input → Outcome
 passed s t i =
-    performed (guarded (drop 1 (lineChecks s t (i .line) (readForm (i .line)))) (workOf (readForm (i .line)) s t (i .line) (recordsOf (treeIn (i .line))))) (i .room) s t
+    performed (guarded (drop 1 (lineChecks s t (i .line))) (workOf (readForm (i .line)) s t)) (i .room) s t
 
 pub step-passed : (s t : List ℕ) (i : Input) → storeOk s t ≡ true → outcome s t i ≡ passed s t i
 unfolding step performed checked passed
@@ -73,7 +74,7 @@ small-passes = refl
 
 -- what the lines of a row give from a new store, where 13 is not computed
 unfoldable pub given : Case → List Reply
-unfolding passedReplies passed digitByte run all labelByte sameLabel passes readTest readStep numberOf isPosition readPosition closes readBrackets readSteps unslashed brackets steps pathOf decimal writeTest some passesOwn policyWord testOf namesFrom isaFrom stepsFrom rulesFrom policyOf recordOf isBy reaches decide rightsBy chains levelAt labelAt filter withNumber each stretch nodeSet filtered xpathSelected recordsFrom storedFrom atParent nearestFirst shownAfter keep eachFrom dropBelow putBehind remove insertBehind rename chunks raise join changed deepest tooDeep inTable hitLines childLines viewText sameText among wordAt signAt rightAt pathByte labelEnd openEnd tailEnd treeEnd tailNodes treeNodes recordsOf partsOf endsIn readForm treeIn subjectFrom subjectNamed isaHeld bracketed hasBracket stepList stepsIn pathRestricted stepRecords withLine lineByte lineOk checked performed treeRestricted folded padded standsFor subjectsWhere runEnd knownEnd treePlace
+unfolding passedReplies passed digitByte run all labelByte sameLabel passes readTest readStep numberOf isPosition readPosition closes readBrackets readSteps unslashed brackets steps pathOf decimal writeTest some passesOwn policyWord testOf namesFrom isaFrom stepsFrom rulesFrom policyOf recordOf isBy reaches decide rightsBy chains levelAt labelAt filter withNumber each stretch nodeSet filtered xpathSelected recordsFrom storedFrom atParent nearestFirst shownAfter keep eachFrom dropBelow putBehind remove insertBehind rename chunks raise join changed deepest tooDeep inTable hitLines childLines viewText sameText among wordAt signAt rightAt pathByte labelEnd openEnd tailEnd treeEnd tailNodes treeNodes recordsOf partsOf endsIn readForm subjectFrom subjectNamed isaHeld bracketed hasBracket stepList stepsIn pathRestricted stepRecords withLine lineByte lineOk checked performed treeRestricted folded padded standsFor subjectsWhere runEnd knownEnd
 given c = passedReplies newState (newTable (c .capacity)) (map input (c .turns))
 
 abbrev Gives : Case → Type 0

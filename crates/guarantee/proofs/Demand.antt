@@ -21,11 +21,10 @@ use Rattle.lines.specs.State.{stageC, stageE, stage, policyIn, storeOk}
 use Rattle.lines.specs.Effect.{performed}
 use Rattle.lines.specs.Outcome.{Reply, says, refuses, Outcome, answerOf, areaAfter, Made}
 use Rattle.lines.specs.declared.line.Answer.the-variants as answer
-use Rattle.forms.specs.Form.{treeIn}
-use Rattle.forms.specs.Tree.{recordsOf}
-use Rattle.forms.specs.declared.form.Form.{Form}
+use Rattle.forms.specs.Form.{ReadForm}
 use Rattle.lines.specs.Refusal.{tableFull, checked}
-use Rattle.store.specs.Line.{inStage, bytesOf, workOf, step}
+use Rattle.lines.specs.Clause.{workOf}
+use Rattle.store.specs.Line.{inStage, step}
 use Rattle.lines.specs.declared.policy_edit.Found.the-variants as found
 use Rattle.rights.proofs.LabelLaws.{same-self as label-self}
 use Rattle.lines.proofs.StateLaws.{store-held}
@@ -100,7 +99,7 @@ module _ (u : ℕ) (s t s' t' : List ℕ) (a : Alike u s t s' t') (i : Input) wh
   logs-too e v l = record {
     name = l .name;
     form = l .form;
-    subject = same-named (policyIn s) (policyIn s') (a .start .policy) (bytesOf (i .line) (l .name)) ∙ l .subject;
+    subject = same-named (policyIn s) (policyIn s') (a .start .policy) (l .name) ∙ l .subject;
     said = l .said;
     accepted = ap answerOf e ∙ l .accepted;
   }
@@ -134,8 +133,8 @@ module _ (u : ℕ) (s t s' t' : List ℕ) (a : Alike u s t s' t') (i : Input) wh
   login-answer l =
       let x = taken s t (i .line) (i .room) (l .said) (l .accepted) in
       let g = login-stage (stage s') (a .start .rooted') (store-held s' t' (a .start .passes') .stages) in
-      let q : subjectNamed (policyIn s') (bytesOf (i .line) (l .name)) ≡ found.Subject u =
-      sym (same-named (policyIn s) (policyIn s') (a .start .policy) (bytesOf (i .line) (l .name))) ∙ l .subject in
+      let q : subjectNamed (policyIn s') (l .name) ≡ found.Subject u =
+      sym (same-named (policyIn s) (policyIn s') (a .start .policy) (l .name)) ∙ l .subject in
       let fits : length okText ≤ i .room = rw (l .form) at (x .fits) in
       rw (a .start .passes', x .bytes, l .form, g, q, le-ltb (i .room) (length okText) fits)
 
@@ -145,13 +144,13 @@ module _ (u : ℕ) (s t s' t' : List ℕ) (a : Alike u s t s' t') (i : Input) wh
       let l' : LogsIn u s' (i .line) (answerOf (outcome s' t' i .reply)) = record {
         name = l .name;
         form = l .form;
-        subject = sym (same-named (policyIn s) (policyIn s') (a .start .policy) (bytesOf (i .line) (l .name))) ∙ l .subject;
+        subject = sym (same-named (policyIn s) (policyIn s') (a .start .policy) (l .name)) ∙ l .subject;
         said = length okText;
         accepted = ap answerOf e;
       } in
       let said : outcome s t i .reply ≡ says okText =
       ap (λ (o : Outcome). o .reply) (taken s t (i .line) (i .room) (l .said) (l .accepted) .is)
-      ∙ ap (λ (f : Form). says (workOf f s t (i .line) (recordsOf (treeIn (i .line))) .text)) (l .form) in
+      ∙ ap (λ (f : ReadForm). says (workOf f s t .text)) (l .form) in
       let w = user-is-logged s t (i .line) (i .room) u l in
       let k : policyIn (outcome s t i .state) ≡ policyIn s = ap policyOf (policy-kept s t (i .line) (i .room) (a .start .rooted)) in
       let n = user-declared u (outcome s t i .state) (outcome s t i .table) (store-kept s t (i .line) (i .room) (a .start .passes)) w in

@@ -1,9 +1,11 @@
--- Each form of a line: where its checks pass its effect is sound, and on two stores that are alike to the user its work is alike. Both go by form, in one law with one
--- clause a form; all else that is said of a line goes by its effect. Assumes nothing.
-use Prim.Native.Nat.{ℕ, _+_}
+-- Each form of a line: where its checks pass its effect is sound; on two stores that are alike to the user its work is alike; its own checks have the numbers 2 to
+-- 11, and its answer has room. All go by form, in one law with one clause a form; all else that is said of a line goes by its effect. Assumes nothing.
+use Prim.Native.Nat.{ℕ, _+_, _≤_}
 use mathlib.Core.Path.{_≡_, refl, ap, ap₂, subst}
 use mathlib.Core.Bool.{Bool, true, false, _||_, false≢true}
-use mathlib.Core.List.{List, []}
+use native.Mathlib.Omega.{arith}
+use lib.ListN.{length}
+use mathlib.Core.List.{List}
 use mathlib.Core.Logic.{inl, inr}
 use Rattle.rights.specs.Marks.{keep}
 use Rattle.rights.specs.Labels.{sameLabel, restricted}
@@ -14,10 +16,11 @@ use Rattle.views.specs.declared.done.Change.the-variants as change
 use Rattle.views.specs.declared.insert.Place.{Place}
 use Rattle.views.specs.declared.insert.Place.the-variants as place
 use Rattle.answers.specs.Answer.{viewText}
-use Rattle.forms.specs.Form.{readForm, treeIn}
+use Rattle.forms.specs.declared.layout.Word.{Word}
+use Rattle.forms.specs.declared.layout.Word.the-variants as word
+use Rattle.forms.specs.Layout.{stageOf, shapeOf}
+use Rattle.forms.specs.Form.{AllHeld, ReadForm, noForm, readForm}
 use Rattle.forms.specs.Tree.{recordsOf}
-use Rattle.forms.specs.declared.form.Form.{Form}
-use Rattle.forms.specs.declared.form.Form.the-variants as form
 use Rattle.lines.specs.PolicyEdit.{subjectNamed, isUnknown, numberIn}
 use Rattle.lines.specs.State.{stageE, stage, policyIn, storeOk}
 use Rattle.lines.specs.Effect.{login, Work}
@@ -26,8 +29,10 @@ use Rattle.lines.specs.UserView.{noUser, doneIn}
 use Rattle.lines.specs.Work.{changeAt, answerTo, onView, workUser, workView, workAsk, workRename, workInsert, workRemove}
 use Rattle.lines.specs.declared.queries.Ask.{Ask}
 use Rattle.lines.specs.declared.queries.Ask.the-variants as ask
-use Rattle.store.specs.Line.{stageOf, inStage, bytesOf, workOf}
-use Rattle.store.proofs.FormParts.{Fits, form-fits}
+use Rattle.lines.specs.Clause.{workOf}
+use Rattle.store.specs.Line.{inStage}
+use Rattle.store.proofs.FormParts.{AllFit, form-fits}
+use Rattle.guarantee.proofs.AnswerMost.{Room, ok-most, count-most, shows-most, ask-most, own}
 use Rattle.guarantee.proofs.SamePolicy.{same-named, same-word}
 use Rattle.guarantee.proofs.Sound.{EffectSound}
 use Rattle.guarantee.proofs.FormSound.{rename-frees, update-frees, subject-sound, isa-sound, rule-sound, root-sound, child-sound, user-sound, rename-sound, insert-sound, remove-sound}
@@ -97,65 +102,121 @@ module _ (u : ℕ) (s t s' t' : List ℕ) (h : Tied u s t s' t') where
     effect = removals (doneIn change.Remove s t path) (doneIn change.Remove s' t' path) (done-both u s t s' t' h change.Remove path);
   }
 
-  none-alike : (line : List ℕ) → Alike (workOf form.NoForm s t line []) (workOf form.NoForm s' t' line [])
+  none-alike : Alike (workOf noForm s t) (workOf noForm s' t')
   unfolding ChecksAlike
-  none-alike line = record { checks = (same _ _, tt); text = refl; effect = readings }
+  none-alike = record { checks = (same _ _, tt); text = refl; effect = readings }
 
 -- The law of a form
 
-abbrev pub workIn : List ℕ → Form → List ℕ → List ℕ → Work
-workIn line f s t = workOf f s t line (recordsOf (treeIn line))
-
-pub record FormLaw (line : List ℕ) (f : Form) : Type 0 where
-  pub sound : (s t : List ℕ) → storeOk s t ≡ true → inStage (stageOf f) (stage s) ≡ true → Passed (workIn line f s t .checks)
-      → EffectSound f line s t (workIn line f s t .effect)
-  pub alike : (u : ℕ) (s t s' t' : List ℕ) → Tied u s t s' t' → inStage (stageOf f) stageE ≡ true
-      → WorkAlike (policyIn s) u t t' (workIn line f s t) (workIn line f s' t')
+pub record FormLaw (f : ReadForm) : Type 0 where
+  pub sound : (s t : List ℕ) → storeOk s t ≡ true → inStage (stageOf (f .word)) (stage s) ≡ true → Passed (workOf f s t .checks) → EffectSound f s t (workOf f s t .effect)
+  pub alike : (u : ℕ) (s t s' t' : List ℕ) → Tied u s t s' t' → inStage (stageOf (f .word)) stageE ≡ true → WorkAlike (policyIn s) u t t' (workOf f s t) (workOf f s' t')
+  pub own : (s t : List ℕ) → own (workOf f s t .checks) ≡ true
+  pub most : (s t : List ℕ) → storeOk s t ≡ true → (n : ℕ) → Room t n → length (workOf f s t .text) ≤ n
 
 module _ (line : List ℕ) where
   -- the lines before stage E are out of a user's reach
   early : {P : Policy} {u : ℕ} {t t' : List ℕ} {w w' : Work} → false ≡ true → WorkAlike P u t t' w w'
   early i = absurd (false≢true i)
 
-  form-law : (f : Form) → Fits line f → FormLaw line f
-  form-law (form.Subject n) w = record { sound = λ s t ok i p. subject-sound s t ok (bytesOf line n) i w p; alike = λ u s t s' t' h i. early i }
-  form-law (form.Isa n r) w = record { sound = λ s t ok i p. isa-sound s t ok (bytesOf line n) (bytesOf line r) i p; alike = λ u s t s' t' h i. early i }
-  form-law (form.Rule a b p n) w = record {
-    sound = λ s t ok i q. rule-sound s t ok a b (bytesOf line p) (bytesOf line n) i (w .0) (w .1) q;
+  form-law : (w : Word) (ps : AllHeld (shapeOf w)) → AllFit line (shapeOf w) ps → FormLaw (record { word = w; parts = ps })
+  form-law word.Subject (n, tt) w = record {
+    sound = λ s t ok i p. subject-sound s t ok n i (w .0) p;
     alike = λ u s t s' t' h i. early i;
+    own = λ s t. refl;
+    most = λ s t ok. ok-most t;
   }
-  form-law (form.Root l) w = record { sound = λ s t ok i p. root-sound s t ok (bytesOf line l) i w p; alike = λ u s t s' t' h i. early i }
-  form-law (form.Child m) w = record { sound = λ s t ok i p. child-sound s t ok line m i w p; alike = λ u s t s' t' h i. early i }
-  form-law (form.User n) w = record { sound = λ s t ok i p. user-sound s t ok line n i p; alike = λ u s t s' t' h i. user-alike u s t s' t' h (bytesOf line n) }
-  form-law form.View w = record { sound = λ s t ok i p. tt; alike = λ u s t s' t' h i. view-alike u s t s' t' h }
-  form-law (form.Query p) w = record { sound = λ s t ok i q. tt; alike = λ u s t s' t' h i. ask-alike u s t s' t' h ask.Query (bytesOf line p) }
-  form-law (form.Find p) w = record { sound = λ s t ok i q. tt; alike = λ u s t s' t' h i. ask-alike u s t s' t' h ask.Find (bytesOf line p) }
-  form-law (form.Rename p l) w = record {
-    sound = λ s t ok i q. rename-sound s t ok change.Rename (bytesOf line p) (bytesOf line l) i rename-frees w q;
-    alike = λ u s t s' t' h i. rename-alike u s t s' t' h change.Rename (bytesOf line p) (bytesOf line l);
+  form-law word.Isa (n, (r, tt)) w = record {
+    sound = λ s t ok i p. isa-sound s t ok n r i p;
+    alike = λ u s t s' t' h i. early i;
+    own = λ s t. refl;
+    most = λ s t ok. ok-most t;
   }
-  form-law (form.Update p l) w = record {
-    sound = λ s t ok i q. rename-sound s t ok change.Update (bytesOf line p) (bytesOf line l) i update-frees w q;
-    alike = λ u s t s' t' h i. rename-alike u s t s' t' h change.Update (bytesOf line p) (bytesOf line l);
+  form-law word.Rule (a, (b, (p, (n, tt)))) w = record {
+    sound = λ s t ok i q. rule-sound s t ok a b p n i (w .1 .0 .0) (w .1 .0 .1) q;
+    alike = λ u s t s' t' h i. early i;
+    own = λ s t. refl;
+    most = λ s t ok. ok-most t;
   }
-  form-law (form.Append p m) w = record {
-    sound = λ s t ok i q. insert-sound s t ok line place.Append (bytesOf line p) m i w q;
-    alike = λ u s t s' t' h i. insert-alike u s t s' t' h place.Append (bytesOf line p) m (recordsOf (treeIn line));
+  form-law word.Root (l, tt) w = record {
+    sound = λ s t ok i p. root-sound s t ok l i (w .0) p;
+    alike = λ u s t s' t' h i. early i;
+    own = λ s t. refl;
+    most = λ s t ok. ok-most t;
   }
-  form-law (form.Before p m) w = record {
-    sound = λ s t ok i q. insert-sound s t ok line place.Before (bytesOf line p) m i w q;
-    alike = λ u s t s' t' h i. insert-alike u s t s' t' h place.Before (bytesOf line p) m (recordsOf (treeIn line));
+  form-law word.Child (ns, tt) w = record {
+    sound = λ s t ok i p. child-sound s t ok line ns i (w .0) p;
+    alike = λ u s t s' t' h i. early i;
+    own = λ s t. refl;
+    most = λ s t ok. ok-most t;
   }
-  form-law (form.After p m) w = record {
-    sound = λ s t ok i q. insert-sound s t ok line place.After (bytesOf line p) m i w q;
-    alike = λ u s t s' t' h i. insert-alike u s t s' t' h place.After (bytesOf line p) m (recordsOf (treeIn line));
+  form-law word.User (n, tt) w = record {
+    sound = λ s t ok i p. user-sound s t ok n i p;
+    alike = λ u s t s' t' h i. user-alike u s t s' t' h n;
+    own = λ s t. refl;
+    most = λ s t ok. ok-most t;
   }
-  form-law (form.Remove p) w = record {
-    sound = λ s t ok i q. remove-sound s t ok p line i;
-    alike = λ u s t s' t' h i. remove-alike u s t s' t' h (bytesOf line p);
+  form-law word.View tt w = record {
+    sound = λ s t ok i p. tt;
+    alike = λ u s t s' t' h i. view-alike u s t s' t' h;
+    own = λ s t. refl;
+    most = λ s t ok. shows-most s t ok;
   }
-  form-law form.NoForm w = record { sound = λ s t ok i p. tt; alike = λ u s t s' t' h i. none-alike u s t s' t' h line }
+  form-law word.Query (p, tt) w = record {
+    sound = λ s t ok i q. tt;
+    alike = λ u s t s' t' h i. ask-alike u s t s' t' h ask.Query p;
+    own = λ s t. refl;
+    most = λ s t ok. ask-most s t ok ask.Query p;
+  }
+  form-law word.Find (p, tt) w = record {
+    sound = λ s t ok i q. tt;
+    alike = λ u s t s' t' h i. ask-alike u s t s' t' h ask.Find p;
+    own = λ s t. refl;
+    most = λ s t ok. ask-most s t ok ask.Find p;
+  }
+  form-law word.Rename (p, (l, tt)) w = record {
+    sound = λ s t ok i q. rename-sound s t ok change.Rename p l i rename-frees (w .1 .0) q;
+    alike = λ u s t s' t' h i. rename-alike u s t s' t' h change.Rename p l;
+    own = λ s t. refl;
+    most = λ s t ok. count-most s t ok change.Rename p;
+  }
+  form-law word.Update (p, (l, tt)) w = record {
+    sound = λ s t ok i q. rename-sound s t ok change.Update p l i update-frees (w .1 .0) q;
+    alike = λ u s t s' t' h i. rename-alike u s t s' t' h change.Update p l;
+    own = λ s t. refl;
+    most = λ s t ok. count-most s t ok change.Update p;
+  }
+  form-law word.Append (p, (ns, tt)) w = record {
+    sound = λ s t ok i q. insert-sound s t ok line place.Append p ns i (w .1 .0) q;
+    alike = λ u s t s' t' h i. insert-alike u s t s' t' h place.Append p (length ns) (recordsOf ns);
+    own = λ s t. refl;
+    most = λ s t ok. count-most s t ok change.Append p;
+  }
+  form-law word.Before (p, (ns, tt)) w = record {
+    sound = λ s t ok i q. insert-sound s t ok line place.Before p ns i (w .1 .0) q;
+    alike = λ u s t s' t' h i. insert-alike u s t s' t' h place.Before p (length ns) (recordsOf ns);
+    own = λ s t. refl;
+    most = λ s t ok. count-most s t ok change.Before p;
+  }
+  form-law word.After (p, (ns, tt)) w = record {
+    sound = λ s t ok i q. insert-sound s t ok line place.After p ns i (w .1 .0) q;
+    alike = λ u s t s' t' h i. insert-alike u s t s' t' h place.After p (length ns) (recordsOf ns);
+    own = λ s t. refl;
+    most = λ s t ok. count-most s t ok change.After p;
+  }
+  form-law word.Remove (p, tt) w = record {
+    sound = λ s t ok i q. remove-sound s t ok p i;
+    alike = λ u s t s' t' h i. remove-alike u s t s' t' h p;
+    own = λ s t. refl;
+    most = λ s t ok. count-most s t ok change.Remove p;
+  }
+  form-law word.Other tt w = record {
+    sound = λ s t ok i p. tt;
+    alike = λ u s t s' t' h i. none-alike u s t s' t' h;
+    own = λ s t. refl;
+    most = λ s t ok n h. omega arith;
+  }
 
   -- the law of the form that was read
-  pub read-law : FormLaw line (readForm line)
-  read-law = form-law (readForm line) (form-fits line)
+  pub read-law : FormLaw (readForm line)
+  read-law = form-law (readForm line .word) (readForm line .parts) (form-fits line)

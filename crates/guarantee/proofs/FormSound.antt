@@ -6,7 +6,7 @@ use mathlib.Core.List.{List, [], _∷_}
 use native.Mathlib.Omega.{arith}
 use borrow.Author.Tests.{eq-eqb, ne-eqb, leb-true, leb-false, not-true, not-false}
 use lib.Dec.{leb, ltb, eqb}
-use lib.ListN.{getD}
+use lib.ListN.{length, getD}
 use Rattle.rights.specs.Labels.{sameLabel, restricted}
 use Rattle.rights.specs.Path.{Path}
 use Rattle.rights.specs.PathReader.{Got, got, bad, pathOf}
@@ -21,7 +21,8 @@ use Rattle.rights.proofs.RecordOfLaws.{length-name}
 use Rattle.rights.proofs.XPathLists.{or-right}
 use Rattle.views.specs.Change.{lower, hasRoom}
 use Rattle.views.specs.Done.{Asked, isRoot, renamable, does, askedOf}
-use Rattle.rights.specs.Marks.{eachFrom}
+use Rattle.rights.specs.Marks.{bit, eachFrom}
+use Rattle.rights.specs.Nodes.{Node}
 use Rattle.views.specs.How.Pass.{AtDone}
 use Rattle.views.specs.declared.done.Change.{Change}
 use Rattle.views.specs.declared.done.Change.the-variants as change
@@ -29,11 +30,10 @@ use Rattle.views.specs.declared.insert.Place.{Place}
 use Rattle.views.specs.declared.insert.Place.the-variants as place
 use Rattle.views.proofs.TableLaws.{facts}
 use Rattle.views.proofs.TableKept.{loosen}
-use Rattle.forms.specs.Form.{treeIn}
+use Rattle.forms.specs.declared.layout.Word.the-variants as word
 use Rattle.forms.specs.Tree.{recordsOf}
 use Rattle.forms.specs.TreeText.{GoodLabel}
-use Rattle.forms.specs.declared.form.Form.the-variants.{User, Remove}
-use Rattle.forms.specs.declared.form.Part.{Part}
+use Rattle.forms.specs.Command.{command, formOf}
 use Rattle.lines.specs.PolicyEdit.{subjectNamed, hasBracket, Plain, stepsIn, withSubject, withIsa, withRule, isUnknown, numberIn}
 use Rattle.lines.specs.State.{stageD, stage, policyBytes, policyIn, storeOk}
 use Rattle.lines.specs.Refusal.{Passed}
@@ -50,7 +50,7 @@ use Rattle.rights.proofs.HeldPolicyLaws.{right-bit}
 use Rattle.lines.proofs.StateLaws.{Held, store-held}
 use Rattle.lines.proofs.StoredPaths.{plain}
 use Rattle.lines.proofs.StoredSteps.{or-none}
-use Rattle.store.specs.Line.{inStage, bytesOf, acceptByte}
+use Rattle.store.specs.Line.{inStage}
 use Rattle.store.proofs.FormParts.{TreePart}
 use Rattle.store.proofs.TreeNodesLaws.{label-ok}
 use Rattle.guarantee.proofs.Sound.{NoWord, PolicySound, RootSound, InsertSound, RenameSound, RemoveSound, LoginSound}
@@ -91,7 +91,7 @@ path-plain path e b = go (pathOf path) refl e
     go (got q i) w k = plain path i (rw w) b
     go bad w k = absurd (true≢false k)
 
-accept-small : (a : Bool) → acceptByte a ≤ 1
+accept-small : (a : Bool) → bit a ≤ 1
 accept-small true = omega arith
 accept-small false = omega arith
 
@@ -195,8 +195,8 @@ module _ (s t : List ℕ) (ok : storeOk s t ≡ true) where
         rules = rw q (held .rules);
       }
 
-  pub rule-sound : (a : Bool) (b : ℕ) (path name : List ℕ) → inStage 1 (stage s) ≡ true → (r : Right) → b ≡ bitOf r → Passed (workRule s (acceptByte a) b path name .checks)
-      → PolicySound s (withRule bytes (acceptByte a) b (numberIn (named name)) (stepsIn path)) 1
+  pub rule-sound : (a : Bool) (b : ℕ) (path name : List ℕ) → inStage 1 (stage s) ≡ true → (r : Right) → b ≡ bitOf r → Passed (workRule s (bit a) b path name .checks)
+      → PolicySound s (withRule bytes (bit a) b (numberIn (named name)) (stepsIn path)) 1
   rule-sound a b path name i r e p =
       let u : ℕ = numberIn (named name) in
       let l = stage-reached 1 (stage s) i in
@@ -204,39 +204,38 @@ module _ (s t : List ℕ) (ok : storeOk s t ≡ true) where
         early = omega (arith, l);
         before-root = omega arith;
         ok =
-            rule-keeps bytes (acceptByte a) b u path (held .policy) (leb-false 128 (ruleCount bytes) (p .1 .1 .1 .0)) (path-plain path (p .0) (p .1 .1 .0)) (accept-small a)
+            rule-keeps bytes (bit a) b u path (held .policy) (leb-false 128 (ruleCount bytes) (p .1 .1 .1 .0)) (path-plain path (p .0) (p .1 .1 .0)) (accept-small a)
             (ap bitOk e ∙ right-bit r) (found-subject bytes name u (held .policy) (known (named name) (p .1 .0)) .declared) (p .1 .1 .1 .1 .0);
-        rules = or-right (eqb (ruleCount (withRule bytes (acceptByte a) b u (stepsIn path))) 0) true refl;
+        rules = or-right (eqb (ruleCount (withRule bytes (bit a) b u (stepsIn path))) 0) true refl;
       }
 
   pub root-sound : (l : List ℕ) → inStage 2 (stage s) ≡ true → GoodLabel l → Passed (workRoot t l .checks) → RootSound s t l
   root-sound l i g p = record { early = before-root (stage s) i; label = label-ok l g (p .0); has-room = p .1 .0 }
 
   -- an insertion into the stage g
-  inserted : (line : List ℕ) (at : Place) (ms : List Bool) (m g : ℕ) → 2 ≤ stage s → 2 ≤ g → g ≤ 4 → eqb g 4 ≡ eqb (stage s) 4 → TreePart line m
-      → (lower at ≡ 0 → getD ms 0 false ≡ false) → treeRestricted m (recordsOf (treeIn line)) ≡ false
-      → Passed (insertChecks at ms m (recordsOf (treeIn line)) t) → InsertSound s t at ms m (recordsOf (treeIn line)) g
-  inserted line at ms m g l k n e w q r p = record {
+  inserted : (line : List ℕ) (at : Place) (ms : List Bool) (ns : List Node) (g : ℕ) → 2 ≤ stage s → 2 ≤ g → g ≤ 4 → eqb g 4 ≡ eqb (stage s) 4 → TreePart line ns
+      → (lower at ≡ 0 → getD ms 0 false ≡ false) → treeRestricted (length ns) (recordsOf ns) ≡ false
+      → Passed (insertChecks at ms (length ns) (recordsOf ns) t) → InsertSound s t at ms (length ns) (recordsOf ns) g
+  inserted line at ms ns g l k n e w q r p = record {
     rooted = l;
     behind-root = k;
     stages = n;
     session = e;
-    good = tree-ok line m w r;
+    good = tree-ok line ns w r;
     shallow = p .0;
-    has-room = not-false (hasRoom t ms m) (p .1 .0);
+    has-room = not-false (hasRoom t ms (length ns)) (p .1 .0);
     spared = q;
   }
 
-  pub child-sound : (line : List ℕ) (m : ℕ) → inStage 3 (stage s) ≡ true → TreePart line m → Passed (workChild t m (recordsOf (treeIn line)) .checks)
-      → InsertSound s t place.Append rootAlone m (recordsOf (treeIn line)) stageD
-  child-sound line m i w p =
+  pub child-sound : (line : List ℕ) (ns : List Node) → inStage 3 (stage s) ≡ true → TreePart line ns → Passed (workChild t (length ns) (recordsOf ns) .checks)
+      → InsertSound s t place.Append rootAlone (length ns) (recordsOf ns) stageD
+  child-sound line ns i w p =
       let l = stage-reached 3 (stage s) i in
-      inserted line place.Append rootAlone m 3 (behind-root 3 (stage s) refl i) (omega arith) (omega arith) (sym (ne-eqb (stage s) 4 (λ e. omega (arith, l, e)))) w
+      inserted line place.Append rootAlone ns 3 (behind-root 3 (stage s) refl i) (omega arith) (omega arith) (sym (ne-eqb (stage s) 4 (λ e. omega (arith, l, e)))) w
       (λ e. absurd (omega (arith, e))) (p .0) (p .1)
 
-  pub user-sound : (line : List ℕ) (n : Part) → inStage 4 (stage s) ≡ true → Passed (workUser s (bytesOf line n) .checks)
-      → LoginSound (User n) line s (numberIn (named (bytesOf line n)))
-  user-sound line n i p = record { name = n; form = refl; named = known (named (bytesOf line n)) (p .0); rooted = behind-root 4 (stage s) refl i }
+  pub user-sound : (n : List ℕ) → inStage 4 (stage s) ≡ true → Passed (workUser s n .checks) → LoginSound (formOf (command word.User (n, tt))) s (numberIn (named n))
+  user-sound n i p = record { name = n; form = refl; named = known (named n) (p .0); rooted = behind-root 4 (stage s) refl i }
 
   pub rename-sound : (c : Change) (path l : List ℕ) → inStage 4 (stage s) ≡ true → Frees c → GoodLabel l → Passed (workRename c s t path l .checks)
       → RenameSound s t l (doneIn c s t path)
@@ -244,18 +243,18 @@ module _ (s t : List ℕ) (ok : storeOk s t ≡ true) where
       let n = or-none (sameLabel l restricted) (policyWord (policyIn s) l) (p .1 .1 .0) in
       record { rooted = behind-root 4 (stage s) refl i; label = label-ok l g (n .0); no-word = n .1; no-words = done-free c f s t path }
 
-  pub insert-sound : (line : List ℕ) (at : Place) (path : List ℕ) (m : ℕ) → inStage 4 (stage s) ≡ true → TreePart line m
-      → Passed (workInsert at s t path m (recordsOf (treeIn line)) .checks)
-      → InsertSound s t at (doneIn (changeAt at) s t path) m (recordsOf (treeIn line)) (stage s)
-  insert-sound line at path m i w p =
+  pub insert-sound : (line : List ℕ) (at : Place) (path : List ℕ) (ns : List Node) → inStage 4 (stage s) ≡ true → TreePart line ns
+      → Passed (workInsert at s t path (length ns) (recordsOf ns) .checks)
+      → InsertSound s t at (doneIn (changeAt at) s t path) (length ns) (recordsOf ns) (stage s)
+  insert-sound line at path ns i w p =
       let k = behind-root 4 (stage s) refl i in
-      inserted line at (doneIn (changeAt at) s t path) m (stage s) k k (held .stages) refl w
+      inserted line at (doneIn (changeAt at) s t path) ns (stage s) k k (held .stages) refl w
       (λ e. root-spared (changeAt at) (spares-beside at e) s t path (held .table)) (p .1 .1 .0) (p .1 .1 .1)
 
-  pub remove-sound : (p : Part) (line : List ℕ) → inStage 4 (stage s) ≡ true → RemoveSound (Remove p) s t (doneIn change.Remove s t (bytesOf line p))
-  remove-sound p line i = record {
+  pub remove-sound : (p : List ℕ) → inStage 4 (stage s) ≡ true → RemoveSound (formOf (command word.Remove (p, tt))) s t (doneIn change.Remove s t p)
+  remove-sound p i = record {
     path = p;
     form = refl;
     rooted = behind-root 4 (stage s) refl i;
-    spared = root-spared change.Remove spares-remove s t (bytesOf line p) (held .table);
+    spared = root-spared change.Remove spares-remove s t p (held .table);
   }

@@ -16,16 +16,14 @@ use Rattle.views.specs.declared.insert.Place.the-variants as place
 use Rattle.views.proofs.KeptLaws.{tags-remove, tags-insertBehind, tags-insertInFront, tags-rename}
 use Rattle.views.proofs.MapLaws.{map-remove, map-insertBehind, map-insertInFront, map-rename}
 use Rattle.views.proofs.NodeLaws.{remove-only}
-use Rattle.forms.specs.Form.{readForm, treeIn}
-use Rattle.forms.specs.Tree.{recordsOf}
+use Rattle.forms.specs.declared.layout.Word.the-variants as word
+use Rattle.forms.specs.Form.{ReadForm, readForm}
+use Rattle.forms.specs.Command.{command, formOf}
 use Rattle.lines.specs.Effect.{Effect, policy, root, insertion, renaming, removal, login, reading, nodesAfter, recordsAfter}
 use Rattle.lines.specs.Outcome.{Reply, says, refuses}
 use Rattle.lines.specs.UserView.{doneIn}
-use Rattle.store.specs.Line.{bytesOf, workOf}
+use Rattle.lines.specs.Clause.{workOf}
 use Rattle.lines.specs.State.{stageC, stage}
-use Rattle.forms.specs.declared.form.Part.{Part}
-use Rattle.forms.specs.declared.form.Form.{Form}
-use Rattle.forms.specs.declared.form.Form.the-variants.{Remove}
 use Rattle.guarantee.specs.Alike.{Input, outcome}
 use Rattle.guarantee.specs.Identity.{Tagged, taggedLevel, new, afterEffect, afterReply, effectOf, follow, followAll, stateAfterAll, tableAfterAll, tagAll, tagAt, known, knownOf}
 use Rattle.guarantee.specs.Identity.{Follows, NodesKept, NodesRemoved, InsertedNew, NoneBack, OrderKept}
@@ -83,7 +81,7 @@ module _ (s t : List ℕ) (i : Input) (ns : List Tagged) (e : map (λ n. n .0) n
       go (inr x) =
           rw (x .is)
           (records-after (effectOf s t (i .line)) ns ∙ ap (recordsAfter (effectOf s t (i .line))) e
-          ∙ sym (table-after (readForm (i .line)) (i .line) s t (store-held s t (x .passes) .table) (effectOf s t (i .line)) (x .sound) .held))
+          ∙ sym (table-after (readForm (i .line)) s t (store-held s t (x .passes) .table) (effectOf s t (i .line)) (x .sound) .held))
 
 -- any lines
 pub follows : Follows
@@ -143,15 +141,15 @@ tags-kept s t (i ∷ is) ns =
     Sublistᴰ·trans (tags-kept (outcome s t i .state) (outcome s t i .table) is (follow s t i ns)) (tags-follow s t i ns)
 
 -- "A change keeps every node that it does not remove"
-tags-same : (f : Form) (line s t : List ℕ) → stageC ≤ stage s → ((p : Part) → f ≡ Remove p → ⊥) → (e : Effect) → EffectSound f line s t e → (ns : List Tagged)
+tags-same : (f : ReadForm) (s t : List ℕ) → stageC ≤ stage s → ((p : List ℕ) → f ≡ formOf (command word.Remove (p, tt)) → ⊥) → (e : Effect) → EffectSound f s t e → (ns : List Tagged)
     → tags tagOf (afterEffect e ns) ≡ tags tagOf ns
-tags-same f line s t h k (policy p g) x ns = refl
-tags-same f line s t h k (root l) x ns = absurd (omega (arith, x .early))
-tags-same f line s t h k (insertion at ms m tree g) x ns = tags-insert tagOf (λ r. refl) at m tree ms g ns
-tags-same f line s t h k (renaming l ms) x ns = tags-relabel l ms ns
-tags-same f line s t h k (removal ms) x ns = absurd (k (x .path) (x .form))
-tags-same f line s t h k (login u) x ns = refl
-tags-same f line s t h k reading x ns = refl
+tags-same f s t h k (policy p g) x ns = refl
+tags-same f s t h k (root l) x ns = absurd (omega (arith, x .early))
+tags-same f s t h k (insertion at ms m tree g) x ns = tags-insert tagOf (λ r. refl) at m tree ms g ns
+tags-same f s t h k (renaming l ms) x ns = tags-relabel l ms ns
+tags-same f s t h k (removal ms) x ns = absurd (k (x .path) (x .form))
+tags-same f s t h k (login u) x ns = refl
+tags-same f s t h k reading x ns = refl
 
 pub nodes-kept : NodesKept
 unfolding follow
@@ -160,14 +158,14 @@ nodes-kept s t h i ns k = go (line-cases s t (i .line) (i .room))
     go : Refused s t (outcome s t i) ⊎ Accepted s t (i .line) (i .room)
         → tags tagOf (afterReply (outcome s t i .reply) (effectOf s t (i .line)) ns) ≡ tags tagOf ns
     go (inl x) = rw (x .is)
-    go (inr x) = rw (x .is) (tags-same (readForm (i .line)) (i .line) s t h k (effectOf s t (i .line)) (x .sound) ns)
+    go (inr x) = rw (x .is) (tags-same (readForm (i .line)) s t h k (effectOf s t (i .line)) (x .sound) ns)
 
 pub nodes-removed : NodesRemoved
 unfolding follow
 nodes-removed s t i ns p text e q =
     rw q
-    (ap (λ (f : Form). afterEffect (workOf f s t (i .line) (recordsOf (treeIn (i .line))) .effect) ns) e
-    ∙ remove-only taggedLevel (doneIn change.Remove s t (bytesOf (i .line) p)) ns)
+    (ap (λ (f : ReadForm). afterEffect (workOf f s t .effect) ns) e
+    ∙ remove-only taggedLevel (doneIn change.Remove s t p) ns)
 
 -- "Inserted nodes are new"
 

@@ -12,6 +12,7 @@ pub mod TableAfter
 pub mod StoreKept
 pub mod LineLow
 pub mod LineAlike
+pub mod AnswerMost
 pub mod FormLaws
 pub mod Accepted
 pub mod SessionKept

@@ -15,7 +15,7 @@ use Rattle.views.specs.Change.{tooDeep}
 use Rattle.views.specs.How.Pass.{AtDone}
 use Rattle.views.specs.declared.done.Change.{Change}
 use Rattle.views.specs.declared.insert.Place.{Place}
-use Rattle.forms.specs.declared.form.Form.{Form}
+use Rattle.forms.specs.Form.{ReadForm}
 use Rattle.lines.specs.State.{policyBytes, policyIn, storeOk}
 use Rattle.lines.specs.Effect.{Effect, insertion, renaming, removal, login, reading, recordsAfter, tableAfter, Work}
 use Rattle.lines.specs.Outcome.{refuses, Outcome}
@@ -166,12 +166,12 @@ module _ (u : ℕ) (s t s' t' : List ℕ) (h : Tied u s t s' t') where
   }
 
   -- Effects alike leave the same low projection.
-  pub low-effect : (f : Form) (line : List ℕ) (e e' : Effect) → EffectAlike P u t t' e e' → EffectSound f line s t e → EffectSound f line s' t' e'
+  pub low-effect : (f : ReadForm) (e e' : Effect) → EffectAlike P u t t' e e' → EffectSound f s t e → EffectSound f s' t' e'
       → lowOf P u (records (tableAfter e t)) ≡ lowOf P u (records (tableAfter e' t'))
-  low-effect f line e e' a x x' =
-      ap (lowOf P u) (table-after f line s t ok e x .held) ∙ by a x x' ∙ sym (ap (lowOf P u) (table-after f line s' t' ok' e' x' .held))
+  low-effect f e e' a x x' =
+      ap (lowOf P u) (table-after f s t ok e x .held) ∙ by a x x' ∙ sym (ap (lowOf P u) (table-after f s' t' ok' e' x' .held))
     where
-      by : {e e' : Effect} → EffectAlike P u t t' e e' → EffectSound f line s t e → EffectSound f line s' t' e'
+      by : {e e' : Effect} → EffectAlike P u t t' e e' → EffectSound f s t e → EffectSound f s' t' e'
           → lowOf P u (recordsAfter e (records t)) ≡ lowOf P u (recordsAfter e' (records t'))
       by readings x x' = h .low
       by (logins v) x x' = h .low

@@ -13,9 +13,8 @@ use Rattle.rights.specs.Rights.{rightsBy, chains, rightsOn}
 use Rattle.rights.specs.Table.{records, tableOk}
 use Rattle.rights.proofs.ChainLaws.{chains-length}
 use Rattle.views.specs.Nodes.{tags, All}
-use Rattle.forms.specs.Form.{readForm}
+use Rattle.forms.specs.Form.{ReadForm, readForm}
 use Rattle.lines.specs.State.{stageC, stage, policyIn}
-use Rattle.forms.specs.declared.form.Form.{Form}
 use Rattle.lines.proofs.StateLaws.{store-held}
 use Rattle.guarantee.specs.Alike.{Input, outcome}
 use Rattle.guarantee.specs.Identity.{Tagged, afterEffect, afterReply, effectOf, follow, followAll, stateAfterAll, tableAfterAll, tagAll, tagAt, Was, rightsAt, SameRights}
@@ -32,18 +31,18 @@ same : {a b : List (ℕ × ℕ)} → a ≡ b → Sublistᴰ a b
 same {b = b} e = rw e (Sublistᴰ·refl b)
 
 -- the rights on the kept nodes after an effect, the root line taken before
-rights-effect : (f : Form) (line s t : List ℕ) → tableOk t ≡ true → stageC ≤ stage s → (ns : List Tagged) → map (λ n. n .0) ns ≡ records t
-    → (u : ℕ) → u < length (policyIn s .names) → (e : Effect) → EffectSound f line s t e
+rights-effect : (f : ReadForm) (s t : List ℕ) → tableOk t ≡ true → stageC ≤ stage s → (ns : List Tagged) → map (λ n. n .0) ns ≡ records t
+    → (u : ℕ) → u < length (policyIn s .names) → (e : Effect) → EffectSound f s t e
     → Sublistᴰ (keptRights (policyIn s) u (afterEffect e ns)) (keptRights (policyIn s) u ns)
-rights-effect f line s t ok rooted ns q u d (policy p g) x = Sublistᴰ·refl _
-rights-effect f line s t ok rooted ns q u d (root l) x = absurd (omega (arith, x .early))
-rights-effect f line s t ok rooted ns q u d (insertion at ms m tree g) x =
+rights-effect f s t ok rooted ns q u d (policy p g) x = Sublistᴰ·refl _
+rights-effect f s t ok rooted ns q u d (root l) x = absurd (omega (arith, x .early))
+rights-effect f s t ok rooted ns q u d (insertion at ms m tree g) x =
     same (kept-insert (policyIn s) u d at m tree g ms ns (x .good .nested) (nodes-nested t ns ok q))
-rights-effect f line s t ok rooted ns q u d (renaming l ms) x =
+rights-effect f s t ok rooted ns q u d (renaming l ms) x =
     same (kept-rename (policyIn s) u d l ms ns (x .no-word) (nodes-free (policyIn s) t ms ns q (x .no-words)))
-rights-effect f line s t ok rooted ns q u d (removal ms) x = kept-remove (policyIn s) u d ms ns (nodes-nested t ns ok q)
-rights-effect f line s t ok rooted ns q u d (login v) x = Sublistᴰ·refl _
-rights-effect f line s t ok rooted ns q u d reading x = Sublistᴰ·refl _
+rights-effect f s t ok rooted ns q u d (removal ms) x = kept-remove (policyIn s) u d ms ns (nodes-nested t ns ok q)
+rights-effect f s t ok rooted ns q u d (login v) x = Sublistᴰ·refl _
+rights-effect f s t ok rooted ns q u d reading x = Sublistᴰ·refl _
 
 -- With numbers as tags
 
@@ -81,7 +80,7 @@ module _ (s t : List ℕ) (i : Input) (ns : List Tagged) (e : map (λ n. n .0) n
       go (inl x) = rw (x .is) (Sublistᴰ·refl _)
       go (inr x) =
           rw (x .is)
-          (rights-effect (readForm (i .line)) (i .line) s t (store-held s t (x .passes) .table) rooted ns e u d (effectOf s t (i .line)) (x .sound))
+          (rights-effect (readForm (i .line)) s t (store-held s t (x .passes) .table) rooted ns e u d (effectOf s t (i .line)) (x .sound))
 
 -- Any lines: what every declared subject may do on the kept nodes afterwards is a part, in order, of what it could do on them before
 

@@ -8,14 +8,13 @@ use mathlib.Core.Logic.{_⊎_, inl, inr}
 use native.Mathlib.Omega.{arith}
 use native.Mathlib.Numerals.{add-one}
 use lib.ListN.{length}
-use Rattle.forms.specs.Form.{readForm, treeIn}
-use Rattle.forms.specs.Tree.{recordsOf}
-use Rattle.forms.specs.declared.form.Form.{Form}
+use Rattle.forms.specs.Form.{ReadForm, readForm}
 use Rattle.lines.specs.State.{stageC, stageE, stage, userByte, withSession, withPolicy, policyBytes, storeOk}
 use Rattle.lines.specs.Effect.{Effect, policy, root, insertion, renaming, removal, login, reading, stateAfter, tableAfter}
 use Rattle.lines.specs.Outcome.{Outcome, answerOf}
 use Rattle.lines.specs.PolicyEdit.{numberIn}
-use Rattle.store.specs.Line.{workOf, step}
+use Rattle.lines.specs.Clause.{workOf}
+use Rattle.store.specs.Line.{step}
 use Rattle.lines.proofs.StateLaws.{store-held}
 use Rattle.guarantee.specs.Alike.{UserIs, LogsIn}
 use Rattle.lines.proofs.CheckLaws.{Refused}
@@ -24,26 +23,26 @@ use Rattle.guarantee.proofs.StoreKept.{policy-staged, policy-logged, la
 use Rattle.guarantee.proofs.Accepted.{lineWork, Accepted, line-cases, taken, after-line}
 
 -- the policy and the stage after an effect, the root line taken before
-policy-after : (f : Form) (line s t : List ℕ) → stageC ≤ stage s → (e : Effect) → EffectSound f line s t e
+policy-after : (f : ReadForm) (s t : List ℕ) → stageC ≤ stage s → (e : Effect) → EffectSound f s t e
     → (policyBytes (stateAfter e s) ≡ policyBytes s) × (stageC ≤ stage (stateAfter e s))
-policy-after f line s t rooted (policy p g) x = absurd (omega (arith, x .early))
-policy-after f line s t rooted (root l) x = absurd (omega (arith, x .early))
-policy-after f line s t rooted (insertion at ms m tree g) x = (policy-staged s g, x .behind-root)
-policy-after f line s t rooted (renaming l ms) x = (refl, rooted)
-policy-after f line s t rooted (removal ms) x = (refl, rooted)
-policy-after f line s t rooted (login u) x = (policy-logged s 4 (u + 1), omega arith)
-policy-after f line s t rooted reading x = (refl, rooted)
+policy-after f s t rooted (policy p g) x = absurd (omega (arith, x .early))
+policy-after f s t rooted (root l) x = absurd (omega (arith, x .early))
+policy-after f s t rooted (insertion at ms m tree g) x = (policy-staged s g, x .behind-root)
+policy-after f s t rooted (renaming l ms) x = (refl, rooted)
+policy-after f s t rooted (removal ms) x = (refl, rooted)
+policy-after f s t rooted (login u) x = (policy-logged s 4 (u + 1), omega arith)
+policy-after f s t rooted reading x = (refl, rooted)
 
 -- the user after an effect: the one before, or the one that is logged in
-user-after : (f : Form) (line s t : List ℕ) → 8 ≤ length s → (e : Effect) → EffectSound f line s t e
-    → (userByte (stateAfter e s) ≡ userByte s) ⊎ ((v : ℕ) × (e ≡ login v) × LoginSound f line s v)
-user-after f line s t size (policy p g) x = inl (later-staged (withPolicy p s) g 0 ∙ session-kept s p size 1 (omega arith))
-user-after f line s t size (root l) x = inl (later-staged s 2 0)
-user-after f line s t size (insertion at ms m tree g) x = inl (later-staged s g 0)
-user-after f line s t size (renaming l ms) x = inl refl
-user-after f line s t size (removal ms) x = inl refl
-user-after f line s t size (login v) x = inr (v, refl, x)
-user-after f line s t size reading x = inl refl
+user-after : (f : ReadForm) (s t : List ℕ) → 8 ≤ length s → (e : Effect) → EffectSound f s t e
+    → (userByte (stateAfter e s) ≡ userByte s) ⊎ ((v : ℕ) × (e ≡ login v) × LoginSound f s v)
+user-after f s t size (policy p g) x = inl (later-staged (withPolicy p s) g 0 ∙ session-kept s p size 1 (omega arith))
+user-after f s t size (root l) x = inl (later-staged s 2 0)
+user-after f s t size (insertion at ms m tree g) x = inl (later-staged s g 0)
+user-after f s t size (renaming l ms) x = inl refl
+user-after f s t size (removal ms) x = inl refl
+user-after f s t size (login v) x = inr (v, refl, x)
+user-after f s t size reading x = inl refl
 
 module _ (s t line : List ℕ) (room : ℕ) where
   -- A store that passes 13 passes it again after any line, accepted or refused.
@@ -51,19 +50,19 @@ module _ (s t line : List ℕ) (room : ℕ) where
   store-kept ok =
       let e = lineWork s t line .effect in
       after-line s t line room (λ s' t'. storeOk s' t' ≡ true) ok
-      λ p x. held-passes (stateAfter e s) (tableAfter e t) (held-after (readForm line) line s t p e x)
+      λ p x. held-passes (stateAfter e s) (tableAfter e t) (held-after (readForm line) s t p e x)
 
   -- From the root line on, no line changes the policy,
   pub policy-kept : stageC ≤ stage s → policyBytes (step s t line room .state) ≡ policyBytes s
   policy-kept rooted =
       after-line s t line room (λ s' t'. policyBytes s' ≡ policyBytes s) refl
-      λ p x. policy-after (readForm line) line s t rooted (lineWork s t line .effect) x .0
+      λ p x. policy-after (readForm line) s t rooted (lineWork s t line .effect) x .0
 
   -- and no line goes back to a stage before it.
   pub rooted-kept : stageC ≤ stage s → stageC ≤ stage (step s t line room .state)
   rooted-kept rooted =
       after-line s t line room (λ s' t'. stageC ≤ stage s') rooted
-      λ p x. policy-after (readForm line) line s t rooted (lineWork s t line .effect) x .1
+      λ p x. policy-after (readForm line) s t rooted (lineWork s t line .effect) x .1
 
   -- The user stays, or the line is an accepted `(user N)`: then N is the user, the stage is E, and nothing else changes.
   pub record LoggedIn : Type 0 where
@@ -86,10 +85,10 @@ module _ (s t line : List ℕ) (room : ℕ) where
       go : Refused s t (step s t line room) ⊎ Accepted s t line room → (userByte (step s t line room .state) ≡ userByte s) ⊎ LoggedIn
       go (inl x) = inl (ap (λ (o : Outcome). userByte (o .state)) (x .is))
       go (inr x) =
-          by (user-after (readForm line) line s t (omega (arith, store-held s t (x .passes) .size)) (lineWork s t line .effect) (x .sound))
+          by (user-after (readForm line) s t (omega (arith, store-held s t (x .passes) .size)) (lineWork s t line .effect) (x .sound))
         where
           by : (userByte (stateAfter (lineWork s t line .effect) s) ≡ userByte s)
-              ⊎ ((v : ℕ) × (lineWork s t line .effect ≡ login v) × LoginSound (readForm line) line s v)
+              ⊎ ((v : ℕ) × (lineWork s t line .effect ≡ login v) × LoginSound (readForm line) s v)
               → (userByte (step s t line room .state) ≡ userByte s) ⊎ LoggedIn
           by (inl e) = inl (ap (λ (o : Outcome). userByte (o .state)) (x .is) ∙ e)
           by (inr (v, e, y)) =
@@ -112,7 +111,7 @@ module _ (s t line : List ℕ) (room : ℕ) where
       → (step s t line room .state ≡ withSession stageE (suc v) s) × (step s t line room .table ≡ t)
   logged-in v l =
       login-left (taken s t line room (l .said) (l .accepted)) v
-      (ap (λ (f : Form). workOf f s t line (recordsOf (treeIn line)) .effect) (l .form) ∙ ap (λ n. login (numberIn n)) (l .subject))
+      (ap (λ (f : ReadForm). workOf f s t .effect) (l .form) ∙ ap (λ n. login (numberIn n)) (l .subject))
 
   -- So u stays the user where no other subject is logged in, and is the user where it logs in.
   pub user-is-kept : (u : ℕ) → UserIs u s → ((v : ℕ) → LogsIn v s line (answerOf (step s t line room .reply)) → v ≡ u) → UserIs u (step s t line room .state)

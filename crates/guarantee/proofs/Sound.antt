@@ -17,10 +17,9 @@ use Rattle.views.specs.declared.insert.Place.{Place}
 use Rattle.lines.specs.PolicyEdit.{subjectNamed}
 use Rattle.lines.specs.State.{stageB, stageC, stageE, stage, policyIn}
 use Rattle.lines.specs.declared.policy_edit.Found.the-variants as found
-use Rattle.forms.specs.declared.form.Part.{Part}
-use Rattle.forms.specs.declared.form.Form.{Form}
-use Rattle.forms.specs.declared.form.Form.the-variants.{User, Remove}
-use Rattle.store.specs.Line.{bytesOf}
+use Rattle.forms.specs.declared.layout.Word.the-variants as word
+use Rattle.forms.specs.Form.{ReadForm}
+use Rattle.forms.specs.Command.{command, formOf}
 use Rattle.lines.specs.Effect.{Effect, policy, root, insertion, renaming, removal, login, reading}
 
 -- the label of a record is no policy word
@@ -58,24 +57,24 @@ pub record RenameSound (s t l : List ℕ) (ms : List Bool) : Type 0 where
   pub no-words : AtDone (NoWord (policyIn s)) ms (records t)
 
 -- `(remove P)` alone removes, and never the root
-pub record RemoveSound (f : Form) (s t : List ℕ) (ms : List Bool) : Type 0 where
-  pub path : Part
-  pub form : f ≡ Remove path
+pub record RemoveSound (f : ReadForm) (s t : List ℕ) (ms : List Bool) : Type 0 where
+  pub path : List ℕ
+  pub form : f ≡ formOf (command word.Remove (path, tt))
   pub rooted : stageC ≤ stage s
   pub spared : getD ms 0 false ≡ false
 
 -- `(user N)` alone logs in, and N is declared
-pub record LoginSound (f : Form) (line s : List ℕ) (u : ℕ) : Type 0 where
-  pub name : Part
-  pub form : f ≡ User name
-  pub named : subjectNamed (policyIn s) (bytesOf line name) ≡ found.Subject u
+pub record LoginSound (f : ReadForm) (s : List ℕ) (u : ℕ) : Type 0 where
+  pub name : List ℕ
+  pub form : f ≡ formOf (command word.User (name, tt))
+  pub named : subjectNamed (policyIn s) name ≡ found.Subject u
   pub rooted : stageC ≤ stage s
 
-abbrev pub EffectSound : Form → List ℕ → List ℕ → List ℕ → Effect → Type 0
-EffectSound f line s t (policy p g) = PolicySound s p g
-EffectSound f line s t (root l) = RootSound s t l
-EffectSound f line s t (insertion at ms m tree g) = InsertSound s t at ms m tree g
-EffectSound f line s t (renaming l ms) = RenameSound s t l ms
-EffectSound f line s t (removal ms) = RemoveSound f s t ms
-EffectSound f line s t (login u) = LoginSound f line s u
-EffectSound f line s t reading = Unit {0}
+abbrev pub EffectSound : ReadForm → List ℕ → List ℕ → Effect → Type 0
+EffectSound f s t (policy p g) = PolicySound s p g
+EffectSound f s t (root l) = RootSound s t l
+EffectSound f s t (insertion at ms m tree g) = InsertSound s t at ms m tree g
+EffectSound f s t (renaming l ms) = RenameSound s t l ms
+EffectSound f s t (removal ms) = RemoveSound f s t ms
+EffectSound f s t (login u) = LoginSound f s u
+EffectSound f s t reading = Unit {0}

@@ -8,14 +8,14 @@ use native.Mathlib.Omega.{arith}
 use borrow.Author.Tests.{eqb-true, le-leb, not-false}
 use lib.Dec.{leb, eqb, ltb}
 use lib.ListN.{length}
+use Rattle.forms.specs.Layout.{stageOf}
 use Rattle.forms.specs.Form.{readForm}
-use Rattle.forms.specs.declared.form.Form.{Form}
 use Rattle.lines.specs.State.{stageE, stage, userByte, policyIn, storeOk}
 use Rattle.lines.specs.Effect.{Work, checksIn, performed}
 use Rattle.lines.specs.Outcome.{says, Outcome}
 use Rattle.lines.specs.Refusal.{areaCheck, checked}
 use Rattle.lines.proofs.StateLaws.{store-held}
-use Rattle.store.specs.Line.{stageOf, inStage, lineChecks, step}
+use Rattle.store.specs.Line.{inStage, lineChecks, step}
 use Rattle.guarantee.specs.Alike.{UserIs}
 use Rattle.lines.proofs.CheckLaws.{passed-both}
 use Rattle.guarantee.proofs.FormSound.{agree}
@@ -30,8 +30,9 @@ user-stage s t ok u e =
     eqb-true (stage s) 4 (sym (agree (eqb (stage s) 4) (leb 1 (userByte s)) (store-held s t ok .logged)) ∙ y)
 
 module _ (u : ℕ) (s t s' t' : List ℕ) (h : Tied u s t s' t') (room : ℕ) (line : List ℕ) where
-  abbrev form : Form
-  form = readForm line
+  -- the stage of its form
+  abbrev formStage : ℕ
+  formStage = stageOf (readForm line .word)
 
   abbrev work : Work
   work = lineWork s t line
@@ -44,13 +45,13 @@ module _ (u : ℕ) (s t s' t' : List ℕ) (h : Tied u s t s' t') (room : ℕ) (l
   own s t = checked (checksIn room (lineWork s t line)) s t (done s t line)
 
   -- the checks before the form's own
-  front-alike : ChecksAlike (lineChecks s t line form) (lineChecks s' t' line form)
+  front-alike : ChecksAlike (lineChecks s t line) (lineChecks s' t' line)
   unfolding ChecksAlike
   front-alike =
       let g = user-stage s t (h .passes) u (h .user) in
       let g' = user-stage s' t' (h .passes') u (h .user') in (
         (refl, inl (ap not (h .passes ∙ sym (h .passes')))),
-        ((refl, inl refl), ((refl, inl refl), ((refl, inl (ap (λ k. not (inStage (stageOf form) k)) (g ∙ sym g'))), tt))),
+        ((refl, inl refl), ((refl, inl refl), ((refl, inl (ap (λ k. not (inStage formStage k)) (g ∙ sym g'))), tt))),
       )
 
   -- the form's own checks, and the one for the area
@@ -64,14 +65,14 @@ module _ (u : ℕ) (s t s' t' : List ℕ) (h : Tied u s t s' t') (room : ℕ) (l
   pub match-step : Match (policyIn s) u (step s t line room) (step s' t' line room)
   unfolding step performed checked
   match-step =
-      match-checked (policyIn s) u s t s' t' (h .low) (lineChecks s t line form) (lineChecks s' t' line form) (own s t) (own s' t') front-alike
+      match-checked (policyIn s) u s t s' t' (h .low) (lineChecks s t line) (lineChecks s' t' line) (own s t) (own s' t') front-alike
       λ p p'.
-      let i = not-false (inStage (stageOf form) (stage s)) (p .1 .1 .1 .0) in
-      let i' = not-false (inStage (stageOf form) (stage s')) (p' .1 .1 .1 .0) in
+      let i = not-false (inStage formStage (stage s)) (p .1 .1 .1 .0) in
+      let i' = not-false (inStage formStage (stage s')) (p' .1 .1 .1 .0) in
       let law = read-law line in
-      let a = law .alike u s t s' t' h (sym (ap (λ k. inStage (stageOf form) k) (user-stage s t (h .passes) u (h .user))) ∙ i) in
+      let a = law .alike u s t s' t' h (sym (ap (λ k. inStage formStage k) (user-stage s t (h .passes) u (h .user))) ∙ i) in
       match-checked (policyIn s) u s t s' t' (h .low) (checksIn room work) (checksIn room work') (done s t line) (done s' t' line) (own-alike a)
       λ q q'.
       let x = law .sound s t (h .passes) i (passed-both (work .checks) _ q .0) in
       let x' = law .sound s' t' (h .passes') i' (passed-both (work' .checks) _ q' .0) in
-      λ full full'. record { reply = ap says (a .text); low = low-effect u s t s' t' h form line (work .effect) (work' .effect) (a .effect) x x' }
+      λ full full'. record { reply = ap says (a .text); low = low-effect u s t s' t' h (readForm line) (work .effect) (work' .effect) (a .effect) x x' }

@@ -19,8 +19,7 @@ use Rattle.rights.proofs.PartLaws.{part-in}
 use Rattle.rights.proofs.PolicyPartLaws.{parts}
 use Rattle.lines.proofs.StateLaws.{Held, store-held}
 use Rattle.lines.proofs.EditTests.{found-subject}
-use Rattle.forms.specs.declared.form.Form.{Form}
-use Rattle.store.specs.Line.{bytesOf}
+use Rattle.forms.specs.Form.{ReadForm}
 use Rattle.lines.specs.Effect.{Effect, policy, root, insertion, renaming, removal, login, reading, stateAfter, recordsAfter, tableAfter}
 use Rattle.guarantee.proofs.FormSound.{agree}
 use Rattle.guarantee.proofs.Sound.{PolicySound, EffectSound}
@@ -139,13 +138,13 @@ module _ (s t : List ℕ) (h : Held s t) where
 
 -- Each effect
 
-pub held-after : (f : Form) (line s t : List ℕ) → storeOk s t ≡ true → (e : Effect) → EffectSound f line s t e → Held (stateAfter e s) (tableAfter e t)
-held-after f line s t ok e x = by e x (table-after f line s t (store-held s t ok .table) e x)
+pub held-after : (f : ReadForm) (s t : List ℕ) → storeOk s t ≡ true → (e : Effect) → EffectSound f s t e → Held (stateAfter e s) (tableAfter e t)
+held-after f s t ok e x = by e x (table-after f s t (store-held s t ok .table) e x)
   where
     h : Held s t
     h = store-held s t ok
 
-    by : (e : Effect) → EffectSound f line s t e → TableHolds t (tableAfter e t) (recordsAfter e (records t)) → Held (stateAfter e s) (tableAfter e t)
+    by : (e : Effect) → EffectSound f s t e → TableHolds t (tableAfter e t) (recordsAfter e (records t)) → Held (stateAfter e s) (tableAfter e t)
     by (policy p g) x y = policy-held s t h p g x
     by (root l) x y =
         staged-held s t h (tableAfter (root l) t) 2 (y .ok) (omega (arith, sym (length-records (tableAfter (root l) t)) ∙ ap length (y .held))) (omega arith) (omega arith)
@@ -154,5 +153,5 @@ held-after f line s t ok e x = by e x (table-after f line s t (store-held s t ok
         staged-held s t h (tableAfter (insertion at ms m tree g) t) g (y .ok) (y .rooted (root-held s t h (x .rooted))) (x .behind-root) (x .stages) (x .session)
     by (renaming l ms) x y = table-held s t h (tableAfter (renaming l ms) t) (y .ok) (x .rooted) (y .rooted (root-held s t h (x .rooted)))
     by (removal ms) x y = table-held s t h (tableAfter (removal ms) t) (y .ok) (x .rooted) (y .rooted (root-held s t h (x .rooted)))
-    by (login u) x y = logged-held s t h u (found-subject (policyBytes s) (bytesOf line (x .name)) u (h .policy) (x .named) .declared) (x .rooted)
+    by (login u) x y = logged-held s t h u (found-subject (policyBytes s) (x .name) u (h .policy) (x .named) .declared) (x .rooted)
     by reading x y = h

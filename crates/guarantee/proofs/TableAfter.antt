@@ -16,7 +16,7 @@ use Rattle.views.specs.Nodes.{Nested, All}
 use Rattle.views.proofs.TableLaws.{facts}
 use Rattle.views.proofs.TableKept.{Full, StoredAs, removed-stored, renamed-stored, placed-stored, changed-ok, length-changed, records-changed, count-changed, loosen, length-records, length-placed}
 use Rattle.views.proofs.InsertionLaws.{length-rename}
-use Rattle.forms.specs.declared.form.Form.{Form}
+use Rattle.forms.specs.Form.{ReadForm}
 use Rattle.lines.specs.Effect.{Effect, policy, root, insertion, renaming, removal, login, reading, recordsAfter, tableAfter}
 use Rattle.guarantee.proofs.Sound.{RootSound, EffectSound}
 
@@ -65,17 +65,17 @@ unfolding remove
 remove-some ms [] e h = absurd (omega arith)
 remove-some ms (r ∷ rs) e h = rw e (omega arith)
 
-pub table-after : (f : Form) (line s t : List ℕ) → tableOk t ≡ true → (e : Effect) → EffectSound f line s t e → TableHolds t (tableAfter e t) (recordsAfter e (records t))
-table-after f line s t ok (policy p g) x = same-table t ok
-table-after f line s t ok (root l) x = changed-table t (nodeRecord 0 l ∷ []) (root-stored s t l ok x) (λ i. omega arith)
-table-after f line s t ok (insertion at ms m tree g) x =
+pub table-after : (f : ReadForm) (s t : List ℕ) → tableOk t ≡ true → (e : Effect) → EffectSound f s t e → TableHolds t (tableAfter e t) (recordsAfter e (records t))
+table-after f s t ok (policy p g) x = same-table t ok
+table-after f s t ok (root l) x = changed-table t (nodeRecord 0 l ∷ []) (root-stored s t l ok x) (λ i. omega arith)
+table-after f s t ok (insertion at ms m tree g) x =
     changed-table t (placed at m tree ms (records t)) (placed-stored at t ms tree m ok (x .good) (x .shallow) (x .has-room) (x .spared))
     (λ i. omega (arith, i, length-placed at t ms tree m))
-table-after f line s t ok (renaming l ms) x =
+table-after f s t ok (renaming l ms) x =
     changed-table t (renamed l ms (records t)) (renamed-stored t ms l ok (x .label))
     (λ i. omega (arith, i, length-rename level (relabel l) ms (records t), length-records t))
-table-after f line s t ok (removal ms) x =
+table-after f s t ok (removal ms) x =
     changed-table t (removed ms (records t)) (removed-stored t ms ok)
     (λ i. remove-some ms (records t) (x .spared) (omega (arith, i, length-records t)))
-table-after f line s t ok (login u) x = same-table t ok
-table-after f line s t ok reading x = same-table t ok
+table-after f s t ok (login u) x = same-table t ok
+table-after f s t ok reading x = same-table t ok

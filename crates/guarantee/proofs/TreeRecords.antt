@@ -17,7 +17,6 @@ use Rattle.rights.specs.Nodes.{Node, node}
 use Rattle.forms.specs.Tree.{held, recordsOf}
 use Rattle.rights.specs.Tree.{Tree, tree, Trees, none, more, nodesOf, nodesIn}
 use Rattle.forms.specs.TreeText.{GoodLabel, GoodTree, GoodTrees}
-use Rattle.forms.specs.Form.{treeIn}
 use Rattle.lines.proofs.StoredSteps.{or-none}
 use Rattle.store.proofs.FormParts.{TreePart}
 use Rattle.lines.proofs.TreeRows.{Labelled, nodeRecords, good-labels, tree-chunks}
@@ -64,14 +63,14 @@ nodes-storable (node l x ∷ ns) a e =
     (record-storable (held l) x (a .0) f, nodes-storable ns (a .1) (p .1))
 
 -- the records that a line's tree has
-pub tree-records : (line : List ℕ) (m : ℕ) (x : TreePart line m) → chunks m (recordsOf (treeIn line)) ≡ nodeRecords (nodesOf 0 (x .is))
-tree-records line m x = rw (x .size, x .nodes) (tree-chunks (x .is) (x .good))
+pub tree-records : (line : List ℕ) (ns : List Node) (x : TreePart line ns) → chunks (length ns) (recordsOf ns) ≡ nodeRecords (nodesOf 0 (x .is))
+tree-records line ns x = rw (x .nodes) (tree-chunks (x .is) (x .good))
 
 -- "9 RESTRICTED as a label of .. child, inserted tree": a line's tree that is not refused so may be inserted.
-pub tree-ok : (line : List ℕ) (m : ℕ) → TreePart line m → treeRestricted m (recordsOf (treeIn line)) ≡ false → TreeOk (chunks m (recordsOf (treeIn line)))
+pub tree-ok : (line : List ℕ) (ns : List Node) → TreePart line ns → treeRestricted (length ns) (recordsOf ns) ≡ false → TreeOk (chunks (length ns) (recordsOf ns))
 unfolding treeRestricted
-tree-ok line m x e =
-    let ns : List Node = nodesOf 0 (x .is) in
-    let w : Nested nodeLevel 0 ns = rw (append-nil ns) at (tree-nested (x .is) 0 0 [] (omega arith) (λ j i. tt)) in
-    let f : some (λ r. sameLabel (label r) restricted) (nodeRecords ns) ≡ false = rw (tree-records line m x) at e in
-    rw (tree-records line m x) (record { nested = nodes-nested ns 0 0 (omega arith) w; labels = nodes-storable ns (good-labels (x .is) (x .good)) f })
+tree-ok line ns x e =
+    let us : List Node = nodesOf 0 (x .is) in
+    let w : Nested nodeLevel 0 us = rw (append-nil us) at (tree-nested (x .is) 0 0 [] (omega arith) (λ j i. tt)) in
+    let f : some (λ r. sameLabel (label r) restricted) (nodeRecords us) ≡ false = rw (tree-records line ns x) at e in
+    rw (tree-records line ns x) (record { nested = nodes-nested us 0 0 (omega arith) w; labels = nodes-storable us (good-labels (x .is) (x .good)) f })

@@ -12,27 +12,27 @@ use Rattle.views.proofs.ViewLaws.{view-nested, view-hidden, view-rooted}
 use Rattle.answers.specs.Answer.{viewText}
 use Rattle.answers.specs.AnswerTree.{Printed}
 use Rattle.answers.proofs.AnswerTreeLaws.{view-printed, view-empty}
-use Rattle.forms.specs.Form.{readForm}
-use Rattle.forms.specs.declared.form.Form.{Form}
-use Rattle.forms.specs.declared.form.Form.the-variants.{View}
+use Rattle.forms.specs.declared.layout.Word.the-variants as word
+use Rattle.forms.specs.Form.{ReadForm, readForm}
+use Rattle.forms.specs.Command.{command, formOf}
+use Rattle.lines.specs.Clause.{workOf}
 use Rattle.lines.specs.Outcome.{says}
 use Rattle.lines.specs.UserView.{rightsIn, viewIn}
 use Rattle.lines.proofs.StateLaws.{store-held}
 use Rattle.lines.proofs.UserViewLaws.{rights-length}
 use Rattle.store.specs.Line.{step}
 use Rattle.guarantee.proofs.Accepted.{Accepted, accepted, answer-is}
-use Rattle.guarantee.proofs.FormLaws.{workIn}
 
 some-right : (ss : List ℕ) → grants (getD ss 0 0) ≡ true → 0 < length ss
 some-right [] h = absurd (false≢true h)
 some-right (x ∷ ss) h = omega arith
 
-module _ (s t line : List ℕ) (room : ℕ) (text : List ℕ) (form : readForm line ≡ View) (answered : step s t line room .reply ≡ says text) where
+module _ (s t line : List ℕ) (room : ℕ) (text : List ℕ) (form : readForm line ≡ formOf (command word.View tt)) (answered : step s t line room .reply ≡ says text) where
   taken : Accepted s t line room
   taken = accepted s t line room text answered
 
   said : text ≡ viewText (viewIn s t)
-  said = answer-is s t line room text answered ∙ ap (λ (f : Form). workIn line f s t .text) form
+  said = answer-is s t line room text answered ∙ ap (λ (f : ReadForm). workOf f s t .text) form
 
   -- "nothing but `(end 0)` if the root is hidden": if the user has neither read nor position on it.
   pub view-of-hidden-root : grants (getD (rightsIn s t) 0 0) ≡ false → text ≡ bytes "(end 0)\n"

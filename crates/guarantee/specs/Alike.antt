@@ -13,14 +13,14 @@ use Rattle.rights.specs.Rights.{rightsOn}
 use Rattle.rights.specs.Table.{records, label}
 use Rattle.views.specs.Shown.{Stored, stored, shown, carried, view}
 use Rattle.lines.specs.PolicyEdit.{isaHeld, subjectNamed}
+use Rattle.forms.specs.declared.layout.Word.the-variants as word
 use Rattle.forms.specs.Form.{readForm}
+use Rattle.forms.specs.Command.{command, formOf}
 use Rattle.lines.specs.State.{stageC, stage, userByte, policyIn, storeOk}
 use Rattle.lines.specs.Outcome.{Outcome}
-use Rattle.store.specs.Line.{bytesOf, step}
+use Rattle.store.specs.Line.{step}
 use Rattle.lines.specs.declared.line.Answer.{Answer}
 use Rattle.lines.specs.declared.line.Answer.the-variants.{Accepted}
-use Rattle.forms.specs.declared.form.Part.{Part}
-use Rattle.forms.specs.declared.form.Form.the-variants.{User}
 use Rattle.lines.specs.declared.policy_edit.Found.the-variants.{Subject}
 
 -- "A policy is the subjects in order, the set of isa lines and the rules in order that a state holds."
@@ -71,9 +71,9 @@ UserIs u s = userByte s ≡ suc u
 
 -- The line logs subject v in: it is a `(user N)`, N is the name of v, and it is accepted. A refused one logs nobody in.
 pub record LogsIn (v : ℕ) (s line : List ℕ) (r : Answer) : Type 0 where
-  pub name : Part
-  pub form : readForm line ≡ User name
-  pub subject : subjectNamed (policyIn s) (bytesOf line name) ≡ Subject v
+  pub name : List ℕ
+  pub form : readForm line ≡ formOf (command word.User (name, tt))
+  pub subject : subjectNamed (policyIn s) name ≡ Subject v
   pub said : ℕ
   pub accepted : r ≡ Accepted said
 

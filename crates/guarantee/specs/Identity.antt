@@ -12,15 +12,14 @@ use Rattle.rights.specs.Table.{records, level}
 use Rattle.views.specs.Nodes.{goes, only, tags}
 use Rattle.views.specs.declared.done.Change.the-variants as change
 use Rattle.views.specs.declared.insert.Place.{Place}
-use Rattle.forms.specs.Form.{readForm, treeIn}
+use Rattle.forms.specs.declared.layout.Word.the-variants as word
+use Rattle.forms.specs.Form.{readForm}
+use Rattle.forms.specs.Command.{command, formOf}
 use Rattle.lines.specs.State.{stageC, stage, policyIn}
 use Rattle.lines.specs.Effect.{Effect, insertion, nodesAfter}
 use Rattle.lines.specs.Outcome.{Reply, says, refuses}
 use Rattle.lines.specs.UserView.{doneIn}
-use Rattle.forms.specs.Tree.{recordsOf}
-use Rattle.store.specs.Line.{bytesOf, workOf}
-use Rattle.forms.specs.declared.form.Part.{Part}
-use Rattle.forms.specs.declared.form.Form.the-variants.{Remove}
+use Rattle.lines.specs.Clause.{workOf}
 use Rattle.guarantee.specs.Alike.{Input, outcome}
 
 -- a record and the tag of its node, a number
@@ -45,7 +44,7 @@ afterReply (refuses n) e ns = ns
 
 -- the effect of a line that is accepted, and the nodes after a line
 abbrev pub effectOf : List ℕ → List ℕ → List ℕ → Effect
-effectOf s t line = workOf (readForm line) s t line (recordsOf (treeIn line)) .effect
+effectOf s t line = workOf (readForm line) s t .effect
 
 unfoldable pub follow : List ℕ → List ℕ → Input → List Tagged → List Tagged
 follow s t i ns = afterReply (outcome s t i .reply) (effectOf s t (i .line)) ns
@@ -66,15 +65,15 @@ tableAfterAll s t (i ∷ is) = tableAfterAll (outcome s t i .state) (outcome s t
 -- "A change keeps every node that it does not remove": from the root line on, only `(remove P)` takes nodes away;
 abbrev pub NodesKept : Type 0
 NodesKept =
-    (s t : List ℕ) → stageC ≤ stage s → (i : Input) (ns : List Tagged) → ((p : Part) → readForm (i .line) ≡ Remove p → ⊥)
+    (s t : List ℕ) → stageC ≤ stage s → (i : Input) (ns : List Tagged) → ((p : List ℕ) → readForm (i .line) ≡ formOf (command word.Remove (p, tt)) → ⊥)
     → tags (λ n. n .1) (follow s t i ns) ≡ tags (λ n. n .1) ns
 
 -- and it takes those that are done, and those below them (`goes`, views/specs/Nodes.antt), no others.
 abbrev pub NodesRemoved : Type 0
 NodesRemoved =
-    (s t : List ℕ) (i : Input) (ns : List Tagged) (p : Part) (text : List ℕ) → readForm (i .line) ≡ Remove p
+    (s t : List ℕ) (i : Input) (ns : List Tagged) (p text : List ℕ) → readForm (i .line) ≡ formOf (command word.Remove (p, tt))
     → outcome s t i .reply ≡ says text
-    → follow s t i ns ≡ only (λ k. not (goes taggedLevel (doneIn change.Remove s t (bytesOf (i .line) p)) ns k)) ns
+    → follow s t i ns ≡ only (λ k. not (goes taggedLevel (doneIn change.Remove s t p) ns k)) ns
 
 -- The nodes that are followed are those of the table: nothing else decides which node is which.
 abbrev pub Follows : Type 0
