@@ -139,6 +139,7 @@ word-law word.Append = record { spelt = refl; found = refl; staged = refl; few =
 word-law word.Before = record { spelt = refl; found = refl; staged = refl; few = refl; tree-last = refl }
 word-law word.After = record { spelt = refl; found = refl; staged = refl; few = refl; tree-last = refl }
 word-law word.Remove = record { spelt = refl; found = refl; staged = refl; few = refl; tree-last = refl }
+word-law word.Sheet = record { spelt = refl; found = refl; staged = refl; few = refl; tree-last = refl }
 word-law word.Other = record { spelt = refl; found = refl; staged = refl; few = refl; tree-last = refl }
 
 abbrev pub endOf : Command → ℕ

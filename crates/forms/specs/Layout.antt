@@ -53,6 +53,8 @@ layout word.Append = row stageE (bytes "append") (Path ∷ Tree ∷ [])
 layout word.Before = row stageE (bytes "before") (Path ∷ Tree ∷ [])
 layout word.After = row stageE (bytes "after") (Path ∷ Tree ∷ [])
 layout word.Remove = row stageE (bytes "remove") (Path ∷ [])
+-- document 02, card 3
+layout word.Sheet = row stageE (bytes "sheet") (Label ∷ [])
 -- no form
 layout word.Other = row noStage [] []
 
@@ -83,6 +85,7 @@ formWords =
     ∷ word.Before
     ∷ word.After
     ∷ word.Remove
+    ∷ word.Sheet
     ∷ []
 
 abbrev pub words : List (List ℕ × Word)

@@ -30,6 +30,7 @@ pub enum Word {
     Before,
     After,
     Remove,
+    Sheet,
     Other,
 }
 
@@ -119,6 +120,11 @@ pub(crate) fn numbered_layout(n: u64) -> Layout
             word: Word::Remove,
             stage: STAGE_E,
             kinds: [PATH, END, END, END, END],
+        },
+        499917351027 => Layout {
+            word: Word::Sheet,
+            stage: STAGE_E,
+            kinds: [LABEL, END, END, END, END],
         },
         _ => Layout {
             word: Word::Other,

@@ -23,6 +23,8 @@ use Rattle.lines.specs.Refusal.{Check}
 use Rattle.lines.specs.State.{storeOk}
 use Rattle.lines.specs.UserView.{rightsIn, storedIn, viewIn, marksIn, doneIn}
 use Rattle.answers.specs.Answer.{okText, viewText}
+use Rattle.answers.specs.Sheet.{sheetText}
+use Rattle.answers.proofs.SheetLaws.{sheet-length}
 use Rattle.lines.specs.Work.{countText, answerTo}
 use Rattle.lines.specs.declared.queries.Ask.{Ask}
 use Rattle.lines.specs.declared.queries.Ask.the-variants.{Query, Find}
@@ -55,12 +57,15 @@ few-marks [] = omega arith
 few-marks (true ∷ ms) = let h = few-marks ms in omega arith
 few-marks (false ∷ ms) = let h = few-marks ms in omega arith
 
--- Every answer fits into 12 bytes, and 35 for each record in use.
+-- Every answer fits into 12 bytes and 35 for each record in use, if these are not fewer than a sheet has.
 abbrev pub Room : List ℕ → ℕ → Type 0
-Room t n = 12 + 35 * count t ≤ n
+Room t n = (12 + 35 * count t ≤ n) × (657 ≤ n)
+
+pub sheet-most : (s t room : List ℕ) (n : ℕ) → Room t n → length (sheetText room (viewIn s t)) ≤ n
+sheet-most s t room n h = omega (arith, h .1, sheet-length room (viewIn s t))
 
 pub ok-most : (t : List ℕ) (n : ℕ) → Room t n → length okText ≤ n
-ok-most t n h = omega arith
+ok-most t n h = omega (arith, h .0)
 
 module _ (s t : List ℕ) (ok : storeOk s t ≡ true) where
   table-ok : tableOk t ≡ true
@@ -82,6 +87,7 @@ module _ (s t : List ℕ) (ok : storeOk s t ≡ true) where
   count-most c path n h =
       omega (
         arith,
+        h .0,
         done-most (markCount (marksIn s t path)) (markCount (doneIn c s t path)) (count t)
             (omega (arith, few-marks (marksIn s t path), marks-size s t path ok, shown-few t (rightsIn s t) table-ok))
             (omega (arith, few-marks (doneIn c s t path), done-size c s t path)),
@@ -89,15 +95,15 @@ module _ (s t : List ℕ) (ok : storeOk s t ≡ true) where
 
   pub shows-most : (n : ℕ) → Room t n → length (viewText (viewIn s t)) ≤ n
   shows-most n h =
-      omega (arith, view-most (viewIn s t) (view-nested t (rightsIn s t) table-ok) view-small (omega (arith, facts t table-ok .few, view-few)), view-few)
+      omega (arith, h .0, view-most (viewIn s t) (view-nested t (rightsIn s t) table-ok) view-small (omega (arith, facts t table-ok .few, view-few)), view-few)
 
   pub ask-most : (what : Ask) (path : List ℕ) (n : ℕ) → Room t n → length (answerTo what (keep (marksIn s t path) (viewIn s t))) ≤ n
   ask-most Query path n h =
       let ms = marksIn s t path in
-      omega (arith, query-most (keep ms (viewIn s t)) (small-kept ms (viewIn s t) view-small), keep-length ms (viewIn s t), view-few)
+      omega (arith, h .0, query-most (keep ms (viewIn s t)) (small-kept ms (viewIn s t) view-small), keep-length ms (viewIn s t), view-few)
   ask-most Find path n h =
       let ms = marksIn s t path in
-      omega (arith, find-most (keep ms (viewIn s t)) (small-kept ms (viewIn s t) view-small), keep-length ms (viewIn s t), view-few)
+      omega (arith, h .0, find-most (keep ms (viewIn s t)) (small-kept ms (viewIn s t) view-small), keep-length ms (viewIn s t), view-few)
 
 -- a form's own checks have the numbers 2 to 11
 abbrev pub own : List Check → Bool

@@ -1,5 +1,5 @@
 -- The refusals of the calling program: where the store passes, no line is refused with 13; and where the area has 12 bytes and 35 for each record that the table can
--- hold, none is refused with 12 (include/timetable.h, TIMETABLE_AREA_BYTES). Assumes nothing.
+-- hold, and 657 for a sheet, none is refused with 12 (include/timetable.h, TIMETABLE_AREA_BYTES). Assumes nothing.
 use Prim.Native.Nat.{ℕ, _+_, _*_, _≤_, _<_}
 use mathlib.Core.Path.{_≡_, refl, sym, ap, _∙_}
 use mathlib.Core.Bool.{true, false, not, false≢true}
@@ -82,9 +82,9 @@ module _ (s t line : List ℕ) (room : ℕ) (ok : storeOk s t ≡ true) where
         ),
       )
 
-  -- An area of 12 bytes and 35 for each record that the table can hold: no line is refused with 12.
-  pub area-suffices : 12 + 35 * capacity (length t) ≤ room → step s t line room .reply ≡ refuses areaShort → ⊥
-  area-suffices h =
+  -- An area of 12 bytes and 35 for each record that the table can hold, and of a sheet's length: no line is refused with 12.
+  pub area-suffices : 12 + 35 * capacity (length t) ≤ room → 657 ≤ room → step s t line room .reply ≡ refuses areaShort → ⊥
+  area-suffices h k =
       spared-step areaShort (
         λ e. absurd (omega arith),
         (
@@ -102,7 +102,7 @@ module _ (s t line : List ℕ) (room : ℕ) (ok : storeOk s t ≡ true) where
       fits : ltb room (length (lineWork s t line .text)) ≡ false
       fits =
           le-ltb room (length (lineWork s t line .text))
-          (read-law line .most s t ok room (omega (arith, h, facts t (store-held s t ok .table) .held)))
+          (read-law line .most s t ok room (omega (arith, h, facts t (store-held s t ok .table) .held), k))
 
 -- Whatever a line does, the table keeps its length.
 pub table-length-kept : (s t line : List ℕ) (room : ℕ) → length (step s t line room .table) ≡ length t

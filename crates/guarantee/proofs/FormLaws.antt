@@ -16,6 +16,7 @@ use Rattle.views.specs.declared.done.Change.the-variants as change
 use Rattle.views.specs.declared.insert.Place.{Place}
 use Rattle.views.specs.declared.insert.Place.the-variants as place
 use Rattle.answers.specs.Answer.{viewText}
+use Rattle.answers.specs.Sheet.{sheetText}
 use Rattle.forms.specs.declared.layout.Word.{Word}
 use Rattle.forms.specs.declared.layout.Word.the-variants as word
 use Rattle.forms.specs.Layout.{stageOf, shapeOf}
@@ -26,13 +27,13 @@ use Rattle.lines.specs.State.{stageE, stage, policyIn, storeOk}
 use Rattle.lines.specs.Effect.{login, Work}
 use Rattle.lines.specs.Refusal.{check, Passed}
 use Rattle.lines.specs.UserView.{noUser, doneIn}
-use Rattle.lines.specs.Work.{changeAt, answerTo, onView, workUser, workView, workAsk, workRename, workInsert, workRemove}
+use Rattle.lines.specs.Work.{changeAt, answerTo, onView, workUser, workView, workAsk, workRename, workInsert, workRemove, workSheet}
 use Rattle.lines.specs.declared.queries.Ask.{Ask}
 use Rattle.lines.specs.declared.queries.Ask.the-variants as ask
 use Rattle.lines.specs.Clause.{workOf}
 use Rattle.store.specs.Line.{inStage}
 use Rattle.store.proofs.FormParts.{AllFit, form-fits}
-use Rattle.guarantee.proofs.AnswerMost.{Room, ok-most, count-most, shows-most, ask-most, own}
+use Rattle.guarantee.proofs.AnswerMost.{Room, ok-most, count-most, shows-most, ask-most, sheet-most, own}
 use Rattle.guarantee.proofs.SamePolicy.{same-named, same-word}
 use Rattle.guarantee.proofs.Sound.{EffectSound}
 use Rattle.guarantee.proofs.FormSound.{rename-frees, update-frees, subject-sound, isa-sound, rule-sound, root-sound, child-sound, user-sound, rename-sound, insert-sound, remove-sound}
@@ -65,6 +66,10 @@ module _ (u : ℕ) (s t s' t' : List ℕ) (h : Tied u s t s' t') where
   view-alike : Alike (workView s t) (workView s' t')
   unfolding ChecksAlike
   view-alike = record { checks = (has-user _, tt); text = ap viewText (view-both u s t s' t' h); effect = readings }
+
+  sheet-alike : (l : List ℕ) → Alike (workSheet s t l) (workSheet s' t' l)
+  unfolding ChecksAlike
+  sheet-alike l = record { checks = (has-user _, tt); text = ap (sheetText l) (view-both u s t s' t' h); effect = readings }
 
   on-view : (path : List ℕ) → ChecksAlike (onView path s) (onView path s')
   unfolding ChecksAlike
@@ -210,11 +215,17 @@ module _ (line : List ℕ) where
     own = λ s t. refl;
     most = λ s t ok. count-most s t ok change.Remove p;
   }
+  form-law word.Sheet (l, tt) w = record {
+    sound = λ s t ok i p. tt;
+    alike = λ u s t s' t' h i. sheet-alike u s t s' t' h l;
+    own = λ s t. refl;
+    most = λ s t ok. sheet-most s t l;
+  }
   form-law word.Other tt w = record {
     sound = λ s t ok i p. tt;
     alike = λ u s t s' t' h i. none-alike u s t s' t' h;
     own = λ s t. refl;
-    most = λ s t ok n h. omega arith;
+    most = λ s t ok n h. omega (arith, h .0);
   }
 
   -- the law of the form that was read

@@ -69,4 +69,5 @@ module _ (s t : List ℕ) (L : Conditions) (ls : List Check) where
   own-tells word.Before (p, (u, tt)) g ok h w = insert-tells place.Before p u (g .values .1 .0) w
   own-tells word.After (p, (u, tt)) g ok h w = insert-tells place.After p u (g .values .1 .0) w
   own-tells word.Remove (p, tt) g ok h w = path-tells p w
+  own-tells word.Sheet (l, tt) g ok h w = (equal-told (userByte s) 0, λ _. w)
   own-tells word.Other tt g ok h w = absurd (omega (arith, g .word))

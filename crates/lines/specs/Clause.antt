@@ -18,7 +18,7 @@ use Rattle.forms.specs.Form.{AllHeld, ReadForm}
 use Rattle.forms.specs.Command.{Command, formOf}
 use Rattle.lines.specs.Effect.{Work, reading}
 use Rattle.lines.specs.Refusal.{check, noForm}
-use Rattle.lines.specs.Work.{workSubject, workIsa, workRule, workRoot, workChild, workUser, workView, workAsk, workRename, workInsert, workRemove}
+use Rattle.lines.specs.Work.{workSubject, workIsa, workRule, workRoot, workChild, workUser, workView, workAsk, workRename, workInsert, workRemove, workSheet}
 use Rattle.lines.specs.declared.queries.Ask.the-variants as ask
 
 -- the records of a tree, the root at level 0
@@ -41,6 +41,7 @@ workBy word.Append (p, (ns, tt)) s t = workInsert place.Append s t p (length ns)
 workBy word.Before (p, (ns, tt)) s t = workInsert place.Before s t p (length ns) (recordsOf ns)
 workBy word.After (p, (ns, tt)) s t = workInsert place.After s t p (length ns) (recordsOf ns)
 workBy word.Remove (p, tt) s t = workRemove s t p
+workBy word.Sheet (l, tt) s t = workSheet s t l
 -- "2 no form listed above"
 workBy word.Other tt s t = record { checks = check noForm true ∷ []; text = []; effect = reading }
 

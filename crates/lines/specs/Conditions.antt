@@ -76,9 +76,13 @@ abbrev pub Conditions : Type 1
 Conditions = List (ℕ × Type 0)
 
 module _ (s t : List ℕ) where
+  -- what every form asks that shows the view
+  abbrev pub viewRows : Conditions
+  viewRows = (8, userByte s ≡ 0) ∷ []
+
   -- what every form with a path of E asks
   abbrev pub pathRows : List ℕ → Conditions
-  pathRows p = (4, NoPath p) ∷ (8, userByte s ≡ 0) ∷ []
+  pathRows p = (4, NoPath p) ∷ viewRows
 
   abbrev pub relabelRows : List ℕ → List ℕ → Conditions
   relabelRows p l = pathRows p ++ ((9, IsRestricted l ⊎ (policyWord (policyIn s) l ≡ true)) ∷ [])
@@ -112,7 +116,7 @@ module _ (s t : List ℕ) where
   rowsBy word.Root (l, tt) = (9, IsRestricted l) ∷ (11, free t < 1) ∷ []
   rowsBy word.Child (u, tt) = (9, TreeRestricted u) ∷ (10, DeepAt 1 u) ∷ (11, free t < sizeOf u) ∷ []
   rowsBy word.User (n, tt) = (5, Unknown (policyIn s) n) ∷ []
-  rowsBy word.View tt = (8, userByte s ≡ 0) ∷ []
+  rowsBy word.View tt = viewRows
   rowsBy word.Query (p, tt) = pathRows p
   rowsBy word.Find (p, tt) = pathRows p
   rowsBy word.Rename (p, (l, tt)) = relabelRows p l
@@ -121,6 +125,7 @@ module _ (s t : List ℕ) where
   rowsBy word.Before (p, (u, tt)) = insertRows place.Before p u
   rowsBy word.After (p, (u, tt)) = insertRows place.After p u
   rowsBy word.Remove (p, tt) = pathRows p
+  rowsBy word.Sheet (l, tt) = viewRows
   rowsBy word.Other tt = []
 
   abbrev pub rows : Command → Conditions

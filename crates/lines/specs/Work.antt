@@ -17,6 +17,7 @@ use Rattle.views.specs.declared.done.Change.the-variants as change
 use Rattle.views.specs.declared.insert.Place.{Place}
 use Rattle.views.specs.declared.insert.Place.the-variants.{Append, After, Before}
 use Rattle.answers.specs.Answer.{okText, doneText, queryText, findText, viewText}
+use Rattle.answers.specs.Sheet.{sheetText}
 use Rattle.lines.specs.Effect.{Work, guarded, policy, root, insertion, renaming, removal, login, reading}
 use Rattle.lines.specs.PolicyEdit.{isUnknown, numberIn, subjectNamed, isaHeld, hasBracket, pathRestricted, stepsIn, withSubject, withIsa, withRule}
 use Rattle.lines.specs.Refusal.{Check, check, badPath, badName, ruleBracket, policyFull, noUserYet, bannedLabel, levelTooDeep, tableFull}
@@ -137,6 +138,10 @@ viewChecks s = check noUserYet (noUser s) ∷ []
 
 abbrev pub workView : List ℕ → List ℕ → Work
 workView s t = record { checks = viewChecks s; text = viewText (viewIn s t); effect = reading }
+
+-- `(sheet ROOM)` (document 02, card 3): "made from the user's view only"; "Turned away: as a view is."
+abbrev pub workSheet : List ℕ → List ℕ → List ℕ → Work
+workSheet s t room = record { checks = viewChecks s; text = sheetText room (viewIn s t); effect = reading }
 
 -- what every form with a path of E asks: the path well formed, then a user
 abbrev pub onView : List ℕ → List ℕ → List Check

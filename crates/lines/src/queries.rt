@@ -1,4 +1,4 @@
-// The lines that only look (document 01, stage E): view, query, find. Each is answered from the user's view alone.
+// The lines that only look: view, query, find (document 01, stage E), sheet (document 02, card 3). Each is answered from the user's view alone.
 use crate::limits::POLICY_AT;
 use crate::line::Answer;
 use crate::refusals::BAD_PATH;
@@ -7,6 +7,7 @@ use crate::refusals::area_refusal;
 use answers::answer::answer_find;
 use answers::answer::answer_query;
 use answers::answer::answer_view;
+use answers::sheet::answer_sheet;
 use rights::bytes::wide;
 use rights::isa::own_subjects;
 use rights::isa::roles_of;
@@ -30,11 +31,18 @@ ghost use Rattle.rights.specs.How.Numbers.{Fits, viewOf};
 ghost use Rattle.views.specs.How.Numbers.{shownNumbers};
 ghost use Rattle.answers.specs.How.AnswerArea.{Answered};
 ghost use Rattle.lines.specs.How.ChangeRoom.{AskedHeld, Chosen, ForView};
+ghost use Rattle.lines.specs.How.Looks.{printed, workLook};
 ghost use Rattle.lines.specs.Effect.{Performs};
 ghost use Rattle.lines.specs.Refusal.{Passed, firstRefusal};
 ghost use Rattle.lines.specs.State.{userOf, policyBytes, storeOk};
 ghost use Rattle.lines.specs.UserView.{storedIn};
-ghost use Rattle.lines.specs.Work.{viewChecks, onView, answerTo, workView, workAsk};
+ghost use Rattle.lines.specs.Work.{viewChecks, onView, answerTo, workView, workSheet, workAsk};
+
+// What is printed of a view.
+enum Look {
+    View,
+    Sheet,
+}
 
 // What is asked of a path.
 pub enum Ask {
@@ -102,10 +110,22 @@ fn show_user(state: &[u8], table: &[u8], asked: u8, rights: &mut [u8], shown: &m
     }
 }
 
-// `(view)`.
-pub fn view(state: &[u8], table: &[u8], area: &mut [u8]) -> Answer
+// Prints what is asked of the shown nodes.
+fn answer_look(look: Look, table: &[u8], shown: &[u16], room: &[u8], area: &mut [u8]) -> usize
+    requires { ⌜ Fits (now table) (now shown) ⌝ }
+    ensures { λ r. ⌜ Answered (printed look (now (room .entry)) (viewOf (now (table .entry)) (now (shown .entry))))
+        (now (area .entry)) (now (area .exit)) r ⌝ }
+{
+    match look {
+        Look::View => answer_view(table, shown, area),
+        Look::Sheet => answer_sheet(table, shown, room, area),
+    }
+}
+
+// Prints the user's view, or a sheet of it.
+fn print_view(look: Look, state: &[u8], table: &[u8], room: &[u8], area: &mut [u8]) -> Answer
     requires { ⌜ storeOk (now state) (now table) ≡ true ⌝ }
-    ensures { λ r. ⌜ Performs (workView (now (state .entry)) (now (table .entry)))
+    ensures { λ r. ⌜ Performs (workLook look (now (state .entry)) (now (table .entry)) (now (room .entry)))
         (now (state .entry)) (now (table .entry)) (now (area .entry)) r (now (state .entry)) (now (table .entry)) (now (area .exit)) ⌝ }
 {
     let down = view_refusal(state);
@@ -116,12 +136,30 @@ pub fn view(state: &[u8], table: &[u8], area: &mut [u8]) -> Answer
     let mut shown = [0u16; RECORDS_MAX];
     let seen = show_user(state, table, VIEW_RIGHTS, &mut rights, &mut shown);
     let k = seen.nodes;
-    let need = answer_view(table, &shown[0..k], area);
+    let need = answer_look(look, table, &shown[0..k], room, area);
     let short = area_refusal(need, area.len());
     if short != 0 {
         return Answer::Refused(short);
     }
     Answer::Accepted(need)
+}
+
+// `(view)`.
+pub fn view(state: &[u8], table: &[u8], area: &mut [u8]) -> Answer
+    requires { ⌜ storeOk (now state) (now table) ≡ true ⌝ }
+    ensures { λ r. ⌜ Performs (workView (now (state .entry)) (now (table .entry)))
+        (now (state .entry)) (now (table .entry)) (now (area .entry)) r (now (state .entry)) (now (table .entry)) (now (area .exit)) ⌝ }
+{
+    print_view(Look::View, state, table, b"", area)
+}
+
+// `(sheet ROOM)`.
+pub fn sheet(state: &[u8], table: &[u8], room: &[u8], area: &mut [u8]) -> Answer
+    requires { ⌜ storeOk (now state) (now table) ≡ true ⌝ }
+    ensures { λ r. ⌜ Performs (workSheet (now (state .entry)) (now (table .entry)) (now (room .entry)))
+        (now (state .entry)) (now (table .entry)) (now (area .entry)) r (now (state .entry)) (now (table .entry)) (now (area .exit)) ⌝ }
+{
+    print_view(Look::Sheet, state, table, room, area)
 }
 
 // Writes the asked rights of the user on each node, the numbers of the nodes that the user is shown and the marks of those that a path selects, and returns

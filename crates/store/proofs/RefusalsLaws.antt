@@ -131,6 +131,7 @@ module _ (s t : List ℕ) (lent : (i : ℕ) → getD t i 0 < 256) (room : ℕ) w
   checks-ordered word.Before vs g = record { numbers = λ l e. refl; ordered = refl }
   checks-ordered word.After vs g = record { numbers = λ l e. refl; ordered = refl }
   checks-ordered word.Remove vs g = record { numbers = λ l e. refl; ordered = refl }
+  checks-ordered word.Sheet vs g = record { numbers = λ l e. refl; ordered = refl }
   checks-ordered word.Other vs g = absurd (omega (arith, g .word))
 
   -- What a line's checks are, and what they tell

@@ -17,6 +17,7 @@ use lines::policy_lines::relate;
 use lines::policy_lines::rule;
 use lines::queries::Ask;
 use lines::queries::ask_path;
+use lines::queries::sheet;
 use lines::queries::view;
 use lines::refusals::BAD_LINE;
 use lines::refusals::BAD_STORE;
@@ -205,6 +206,7 @@ fn run(
             area,
         ),
         Word::Remove => remove(state, table, part_of(line, &ends, 0), area),
+        Word::Sheet => sheet(state, table, part_of(line, &ends, 0), area),
     }
 }
 

@@ -41,7 +41,7 @@ OfTheLine n = (n ≡ areaShort → ⊥) × (n ≡ badStore → ⊥)
 module _ (s t line : List ℕ) (g : Good s t) where
   step-refuses : (n : ℕ) → step s t line areaBytes .reply ≡ refuses n → OfTheLine n
   step-refuses n e = (
-    λ q. area-suffices s t line areaBytes (g .passes) (g .room) (e ∙ ap refuses q),
+    λ q. area-suffices s t line areaBytes (g .passes) (g .room) (omega arith) (e ∙ ap refuses q),
     λ q. passing-not-13 s t line areaBytes (g .passes) (e ∙ ap refuses q),
   )
 

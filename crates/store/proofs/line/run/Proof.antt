@@ -282,6 +282,15 @@ returns-16 c =
     let told = at-enum-told16 .enum-told16 .given .1 in
     rw (read-as (start .pre .2) told, ← (at-part-of17 .part-of17 .ensures)) (at-remove .remove .ensures)
 
+returns-17 : tie.Need-returns-17
+returns-17 c =
+    let at-sheet = c .before .before in
+    let at-part-of18 = at-sheet .before .before in
+    let at-enum-told17 = at-part-of18 .before .before .before .before in
+    let start = at-enum-told17 .before .before .before .before .before .before .before .before .before in
+    let told = at-enum-told17 .enum-told17 .given .1 in
+    rw (read-as (start .pre .2) told, ← (at-part-of18 .part-of18 .ensures)) (at-sheet .sheet .ensures)
+
 pub run-spec : {M : Type 1} → statement M
 run-spec =
     tie.close
@@ -297,14 +306,15 @@ run-spec =
     tree-of-requires-2 (λ c. search needs) insert-requires (λ c. search needs) (λ c κs. search needs)
     (λ c. search needs) tree-of-requires-3 (λ c. search needs) insert-requires-2 (λ c. search needs)
     (λ c κs. search needs) (λ c. search needs) tree-of-requires-4 (λ c. search needs) insert-requires-3
-    (λ c. search needs) (λ c κs. search needs) (λ c κs. search needs) returns (λ c. search needs) (λ c. search needs)
-    (λ c. search needs) returns-2 (λ c. search needs) (λ c. search needs) (λ c. search needs) returns-3
-    (λ c. search needs) (λ c. search needs) (λ c. search needs) returns-4 (λ c. search needs) (λ c. search needs)
-    (λ c. search needs) returns-5 (λ c. search needs) (λ c. search needs) (λ c. search needs) returns-6
-    (λ c. search needs) (λ c. search needs) (λ c. search needs) returns-7 (λ c. search needs) (λ c. search needs)
-    (λ c. search needs) returns-8 (λ c. search needs) (λ c. search needs) (λ c. search needs) returns-9
-    (λ c. search needs) (λ c. search needs) (λ c. search needs) returns-10 (λ c. search needs) (λ c. search needs)
-    (λ c. search needs) returns-11 (λ c. search needs) (λ c. search needs) (λ c. search needs) returns-12
-    (λ c. search needs) (λ c. search needs) (λ c. search needs) returns-13 (λ c. search needs) (λ c. search needs)
-    (λ c. search needs) returns-14 (λ c. search needs) (λ c. search needs) (λ c. search needs) returns-15
-    (λ c. search needs) (λ c. search needs) (λ c. search needs) returns-16)
+    (λ c. search needs) (λ c κs. search needs) (λ c κs. search needs) (λ c. search needs) (λ c κs. search needs)
+    (λ c κs. search needs) returns (λ c. search needs) (λ c. search needs) (λ c. search needs) returns-2
+    (λ c. search needs) (λ c. search needs) (λ c. search needs) returns-3 (λ c. search needs) (λ c. search needs)
+    (λ c. search needs) returns-4 (λ c. search needs) (λ c. search needs) (λ c. search needs) returns-5
+    (λ c. search needs) (λ c. search needs) (λ c. search needs) returns-6 (λ c. search needs) (λ c. search needs)
+    (λ c. search needs) returns-7 (λ c. search needs) (λ c. search needs) (λ c. search needs) returns-8
+    (λ c. search needs) (λ c. search needs) (λ c. search needs) returns-9 (λ c. search needs) (λ c. search needs)
+    (λ c. search needs) returns-10 (λ c. search needs) (λ c. search needs) (λ c. search needs) returns-11
+    (λ c. search needs) (λ c. search needs) (λ c. search needs) returns-12 (λ c. search needs) (λ c. search needs)
+    (λ c. search needs) returns-13 (λ c. search needs) (λ c. search needs) (λ c. search needs) returns-14
+    (λ c. search needs) (λ c. search needs) (λ c. search needs) returns-15 (λ c. search needs) (λ c. search needs)
+    (λ c. search needs) returns-16 (λ c. search needs) (λ c. search needs) (λ c. search needs) returns-17)
