@@ -8,3 +8,5 @@ pub mod FindLaws
 pub mod SheetLaws
 pub mod SheetParts
 pub mod SheetCases
+pub mod ChildrenLaws
+pub mod SheetTreeLaws
