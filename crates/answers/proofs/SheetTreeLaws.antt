@@ -11,7 +11,7 @@ use Rattle.rights.specs.Nodes.{node, Nodes, levelAt, labelAt, TreeShaped}
 use Rattle.rights.specs.Tree.{Tree, tree, Trees, none, more, nodesOf}
 use Rattle.rights.specs.XPath.{at, children, filter, each, stretch}
 use Rattle.rights.proofs.ListLaws.{byCase}
-use Rattle.answers.specs.Sheet.{cell, nth, days, labelled, lesson, headRow, row, sheetText}
+use Rattle.answers.specs.Sheet.{cell, nth, days, labelled, lesson, rowText, headRow, row, sheetText}
 use Rattle.answers.specs.SheetTree.{inPeriod, inRoom, firstLabel, dayLabel, lessonLabel, dayCells, weekRow, weekSheet, SheetPrinted}
 use Rattle.answers.proofs.AnswerTreeLaws.{tree-of-view}
 use Rattle.answers.proofs.ChildrenLaws.{Stands, StandIn, root-stands}
@@ -84,6 +84,11 @@ module _ (t : Nodes) where
     cells (suc k) js none h = rw (h, same (length t) (tree [] none) end-stands, blank, cells k [] none refl)
     cells (suc k) js (more u ds) (i, is, e, s, r) = rw (e, same i u s, cells k is ds r)
 
+each-map : (f : ℕ → List ℕ) (g : ℕ → ℕ) (xs : List ℕ) → each f (map g xs) ≡ each (λ x. f (g x)) xs
+unfolding each
+each-map f g [] = refl
+each-map f g (x ∷ xs) = rw (each-map f g xs)
+
 -- The rows
 
 module _ (room s : List ℕ) (ds : Trees) where
@@ -91,7 +96,7 @@ module _ (room s : List ℕ) (ds : Trees) where
   week = nodesOf 0 (tree s ds)
 
   head-row-held : headRow week ≡ weekRow (bytes "  ") dayLabel ds
-  unfolding headRow Stands
+  unfolding headRow rowText Stands
   head-row-held =
       rw (days-first week, cells week (λ i. i) dayLabel (λ i day h. label i day h) refl 5 (children week (at 0)) ds (root-stands (tree s ds) .1))
     where
@@ -99,13 +104,13 @@ module _ (room s : List ℕ) (ds : Trees) where
       label i (tree l us) h = h .0
 
   row-held : (m : ℕ) → row room week (suc m) ≡ weekRow ((48 + suc m) ∷ bytes " ") (lessonLabel room (suc m)) ds
-  unfolding row Stands inPeriod inRoom firstLabel
+  unfolding row rowText Stands inPeriod inRoom firstLabel
   row-held m =
-      rw (
-        days-first week,
-        cells week (lesson room week (suc m)) (lessonLabel room (suc m)) (lesson-label week room m) refl 5 (children week (at 0)) ds (root-stands (tree s ds) .1),
-      )
+      rw (each-map (λ i. cell (labelAt week i)) (lesson room week (suc m)) (days week), days-first week)
+      (ap (λ (x : List ℕ). (48 + suc m) ∷ (bytes " " ++ (x ++ bytes "\n")))
+      (cells week (lesson room week (suc m)) (lessonLabel room (suc m)) (lesson-label week room m) refl 5 (children week (at 0)) ds (root-stands (tree s ds) .1)))
 
+  -- The sheet of a view is that of the nested tree whose nodes, in document order, are the view.
   pub sheet-of-tree : sheetText room week ≡ weekSheet room ds
   unfolding sheetText weekSheet each
   sheet-of-tree =
@@ -120,5 +125,5 @@ sheet-printed room vs h n = go (tree-of-view vs h n)
 
 -- With the root hidden it is the sheet of no days: "What is missing leaves a blank cell."
 pub sheet-empty : (room : List ℕ) → sheetText room [] ≡ weekSheet room none
-unfolding sheetText headRow row lesson labelled days cell each filter stretch levelAt labelAt weekSheet dayCells
+unfolding sheetText headRow row rowText lesson labelled days cell each filter stretch levelAt labelAt weekSheet dayCells
 sheet-empty room = refl
