@@ -11,7 +11,7 @@ use Rattle.rights.specs.Nodes.{node, Nodes, levelAt, labelAt, TreeShaped}
 use Rattle.rights.specs.Tree.{Tree, tree, Trees, none, more, nodesOf}
 use Rattle.rights.specs.XPath.{at, children, filter, each, stretch}
 use Rattle.rights.proofs.ListLaws.{byCase}
-use Rattle.answers.specs.Sheet.{cell, nth, days, labelled, lesson, rowText, headRow, row, sheetText}
+use Rattle.answers.specs.Sheet.{cell, nth, days, carries, labelled, lesson, rowText, headRow, row, sheetText}
 use Rattle.answers.specs.SheetTree.{inPeriod, inRoom, firstLabel, dayLabel, lessonLabel, dayCells, weekRow, weekSheet, SheetPrinted}
 use Rattle.answers.proofs.AnswerTreeLaws.{tree-of-view}
 use Rattle.answers.proofs.ChildrenLaws.{Stands, StandIn, root-stands}
@@ -56,7 +56,7 @@ module _ (t : Nodes) where
       rw (e, ne-eqb (suc (suc m)) 1 (λ z. omega arith), k) (in-period m ps is r)
 
   in-room : (room : List ℕ) (us : Trees) (js : List ℕ) → StandIn t js us
-      → StandIn t (children t (at (nth t (filter (λ j. sameLabel (labelAt t j) room) js) 0))) (inRoom room us)
+      → StandIn t (children t (at (nth t (filter (carries room t) js) 0))) (inRoom room us)
   unfolding StandIn inRoom filter
   in-room room none js e = rw e (children-none t (length t) (omega arith))
   in-room room (more (tree l us) ts) js (i, is, e, s, r) =

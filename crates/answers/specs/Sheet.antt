@@ -2,6 +2,7 @@
 -- It is a function of ROOM and the view, so what looks alike to a reader prints alike. Labels and children are those of the view.
 -- SheetTree has the same text by nested trees, and proofs/SheetTreeLaws that they are equal.
 use Prim.Native.Nat.{ℕ, _+_, _-_}
+use mathlib.Core.Bool.{Bool}
 use mathlib.Core.List.{List, [], _∷_, _++_, map}
 use lib.ListN.{length, getD, take, replicate}
 use Rattle.rights.specs.Bytes.{bytes}
@@ -26,9 +27,13 @@ days t = map (nth t (children t (at 0))) (0 ∷ 1 ∷ 2 ∷ 3 ∷ 4 ∷ [])
 abbrev pub period : Nodes → ℕ → ℕ → ℕ
 period t day n = nth t (children t (at day)) (n - 1)
 
+-- a node "labelled ROOM"
+abbrev pub carries : List ℕ → Nodes → ℕ → Bool
+carries room t j = sameLabel (labelAt t j) room
+
 -- "the first child labelled ROOM"
 unfoldable pub labelled : List ℕ → Nodes → ℕ → ℕ
-labelled room t i = nth t (filter (λ j. sameLabel (labelAt t j) room) (children t (at i))) 0
+labelled room t i = nth t (filter (carries room t) (children t (at i))) 0
 
 -- "the first child .. of the first child labelled ROOM of the day's n-th shown child"
 unfoldable pub lesson : List ℕ → Nodes → ℕ → ℕ → ℕ

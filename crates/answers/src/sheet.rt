@@ -10,11 +10,10 @@ ghost use mathlib.Core.Path.{_≡_};
 ghost use Prim.Native.Nat.{_+_, _^_, _≤_, _<_};
 ghost use mathlib.Core.List.{map};
 ghost use lib.ListN.{length};
-ghost use Rattle.rights.specs.Labels.{sameLabel};
 ghost use Rattle.rights.specs.Nodes.{labelAt};
 ghost use Rattle.rights.specs.XPath.{at, children, each};
 ghost use Rattle.rights.specs.How.Numbers.{viewOf, Fits};
-ghost use Rattle.answers.specs.Sheet.{cell, nth, days, labelled, lesson, rowText, row, periods, sheetText};
+ghost use Rattle.answers.specs.Sheet.{cell, nth, days, carries, labelled, lesson, rowText, row, periods, sheetText};
 ghost use Rattle.answers.specs.How.AnswerArea.{Puts, Answered};
 ghost use Rattle.answers.specs.How.SheetParts.{First};
 
@@ -26,7 +25,7 @@ const PERIODS: usize = 8;
 // Whether shown node i carries the label `room`.
 fn is_labelled(table: &[u8], shown: &[u16], i: usize, room: &[u8]) -> bool
     requires { ⌜ (Fits (now table) (now shown)) × (i < length (now shown)) ⌝ }
-    ensures { λ r. ⌜ r ≡ sameLabel (labelAt (viewOf (now (table .entry)) (now (shown .entry))) i) (now (room .entry)) ⌝ }
+    ensures { λ r. ⌜ r ≡ carries (now (room .entry)) (viewOf (now (table .entry)) (now (shown .entry))) i ⌝ }
 {
     let mut label = [0u8; 24];
     let n = put_label(&mut label, 0, table, shown, i);
