@@ -4,7 +4,7 @@ use mathlib.Core.Path.{_≡_, refl, sym, ap, _∙_}
 use mathlib.Core.List.{List, [], _∷_, _++_, map, append-nil}
 use native.Mathlib.Omega.{arith}
 use lib.ListN.{length, List·getD-eq-default}
-use borrow.Author.Tests.{ne-eqb}
+use borrow.Author.Tests.{eq-eqb, ne-eqb}
 use Rattle.rights.specs.Bytes.{bytes}
 use Rattle.rights.specs.Labels.{sameLabel}
 use Rattle.rights.specs.Nodes.{node, Nodes, levelAt, labelAt, TreeShaped}
@@ -47,13 +47,11 @@ module _ (t : Nodes) where
 
   -- The node that a cell's label is of
 
-  in-period : (m : ℕ) (ps : Trees) (js : List ℕ) → StandIn t js ps → StandIn t (children t (at (nth t js m))) (inPeriod (suc m) ps)
+  in-period : (k n : ℕ) (ps : Trees) (js : List ℕ) → n ≡ suc k → StandIn t js ps → StandIn t (children t (at (nth t js k))) (inPeriod n ps)
   unfolding StandIn inPeriod
-  in-period m none js e = rw e (children-none t (length t) (omega arith))
-  in-period zero (more (tree l us) ps) js (i, is, e, s, r) = rw e (s .1)
-  in-period (suc m) (more (tree l us) ps) js (i, is, e, s, r) =
-      let k : suc (suc m) - 1 ≡ suc m = omega arith in
-      rw (e, ne-eqb (suc (suc m)) 1 (λ z. omega arith), k) (in-period m ps is r)
+  in-period k n none js q e = rw e (children-none t (length t) (omega arith))
+  in-period zero n (more (tree l us) ps) js q (i, is, e, s, r) = rw (e, eq-eqb n 1 q) (s .1)
+  in-period (suc k) n (more (tree l us) ps) js q (i, is, e, s, r) = rw (e, ne-eqb n 1 (λ z. omega arith)) (in-period k (n - 1) ps is (omega arith) r)
 
   in-room : (room : List ℕ) (us : Trees) (js : List ℕ) → StandIn t js us
       → StandIn t (children t (at (nth t (filter (carries room t) js) 0))) (inRoom room us)
@@ -69,11 +67,9 @@ module _ (t : Nodes) where
   first-label none js e = rw e end-label
   first-label (more (tree l us) ts) js (i, is, e, s, r) = rw e (s .0)
 
-  lesson-label : (room : List ℕ) (m i : ℕ) (day : Tree) → Stands t i day → labelAt t (lesson room t (suc m) i) ≡ lessonLabel room (suc m) day
+  lesson-label : (room : List ℕ) (n : ℕ) → 1 ≤ n → (i : ℕ) (day : Tree) → Stands t i day → labelAt t (lesson room t n i) ≡ lessonLabel room n day
   unfolding Stands lesson labelled
-  lesson-label room m i (tree l ps) s =
-      let k : suc m - 1 ≡ m = omega arith in
-      rw k (first-label _ _ (in-room room _ _ (in-period m ps (children t (at i)) (s .1))))
+  lesson-label room n h i (tree l ps) s = first-label _ _ (in-room room _ _ (in-period (n - 1) n ps (children t (at i)) (omega arith) (s .1)))
 
   -- The cells of a row
 
@@ -103,18 +99,18 @@ module _ (room s : List ℕ) (ds : Trees) where
       label : (i : ℕ) (day : Tree) → Stands week i day → labelAt week i ≡ dayLabel day
       label i (tree l us) h = h .0
 
-  row-held : (m : ℕ) → row room week (suc m) ≡ weekRow ((48 + suc m) ∷ bytes " ") (lessonLabel room (suc m)) ds
+  row-held : (n : ℕ) → 1 ≤ n → row room week n ≡ weekRow ((48 + n) ∷ bytes " ") (lessonLabel room n) ds
   unfolding row rowText Stands inPeriod inRoom firstLabel
-  row-held m =
-      rw (each-map (λ i. cell (labelAt week i)) (lesson room week (suc m)) (days week), days-first week)
-      (ap (λ (x : List ℕ). (48 + suc m) ∷ (bytes " " ++ (x ++ bytes "\n")))
-      (cells week (lesson room week (suc m)) (lessonLabel room (suc m)) (lesson-label week room m) refl 5 (children week (at 0)) ds (root-stands (tree s ds) .1)))
+  row-held n h =
+      rw (each-map (λ i. cell (labelAt week i)) (lesson room week n) (days week), days-first week)
+      (ap (λ (x : List ℕ). (48 + n) ∷ (bytes " " ++ (x ++ bytes "\n")))
+      (cells week (lesson room week n) (lessonLabel room n) (lesson-label week room n h) refl 5 (children week (at 0)) ds (root-stands (tree s ds) .1)))
 
   -- The sheet of a view is that of the nested tree whose nodes, in document order, are the view.
   pub sheet-of-tree : sheetText room week ≡ weekSheet room ds
   unfolding sheetText weekSheet each
   sheet-of-tree =
-      rw (head-row-held, row-held 0, row-held 1, row-held 2, row-held 3, row-held 4, row-held 5, row-held 6, row-held 7, append-nil (weekRow (bytes "8 ") (lessonLabel room 8) ds))
+      rw (head-row-held, row-held 1 (omega arith), row-held 2 (omega arith), row-held 3 (omega arith), row-held 4 (omega arith), row-held 5 (omega arith), row-held 6 (omega arith), row-held 7 (omega arith), row-held 8 (omega arith), append-nil (weekRow (bytes "8 ") (lessonLabel room 8) ds))
 
 -- So is what is printed of a view that shows something.
 pub sheet-printed : (room : List ℕ) (vs : Nodes) → 0 < length vs → TreeShaped vs → SheetPrinted room vs (sheetText room vs)

@@ -1,4 +1,4 @@
--- Examples of the sheet for a room's door (document 02, card 3), computed from views. Assumes nothing.
+-- Examples of the sheet for a room's door (document 02, card 3): weeks as they are shown, and what is computed from them. Assumes nothing.
 use Prim.Native.Nat.{ℕ}
 use mathlib.Core.Path.{_≡_, refl}
 use mathlib.Core.List.{List, [], _∷_, _++_}
@@ -80,10 +80,10 @@ cut-and-counted-sheet =
     ++ (bytes "7              |             |             |             |             |\n"
     ++ bytes "8              |late         |             |             |             |\n")))))))
 
-pub sheet-cases :
+pub sheet-weeks :
     ((room : List ℕ) → sheetText room [] ≡ blank)
     × (sheetText (bytes "RESTRICTED") restricted-room ≡ restricted-room-sheet)
     × (sheetText (bytes "x") two-alike ≡ two-alike-sheet)
     × (sheetText (bytes "x") cut-and-counted ≡ cut-and-counted-sheet)
 unfolding sheetText headRow row rowText lesson labelled days cell each filter stretch levelAt labelAt sameLabel folded
-sheet-cases = (λ room. refl, refl, refl, refl)
+sheet-weeks = (λ room. refl, refl, refl, refl)
