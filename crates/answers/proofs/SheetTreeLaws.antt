@@ -17,7 +17,7 @@ use Rattle.answers.proofs.AnswerTreeLaws.{tree-of-view}
 use Rattle.answers.proofs.ChildrenLaws.{Stands, StandIn, root-stands}
 use Rattle.answers.proofs.SheetParts.{children-none}
 
--- the first k of some nodes; where there are less, the place after the last node stands for each that is missing
+-- the first k of some nodes; where there are fewer, the place after the last node stands for each that is missing
 firsts : Nodes → ℕ → List ℕ → List ℕ
 firsts t zero js = []
 firsts t (suc k) [] = length t ∷ firsts t k []

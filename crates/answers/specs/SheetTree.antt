@@ -10,7 +10,7 @@ use Rattle.rights.specs.Nodes.{Nodes}
 use Rattle.rights.specs.Tree.{Tree, tree, Trees, none, more, nodesOf}
 use Rattle.answers.specs.Sheet.{cell}
 
--- what stands in "the day's n-th shown child, its period n": nothing, if there are less
+-- what stands in "the day's n-th shown child, its period n": nothing, if there are fewer
 unfoldable pub inPeriod : ℕ → Trees → Trees
 inPeriod n none = none
 inPeriod n (more (tree l us) ts) = cond (eqb n 1) us (inPeriod (n - 1) ts)
