@@ -22,6 +22,10 @@ Inv-loop table shown i room l j₀ j =
 abbrev μ-loop : tie.MeasureT-loop
 μ-loop table shown i room l j₀ j = length shown - j
 
+-- the place further back that answers read
+abbrev to-start : tie.At-loop Inv-loop μ-loop → tie.Start Inv-loop μ-loop
+to-start c = c .before .before .before .before .before .before .before
+
 returns : tie.Need-returns Inv-loop μ-loop
 unfolding labelled filter
 returns c =
@@ -43,7 +47,7 @@ returns-2 : tie.Need-returns-2 Inv-loop μ-loop
 unfolding labelled
 returns-2 c =
     let at-loop = c .before .before .before in
-    let a = at-loop .before .before .before .before .before .before .before .args in
+    let a = to-start at-loop .args in
     let t = viewOf (a .table .now) (a .shown .now) in
     let n = view-length (a .table .now) (a .shown .now) in
     let l = at-loop .loop in
@@ -51,13 +55,13 @@ returns-2 c =
 
 add-child-from-2 : tie.Need-add-child-from-2 Inv-loop μ-loop
 add-child-from-2 c =
-    let start = c .before .before .before .before .before .before .before .before .before .before in
+    let start = to-start (c .before .before .before) in
     omega (arith, start .pre .few)
 
 loop-less : tie.Need-loop-less Inv-loop μ-loop
 loop-less c =
     let at-loop = c .before .before .before .before in
-    let a = at-loop .before .before .before .before .before .before .before .args in
+    let a = to-start at-loop .args in
     let n = view-length (a .table .now) (a .shown .now) in
     let f = c .child-from2 .ensures in
     let h = f .on (omega arith) in
@@ -66,7 +70,7 @@ loop-less c =
 loop-again : tie.Need-loop-again Inv-loop μ-loop
 loop-again c =
     let at-loop = c .before .before .before .before in
-    let a = at-loop .before .before .before .before .before .before .before .args in
+    let a = to-start at-loop .args in
     let t = viewOf (a .table .now) (a .shown .now) in
     let n = view-length (a .table .now) (a .shown .now) in
     let l = at-loop .loop in
@@ -80,7 +84,7 @@ returns-3 : tie.Need-returns-3 Inv-loop μ-loop
 unfolding labelled
 returns-3 c =
     let at-loop = c .before in
-    let a = at-loop .before .before .before .before .before .before .before .args in
+    let a = to-start at-loop .args in
     let t = viewOf (a .table .now) (a .shown .now) in
     let n = view-length (a .table .now) (a .shown .now) in
     let l = at-loop .loop in
