@@ -5,6 +5,7 @@ use crate::answer::put_byte;
 use crate::answer::put_bytes;
 use crate::answer::put_label;
 use rights::labels::same_label;
+use rights::limits::LABEL_MAX;
 use rights::nodes::level_at;
 ghost use mathlib.Core.Path.{_≡_};
 ghost use Prim.Native.Nat.{_+_, _^_, _≤_, _<_};
@@ -22,12 +23,15 @@ const SHEET_BYTES: usize = 657;
 
 const PERIODS: usize = 8;
 
+// A cell, without the `|` after it.
+const CELL_BYTES: usize = 13;
+
 // Whether shown node i carries the label `room`.
 fn is_labelled(table: &[u8], shown: &[u16], i: usize, room: &[u8]) -> bool
     requires { ⌜ (Fits (now table) (now shown)) × (i < length (now shown)) ⌝ }
     ensures { λ r. ⌜ r ≡ carries (now (room .entry)) (viewOf (now (table .entry)) (now (shown .entry))) i ⌝ }
 {
-    let mut label = [0u8; 24];
+    let mut label = [0u8; LABEL_MAX];
     let n = put_label(&mut label, 0, table, shown, i);
     same_label(&label, 0, n, room, 0, room.len())
 }
@@ -98,9 +102,9 @@ fn put_cell(area: &mut [u8], at: usize, table: &[u8], shown: &[u16], i: usize) -
     if shown.len() <= i {
         return put_bytes(area, at, b"             |");
     }
-    let mut filled = [b' '; 24];
+    let mut filled = [b' '; LABEL_MAX];
     put_label(&mut filled, 0, table, shown, i);
-    let next = put_bytes(area, at, &filled[0..13]);
+    let next = put_bytes(area, at, &filled[0..CELL_BYTES]);
     put_byte(area, next, b'|')
 }
 
