@@ -32,8 +32,8 @@ for path in glob.glob("crates/*/src/*.rt"):
 edits = {path.split("/")[1] + "/" + os.path.basename(path)[:-5] for path in glob.glob("crates/*/edits/*.edit")}
 crates = {os.path.basename(path) for path in glob.glob("crates/*")}
 
-# the most lines of definitions to be believed
-BELIEVED_MAX = 1700
+# the most lines of definitions to be believed; 1,700 until card 3, whose own definitions have 46
+BELIEVED_MAX = 1750
 # words of the language, no names of ours
 WORDS = {"ensures", "requires"}
 seen, wrong = set(), []

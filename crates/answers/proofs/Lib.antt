@@ -7,4 +7,6 @@ pub mod AnswerLengths
 pub mod FindLaws
 pub mod SheetLaws
 pub mod SheetParts
-pub mod SheetCases
+pub mod ChildrenLaws
+pub mod SheetTreeLaws
+pub mod SheetWeeks

@@ -1,14 +1,14 @@
 -- The sheet for a room's door: "nine rows of exactly 72 bytes and a line feed", whatever the view. Assumes nothing.
 use Prim.Native.Nat.{ℕ, _+_, _*_}
 use mathlib.Core.Path.{_≡_, refl, ap, _∙_}
-use mathlib.Core.List.{List, [], _∷_, _++_}
+use mathlib.Core.List.{List, [], _∷_, _++_, map}
 use native.Mathlib.Omega.{arith}
 use lib.ListN.{length, take, replicate, length-append}
 use lib.Seq.{length-take-le}
 use Rattle.rights.specs.Bytes.{bytes}
 use Rattle.rights.specs.Nodes.{Nodes, labelAt}
 use Rattle.rights.specs.XPath.{each}
-use Rattle.answers.specs.Sheet.{cell, days, lesson, headRow, row, periods, sheetText}
+use Rattle.answers.specs.Sheet.{cell, days, lesson, rowText, headRow, row, periods, sheetText}
 
 -- Lengths
 
@@ -25,25 +25,27 @@ unfolding each
 each-length f k h [] = omega arith
 each-length f k h (x ∷ xs) = length-append (f x) (each f xs) ∙ omega (arith, h x, each-length f k h xs)
 
-cells-length : (t : Nodes) (f : ℕ → List ℕ) → length (each (λ day. cell (f day)) (days t)) ≡ 70
+pub days-length : (t : Nodes) → length (days t) ≡ 5
 unfolding days
-cells-length t f = each-length (λ day. cell (f day)) 14 (λ day. cell-length (f day)) (days t)
+days-length t = refl
 
 -- 72 bytes and a line feed
 abbrev pub RowText : List ℕ → Type 0
 RowText s = (body : List ℕ) × (length body ≡ 72) × (s ≡ body ++ bytes "\n")
 
+row-text : (first : ℕ) (t : Nodes) (is : List ℕ) → length is ≡ 5 → RowText (rowText first t is)
+unfolding rowText
+row-text first t is h =
+    let cells = each (λ i. cell (labelAt t i)) is in
+    (first ∷ (bytes " " ++ cells), omega (arith, h, each-length (λ i. cell (labelAt t i)) 14 (λ i. cell-length (labelAt t i)) is), refl)
+
 pub head-row-is : (t : Nodes) → RowText (headRow t)
 unfolding headRow
-head-row-is t =
-    let cells = each (λ day. cell (labelAt t day)) (days t) in
-    (bytes "  " ++ cells, omega (arith, cells-length t (labelAt t)), refl)
+head-row-is t = row-text 32 t (days t) (days-length t)
 
 pub row-is : (room : List ℕ) (t : Nodes) (n : ℕ) → RowText (row room t n)
-unfolding row
-row-is room t n =
-    let cells = each (λ day. cell (labelAt t (lesson room t n day))) (days t) in
-    ((48 + n) ∷ (bytes " " ++ cells), omega (arith, cells-length t (λ day. labelAt t (lesson room t n day))), refl)
+unfolding row days
+row-is room t n = row-text (48 + n) t (map (lesson room t n) (days t)) refl
 
 row-length : (s : List ℕ) → RowText s → length s ≡ 73
 row-length s r = ap length (r .2) ∙ length-append (r .0) (bytes "\n") ∙ omega (arith, r .1)

@@ -2,7 +2,7 @@
 use Prim.Native.Nat.{ℕ, zero, suc, _+_, _-_, _%_, _≤_, _<_}
 use mathlib.Core.Path.{_≡_, refl, sym, ap, _∙_}
 use mathlib.Core.Bool.{Bool, true, false}
-use mathlib.Core.List.{List, [], _∷_, _++_}
+use mathlib.Core.List.{List, [], _∷_, _++_, map}
 use native.Mathlib.Omega.{arith}
 use native.Mathlib.Numerals.{add-one}
 use lib.Dec.{ltb}
@@ -13,7 +13,7 @@ use Rattle.rights.specs.Bytes.{bytes}
 use Rattle.rights.specs.Nodes.{node, Nodes, levelAt, labelAt}
 use Rattle.rights.specs.XPath.{at, children, filter, each, stretch}
 use Rattle.rights.proofs.ListLaws.{byCase}
-use Rattle.answers.specs.Sheet.{cell, nth, days, lesson, headRow, row, periods, sheetText}
+use Rattle.answers.specs.Sheet.{cell, nth, days, lesson, rowText, headRow, row, periods, sheetText}
 use Rattle.answers.specs.How.AnswerArea.{Puts}
 use Rattle.answers.specs.How.SheetParts.{siblings, onward, First}
 
@@ -147,18 +147,15 @@ module _ (f : ℕ → List ℕ) (xs : List ℕ) (i : ℕ) where
 
 -- Rows
 
-pub days-length : (t : Nodes) (places : List ℕ) → places ≡ days t → length places ≡ 5
-unfolding days
-days-length t places e = ap length e
+pub row-of : (first : ℕ) (t : Nodes) (places : List ℕ)
+    → rowText first t places ≡ (first ∷ []) ++ (bytes " " ++ (each (λ i. cell (labelAt t i)) places ++ bytes "\n"))
+unfolding rowText
+row-of first t places = refl
 
-pub head-row-of : (t : Nodes) (places : List ℕ) → places ≡ days t → headRow t ≡ bytes "  " ++ (each (λ day. cell (labelAt t day)) places ++ bytes "\n")
-unfolding headRow
-head-row-of t places e = rw e
-
-pub row-of : (room : List ℕ) (t : Nodes) (n d : ℕ) (places : List ℕ) → places ≡ days t → n < 10 → d ≡ 48 + n % 10
-    → row room t n ≡ (d ∷ []) ++ (bytes " " ++ (each (λ day. cell (labelAt t (lesson room t n day))) places ++ bytes "\n"))
+pub numbered-row : (room : List ℕ) (t : Nodes) (n first : ℕ) (places lessons : List ℕ) → places ≡ days t → lessons ≡ map (lesson room t n) places → n < 10 → first ≡ 48 + n % 10
+    → rowText first t lessons ≡ row room t n
 unfolding row
-row-of room t n d places e h q = let z : d ≡ 48 + n = omega arith in rw (e, z)
+numbered-row room t n first places lessons e q h d = let z : first ≡ 48 + n = omega arith in rw (q, e, z)
 
 period-number : (i : ℕ) → i < 8 → getD periods i 0 ≡ i + 1
 period-number zero h = refl
@@ -177,6 +174,17 @@ rows-step f i h = each-step f periods i h ∙ ap (λ (n : ℕ). f n ++ each f (d
 pub rows-end : (f : ℕ → List ℕ) (i : ℕ) → 8 ≤ i → each f (drop i periods) ≡ []
 rows-end f i h = each-end f periods i h
 
-pub sheet-of : (room : List ℕ) (t : Nodes) → sheetText room t ≡ headRow t ++ each (row room t) periods
-unfolding sheetText
-sheet-of room t = refl
+pub sheet-of : (room : List ℕ) (t : Nodes) (places : List ℕ) → places ≡ days t → sheetText room t ≡ rowText 32 t places ++ each (row room t) periods
+unfolding sheetText headRow
+sheet-of room t places e = rw e
+
+-- five elements, one by one
+pub map-five : (f : ℕ → ℕ) (xs : List ℕ) → length xs ≡ 5
+    → f (getD xs 0 0) ∷ f (getD xs 1 0) ∷ f (getD xs 2 0) ∷ f (getD xs 3 0) ∷ f (getD xs 4 0) ∷ [] ≡ map f xs
+map-five f [] h = absurd (omega arith)
+map-five f (a ∷ []) h = absurd (omega arith)
+map-five f (a ∷ b ∷ []) h = absurd (omega arith)
+map-five f (a ∷ b ∷ c ∷ []) h = absurd (omega arith)
+map-five f (a ∷ b ∷ c ∷ d ∷ []) h = absurd (omega arith)
+map-five f (a ∷ b ∷ c ∷ d ∷ e ∷ []) h = refl
+map-five f (a ∷ b ∷ c ∷ d ∷ e ∷ x ∷ xs) h = absurd (omega arith)

@@ -5,15 +5,16 @@ use crate::answer::put_byte;
 use crate::answer::put_bytes;
 use crate::answer::put_label;
 use rights::labels::same_label;
+use rights::limits::LABEL_MAX;
 use rights::nodes::level_at;
 ghost use mathlib.Core.Path.{_≡_};
-ghost use Prim.Native.Nat.{_+_, _*_, _^_, _≤_, _<_};
+ghost use Prim.Native.Nat.{_+_, _^_, _≤_, _<_};
+ghost use mathlib.Core.List.{map};
 ghost use lib.ListN.{length};
-ghost use Rattle.rights.specs.Labels.{sameLabel};
 ghost use Rattle.rights.specs.Nodes.{labelAt};
 ghost use Rattle.rights.specs.XPath.{at, children, each};
 ghost use Rattle.rights.specs.How.Numbers.{viewOf, Fits};
-ghost use Rattle.answers.specs.Sheet.{cell, nth, days, labelled, lesson, headRow, row, periods, sheetText};
+ghost use Rattle.answers.specs.Sheet.{cell, nth, days, carries, labelled, lesson, rowText, row, periods, sheetText};
 ghost use Rattle.answers.specs.How.AnswerArea.{Puts, Answered};
 ghost use Rattle.answers.specs.How.SheetParts.{First};
 
@@ -22,12 +23,15 @@ const SHEET_BYTES: usize = 657;
 
 const PERIODS: usize = 8;
 
+// A cell, without the `|` after it.
+const CELL_BYTES: usize = 13;
+
 // Whether shown node i carries the label `room`.
 fn is_labelled(table: &[u8], shown: &[u16], i: usize, room: &[u8]) -> bool
     requires { ⌜ (Fits (now table) (now shown)) × (i < length (now shown)) ⌝ }
-    ensures { λ r. ⌜ r ≡ sameLabel (labelAt (viewOf (now (table .entry)) (now (shown .entry))) i) (now (room .entry)) ⌝ }
+    ensures { λ r. ⌜ r ≡ carries (now (room .entry)) (viewOf (now (table .entry)) (now (shown .entry))) i ⌝ }
 {
-    let mut label = [0u8; 24];
+    let mut label = [0u8; LABEL_MAX];
     let n = put_label(&mut label, 0, table, shown, i);
     same_label(&label, 0, n, room, 0, room.len())
 }
@@ -98,9 +102,9 @@ fn put_cell(area: &mut [u8], at: usize, table: &[u8], shown: &[u16], i: usize) -
     if shown.len() <= i {
         return put_bytes(area, at, b"             |");
     }
-    let mut filled = [b' '; 24];
+    let mut filled = [b' '; LABEL_MAX];
     put_label(&mut filled, 0, table, shown, i);
-    let next = put_bytes(area, at, &filled[0..13]);
+    let next = put_bytes(area, at, &filled[0..CELL_BYTES]);
     put_byte(area, next, b'|')
 }
 
@@ -127,11 +131,24 @@ fn find_days(table: &[u8], shown: &[u16]) -> [usize; 5]
     [a, b, c, d, e]
 }
 
+// The lessons of period n, one for each of the five days.
+fn find_lessons(table: &[u8], shown: &[u16], room: &[u8], n: usize, days: &[usize]) -> [usize; 5]
+    requires { ⌜ (Fits (now table) (now shown)) × (1 ≤ n) × (length (now days) ≡ 5) ⌝ }
+    ensures { λ r. ⌜ r ≡ map (lesson (now (room .entry)) (viewOf (now (table .entry)) (now (shown .entry))) n) (now (days .entry)) ⌝ }
+{
+    let a = find_lesson(table, shown, room, n, days[0]);
+    let b = find_lesson(table, shown, room, n, days[1]);
+    let c = find_lesson(table, shown, room, n, days[2]);
+    let d = find_lesson(table, shown, room, n, days[3]);
+    let e = find_lesson(table, shown, room, n, days[4]);
+    [a, b, c, d, e]
+}
+
 // Puts a cell with the label of the node at each place.
-fn put_days(area: &mut [u8], at: usize, table: &[u8], shown: &[u16], places: &[usize]) -> usize
-    requires { ⌜ (Fits (now table) (now shown)) × (length (now places) ≤ 5) × (at < 2 ^ 61) ⌝ }
-    ensures { λ r. ⌜ (Puts (each (λ day. cell (labelAt (viewOf (now (table .entry)) (now (shown .entry))) day)) (now (places .entry))) at
-        (now (area .entry)) (now (area .exit)) r) × (r ≡ at + 14 * length (now (places .entry))) ⌝ }
+fn put_cells(area: &mut [u8], at: usize, table: &[u8], shown: &[u16], places: &[usize]) -> usize
+    requires { ⌜ (Fits (now table) (now shown)) × (length (now places) ≡ 5) × (at < 2 ^ 61) ⌝ }
+    ensures { λ r. ⌜ (Puts (each (λ i. cell (labelAt (viewOf (now (table .entry)) (now (shown .entry))) i)) (now (places .entry))) at
+        (now (area .entry)) (now (area .exit)) r) × (r ≡ at + 70) ⌝ }
 {
     let mut next = at;
     let mut i = 0;
@@ -142,58 +159,22 @@ fn put_days(area: &mut [u8], at: usize, table: &[u8], shown: &[u16], places: &[u
     next
 }
 
-// Puts a cell with the lesson of period n for the day at each place.
-fn put_lessons(
-    area: &mut [u8],
-    at: usize,
-    table: &[u8],
-    shown: &[u16],
-    room: &[u8],
-    n: usize,
-    places: &[usize],
-) -> usize
-    requires { ⌜ (Fits (now table) (now shown)) × (1 ≤ n) × (length (now places) ≤ 5) × (at < 2 ^ 61) ⌝ }
-    ensures { λ r. ⌜ (Puts (each (λ day. cell (labelAt (viewOf (now (table .entry)) (now (shown .entry)))
-        (lesson (now (room .entry)) (viewOf (now (table .entry)) (now (shown .entry))) n day))) (now (places .entry))) at
-        (now (area .entry)) (now (area .exit)) r) × (r ≡ at + 14 * length (now (places .entry))) ⌝ }
-{
-    let mut next = at;
-    let mut i = 0;
-    while i < places.len() {
-        let place = find_lesson(table, shown, room, n, places[i]);
-        next = put_cell(area, next, table, shown, place);
-        i += 1;
-    }
-    next
-}
-
-// Puts the first row.
-fn put_head_row(area: &mut [u8], table: &[u8], shown: &[u16], places: &[usize]) -> usize
-    requires { ⌜ (Fits (now table) (now shown)) × (now places ≡ days (viewOf (now table) (now shown))) ⌝ }
-    ensures { λ r. ⌜ (Puts (headRow (viewOf (now (table .entry)) (now (shown .entry)))) 0 (now (area .entry)) (now (area .exit)) r) × (r ≡ 73) ⌝ }
-{
-    let a = put_bytes(area, 0, b"  ");
-    let b = put_days(area, a, table, shown, places);
-    put_byte(area, b, b'\n')
-}
-
-// Puts row n.
+// Puts a row: a byte, a space, and the cells of five nodes.
 fn put_row(
     area: &mut [u8],
     at: usize,
     table: &[u8],
     shown: &[u16],
-    room: &[u8],
+    first: u8,
     places: &[usize],
-    n: usize,
 ) -> usize
-    requires { ⌜ (Fits (now table) (now shown)) × (now places ≡ days (viewOf (now table) (now shown))) × (1 ≤ n) × (n < 10) × (at < 2 ^ 60) ⌝ }
-    ensures { λ r. ⌜ (Puts (row (now (room .entry)) (viewOf (now (table .entry)) (now (shown .entry))) n) at (now (area .entry)) (now (area .exit)) r)
-        × (r ≡ at + 73) ⌝ }
+    requires { ⌜ (Fits (now table) (now shown)) × (length (now places) ≡ 5) × (at < 2 ^ 60) ⌝ }
+    ensures { λ r. ⌜ (Puts (rowText first (viewOf (now (table .entry)) (now (shown .entry))) (now (places .entry))) at (now (area .entry))
+        (now (area .exit)) r) × (r ≡ at + 73) ⌝ }
 {
-    let a = put_byte(area, at, digit(n));
+    let a = put_byte(area, at, first);
     let b = put_byte(area, a, b' ');
-    let c = put_lessons(area, b, table, shown, room, n, places);
+    let c = put_cells(area, b, table, shown, places);
     put_byte(area, c, b'\n')
 }
 
@@ -211,10 +192,11 @@ fn put_rows(
         (now (area .entry)) (now (area .exit)) r) × (r ≡ at + 584) ⌝ }
 {
     let mut next = at;
-    let mut i = 0;
-    while i < PERIODS {
-        next = put_row(area, next, table, shown, room, places, i + 1);
-        i += 1;
+    let mut n = 0;
+    while n < PERIODS {
+        n += 1;
+        let lessons = find_lessons(table, shown, room, n, places);
+        next = put_row(area, next, table, shown, digit(n), &lessons);
     }
     next
 }
@@ -226,7 +208,7 @@ fn put_sheet(area: &mut [u8], table: &[u8], shown: &[u16], room: &[u8]) -> usize
         (now (area .exit)) r ⌝ }
 {
     let places = find_days(table, shown);
-    let a = put_head_row(area, table, shown, &places);
+    let a = put_row(area, 0, table, shown, b' ', &places);
     put_rows(area, a, table, shown, room, &places)
 }
 

@@ -7,9 +7,10 @@ use Rattle.answers.proofs.sheet.put_sheet.Tie as tie
 
 returns : tie.Need-returns
 returns c =
-    let at-put-rows = c .before .before in let at-put-head-row = at-put-rows .before .before .before .before .before in
-    let a = at-put-head-row .before .before .before .before .before .before .before .before .args in
-    rw (sheet-of (a .room .now) (viewOf (a .table .now) (a .shown .now))) (puts-more (at-put-head-row .put-head-row .ensures .0) (at-put-rows .put-rows .ensures .0))
+    let at-put-rows = c .before .before in let at-put-row = at-put-rows .before .before .before .before .before in
+    let at-find-days = at-put-row .before .before .before in
+    let a = at-find-days .before .before .before .before .before .args in
+    rw (sheet-of (a .room .now) (viewOf (a .table .now) (a .shown .now)) _ (at-find-days .find-days .ensures)) (puts-more (at-put-row .put-row .ensures .0) (at-put-rows .put-rows .ensures .0))
 
 pub put-sheet-spec : {M : Type 1} → statement M
 put-sheet-spec =

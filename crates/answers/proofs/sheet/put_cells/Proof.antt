@@ -1,4 +1,4 @@
--- The area holds the cells of the days before i, and what is left is the cells of those from i on: together the whole.
+-- The area holds the cells of the places before i, and what is left is the cells of those from i on: together the whole.
 use Prim.Native.Nat.{ℕ, _+_, _-_, _*_, _≤_}
 use mathlib.Core.Path.{_≡_, refl}
 use mathlib.Core.List.{List}
@@ -11,11 +11,11 @@ use Rattle.rights.specs.How.Numbers.{viewOf}
 use Rattle.answers.specs.Sheet.{cell}
 use Rattle.answers.proofs.AnswerLaws.{Toward, toward-start, toward-more, toward-end}
 use Rattle.answers.proofs.SheetParts.{each-step, each-end}
-use Rattle.answers.proofs.sheet.put_days.Statement.{statement}
-use Rattle.answers.proofs.sheet.put_days.Tie as tie
+use Rattle.answers.proofs.sheet.put_cells.Statement.{statement}
+use Rattle.answers.proofs.sheet.put_cells.Tie as tie
 
 abbrev texts : List ℕ → List ℕ → ℕ → List ℕ
-texts table shown day = cell (labelAt (viewOf table shown) day)
+texts table shown i = cell (labelAt (viewOf table shown) i)
 
 abbrev Inv-loop : tie.InvT-loop
 Inv-loop area₀ at table shown places next₀ i₀ area next i =
@@ -45,8 +45,8 @@ returns c =
     let l = at-loop .loop in
     (toward-end (l .inv .3) (each-end (texts (a .table .now) (a .shown .now)) (a .places .now) (l .i) (omega arith)), omega arith)
 
-pub put-days-spec : {M : Type 1} → statement M
-put-days-spec =
+pub put-cells-spec : {M : Type 1} → statement M
+put-cells-spec =
     tie.close
     (tie.spec Inv-loop μ-loop loop-holds (λ c. search needs) (λ c. search needs) (λ c κs. search needs) (λ c. search needs)
     (λ c. search needs) loop-again (λ c. search needs) returns)
