@@ -7,5 +7,6 @@ pub mod Lent
 pub mod TreeTextLaws
 pub mod FormTextLaws
 pub mod CommandLaws
+pub mod FormTexts
 pub mod PlaceLaws
 pub mod PathRunLaws
