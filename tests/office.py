@@ -1036,15 +1036,15 @@ class Sheets(Office):
         self.doors()
         before = self.read()
         told = json.loads(self.sheets("--as", "door", "--json", process=True))
-        self.assertEqual(self.errors, "doors: 2 sheets of store for door\n")
-        files = {"R12": "sheet-R12~4.txt", "hall": "sheet-hall.txt"}
+        self.assertEqual(self.errors, "doors: 3 sheets of store for door\n")
+        files = {"R12": "sheet-R12~4.txt", "hall": "sheet-hall.txt", "R20": "sheet-R20~4.txt"}
         rows = [{"room": room, "file": file, "blank": False} for room, file in files.items()]
         self.assertEqual(told, {"folder": self.path("doors"), "reader": "door", "sheets": rows, "dropped": []})
         wanted = {file: expected_sheet(self.nodes("door"), room) for room, file in files.items()}
         self.assertEqual(self.files(), wanted)
         self.assertEqual(self.read(), before)
         self.assertEqual(sorted(os.listdir(self.folder)), ["doors", "store"])
-        answers = self.office("run", "store", given="(user door)\n(sheet R12)\n(sheet hall)\n")
+        answers = self.office("run", "store", given="(user door)\n(sheet R12)\n(sheet hall)\n(sheet R20)\n")
         self.assertEqual(answers, "(ok)\n" + "".join(wanted.values()))
 
     def test_what_the_reader_sees(self):
@@ -1064,13 +1064,13 @@ class Sheets(Office):
         self.assertTrue(all(door == made[1] for door in made[1::2]))
         self.assertTrue(all(staff != made[0] for staff in made[2::2]))
         self.assertIn("counselling", "".join(made[0].values()))
-        self.assertNotRegex("".join(made[1].values()), "counsel|exam|Kim")
+        self.assertNotRegex("".join(made[1].values()), "counsel|exam|interview|Kim")
 
     def test_rooms_that_are_shown(self):
         self.doors("(rule deny read //hall door)\n(rule accept position //hall door)\n")
-        self.sheets("--as", "door", says="1 sheet of store for door")
-        self.assertEqual(list(self.files()), ["sheet-R12~4.txt"])
-        self.sheets("--as", "door", "--room", "RESTRICTED", says="no longer there: sheet-R12~4.txt")
+        self.sheets("--as", "door", says="2 sheets of store for door")
+        self.assertEqual(set(self.files()), {"sheet-R12~4.txt", "sheet-R20~4.txt"})
+        self.sheets("--as", "door", "--room", "RESTRICTED", says="no longer there: sheet-R12~4.txt, sheet-R20~4.txt")
         (text,) = self.files().values()
         self.assertEqual(text, expected_sheet(self.nodes("door"), "RESTRICTED"))
         self.assertIn("assembly", text)
