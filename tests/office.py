@@ -1665,6 +1665,8 @@ class Faults(Office):
             )
             self.office("new", "other", before=before, status=3, says="other cannot be made: Permission denied")
             self.office("publish", "store", "--out", "www", before=before, status=3, says="Permission denied")
+            rooms = ["--as", "SHA", "--room", "room", "--out", "doors"]
+            self.office("sheets", "store", *rooms, before=before, status=3, says="Permission denied")
             self.office("map", "store", "--out", "map.html", before=before, status=3, says="Permission denied")
             self.assertEqual(self.office("show", "store", "--as", "SHA", before=before), OUTLINE)
             os.chmod(self.store, 0o400)
@@ -1746,6 +1748,7 @@ class Faults(Office):
                 (["load", "empty", "-"], week),
                 (["policy", "store"], text_of(EDITOR).encode()),
                 (["publish", "store", "--out", "www"], b""),
+                (["sheets", "store", "--as", "editor", *(f"--room=R{k}" for k in range(8)), "--out", "doors"], b""),
                 (["map", "store", "--out", "map.html"], b""),
                 (["new", "other"], b""),
             ):
@@ -1761,7 +1764,7 @@ class Faults(Office):
                 self.assertEqual(status, 0)
                 self.assertNotEqual(self.files(), before)
             self.assertGreaterEqual(min(failed.values()), 2)
-            self.assertEqual(len(failed), 6)
+            self.assertEqual(len(failed), 7)
             self.leave_free(0)
             with open(self.path("printed"), "wb") as printed:
                 says = "the answer cannot be written: No space left"
