@@ -78,6 +78,22 @@ EDITOR = [
     "(rule accept delete //* editor)",
 ]
 
+# A library that passes every call on to another, lines with the form `sheet` apart.
+OLDER = """
+#include <dlfcn.h>
+#include <stddef.h>
+#include <string.h>
+typedef long call(void *, size_t, void *, size_t, const char *, size_t, void *, size_t);
+static void *found(const char *name) { return dlsym(dlopen(%s, RTLD_NOW), name); }
+size_t timetable_state_bytes(void) { return ((size_t (*)(void))found("timetable_state_bytes"))(); }
+long timetable_line(void *s, size_t sn, void *t, size_t tn, const char *l, size_t ln, void *a, size_t an) {
+    return ln > 6 && memcmp(l, "(sheet", 6) == 0 ? -2 : ((call *)found("timetable_line"))(s, sn, t, tn, l, ln, a, an);
+}
+long timetable_load_xml(void *s, size_t sn, void *t, size_t tn, const char *x, size_t xn, void *a, size_t an) {
+    return ((call *)found("timetable_load_xml"))(s, sn, t, tn, x, xn, a, an);
+}
+"""
+
 library_file = ""
 library: Library
 kills = 30
@@ -195,6 +211,12 @@ class Office(unittest.TestCase):
         before = {name: self.read(name) for name in os.listdir(self.folder)}
         yield
         self.assertEqual({name: self.read(name) for name in os.listdir(self.folder)}, before)
+
+    def make_other(self, source):
+        """Another library, other.so."""
+        self.write("other.c", source)
+        words = ["gcc", "-shared", "-fPIC", "-o", self.path("other.so"), self.path("other.c"), "-ldl"]
+        subprocess.run(words, check=True)
 
     def holds(self, data):
         """Whether any file of the folder has these bytes."""
@@ -515,10 +537,6 @@ class Binding(Office):
         self.write("text.so", "no library")
         self.office("new", "store", "--library", "text.so", status=3, says="cannot be loaded as a library")
         self.assertFalse(os.path.exists(self.store))
-
-    def make_other(self, source):
-        self.write("other.c", source)
-        subprocess.run(["gcc", "-shared", "-o", self.path("other.so"), self.path("other.c")], check=True)
 
     def test_another_library(self):
         self.make_other("int other;")
@@ -1153,17 +1171,13 @@ class Sheets(Office):
         self.assertNotEqual(self.files(), before)
 
     def test_an_older_library(self):
-        """One that knows no sheets is told before anything is done."""
+        """One that refuses sheets with 2, and is this one in all else, is told before anything is done."""
         self.doors()
-        line = Session.line
-
-        def older(session, text):
-            if text.startswith(b"(sheet"):
-                raise Refused(refusals.NO_FORM)
-            return line(session, text)
-
-        with self.unchanged(), mock.patch.object(Session, "line", older):
-            self.sheets("--as", "door", status=3, says="is of another version: it does not take the usual lines")
+        self.make_other(OLDER % json.dumps(library_file))
+        says = "other.so is of another version: it does not take the usual lines"
+        with self.unchanged():
+            self.sheets("--as", "door", "--library", "other.so", status=3, says=says)
+            self.office("show", "store", "--as", "door", "--library", "other.so", status=3, says=says)
 
     def test_the_smallest_table(self):
         session = library.session(records=1)
