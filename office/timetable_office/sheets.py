@@ -14,7 +14,7 @@ from timetable_office.views import log_in
 
 _KIND = "sheet"
 _NAMES = re.compile(file_names(_KIND, "txt"))
-# Rooms stand below periods, these below days, and these below the root.
+# Rooms are children of periods, periods of days, and days of the root.
 _ROOM_LEVEL = 3
 _BLANK = frozenset(b" |")
 
@@ -53,7 +53,7 @@ def write_sheets(read: Callable[[], Session], name: str, rooms: Sequence[str], o
 
 
 def rooms_of(reader: Session) -> dict[str, None]:
-    """The labels that the user is shown below periods, each once and in order; RESTRICTED is none of a room."""
+    """The labels that the user is shown below periods, each once and in order; RESTRICTED names no room."""
     nodes = read_view(reader.line(b"(view)"))
     return dict.fromkeys(node.label for node in nodes if node.level == _ROOM_LEVEL and node.label != RESTRICTED)
 
