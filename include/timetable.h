@@ -63,8 +63,8 @@ extern "C" {
      (size_t)35 * ((size_t)(records) < (size_t)TIMETABLE_MAX_RECORDS ? (size_t)(records)                               \
                                                                      : (size_t)TIMETABLE_MAX_RECORDS))
 
-/* The free stack that is enough for every call. The most measured is 1,066 KiB, for a path of 16 steps with 16 steps in
- * each of three nested brackets; without brackets it is 236 KiB. The figures are measured, not proved.
+/* The free stack that is enough for every call. The most measured is 1,034 KiB, for a path of 16 steps with 16 steps in
+ * each of three nested brackets; without brackets it is 204 KiB. The figures are measured, not proved.
  */
 #define TIMETABLE_STACK_BYTES 1310720
 
