@@ -20,7 +20,7 @@ from pathlib import Path
 from loads import loads
 from measure import ROOT, Bounds, build, collected, count, hot, millions, run, spread, times, wrapped
 from plot import plot
-from stores import ALL, FIVE, WITH_LABELS, by_level, deep, flat, table
+from stores import ALL, FIVE, WITH_LABELS, by_level, deep, flat, table, week
 from views import views
 from where import where
 
@@ -56,6 +56,7 @@ def room_for_one_a_chain(capacity):
 CASES = [
     ("view, 64 subjects, 128 rules `//*`, all applying", deep, full, ALL, "(view)"),
     ("view, 64 subjects, 128 rules with labels", deep, full, WITH_LABELS, "(view)"),
+    ("sheet, 64 subjects, 128 rules with labels", week, full, WITH_LABELS, "(sheet zz)"),
     ("query, 16 steps `//*`", deep, full, FIVE, "(query " + "//*" * 16 + ")"),
     ("query, nested brackets", deep, full, FIVE, "(query //*[*//*[*//*[*//zz]]])"),
     ("query, `//*[5000]`", flat, full, FIVE, "(query //*[5000])"),
@@ -112,8 +113,9 @@ through the same C call, turn by turn in one process, from the same bytes; both 
 is Rattle over Rust, so below 1 Rattle is faster. Instructions are counted by callgrind, which other work on the machine does not disturb, with the C library
 kept from `rep stosb` and `rep movsb`, which callgrind would count once a byte. Growth is from a full table of 1,024 records to one of 16,384, 16 times as many.
 
-The tree is deep (chains under the root, a node a level down to level 11; a label a level), for `//*[5000]` flat. Queries and changes run for one subject under
-five rules `//*`, one a right, so that selecting and changing show; the first two rows have 64 subjects, 128 isa lines and 128 rules, all of subjects that the
+The tree is deep (chains under the root, a node a level down to level 11; a label a level), for `//*[5000]` flat, for the sheet a week of five days with eight
+periods, whose rooms are all looked at, since none has the wanted label. Queries and changes run for one subject under
+five rules `//*`, one a right, so that selecting and changing show; the first three rows have 64 subjects, 128 isa lines and 128 rules, all of subjects that the
 user is. The append starts with 15,016 records, so that a node for each of 1,365 places fits. On a loaded machine times move from run
 to run, by more than the quartiles of one run show; the counts do not.
 

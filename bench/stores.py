@@ -96,6 +96,13 @@ def bottom(nodes=NODES_MAX):
     return [*range(LEVEL_MAX), *[LEVEL_MAX] * (nodes - LEVEL_MAX)]
 
 
+def week(nodes=NODES_MAX):
+    """Five days of eight periods under the root; the other nodes are rooms below the periods, each with a node in it."""
+    rooms = (nodes - 46) // 80
+    levels = [0] + ([1] + ([2] + [3, 4] * rooms) * 8) * 5
+    return levels + [3, 4] * ((nodes - len(levels)) // 2)
+
+
 LEVELS = ["school", "week", "day", "lesson", "class", "group", "room", "note", "item", "line", "part", "word"]
 
 

@@ -31,13 +31,13 @@ extern "C" {
 /* The version of this header: as text, and as a number for #if (1,000,000 for the first part, 1,000 for the second).
  *
  * The library tells no version when it runs. A library that does not fit is found in three ways:
- * - The name that a program asks the system's loader for has the first two parts (liblouvretansy.so.0.2). They change
+ * - The name that a program asks the system's loader for has the first two parts (liblouvretansy.so.0.3). They change
  *   whenever a call, a form, an answer or a byte of state or table is added or changes its meaning.
  * - timetable_library_fits() is 0 if the library's state is of another size.
  * - A state of TIMETABLE_STATE_BYTES that such a library is lent is refused with 13, whatever the line.
  */
-#define TIMETABLE_VERSION "0.2.0"
-#define TIMETABLE_VERSION_NUMBER 2000
+#define TIMETABLE_VERSION "0.3.0"
+#define TIMETABLE_VERSION_NUMBER 3000
 
 /* The most bytes of a line, without its line feed. */
 #define TIMETABLE_MAX_LINE_BYTES 1024
@@ -51,15 +51,20 @@ extern "C" {
 /* The bytes of a table of so many records. Those above TIMETABLE_MAX_RECORDS are never used, and stay zero. */
 #define TIMETABLE_TABLE_BYTES(records) ((size_t)4 + (size_t)32 * (size_t)(records))
 
-/* An area that no answer outgrows, for a table of so many records. A shorter one will do: a line whose answer does not
- * fit is refused with 12. The argument is evaluated twice.
+/* The bytes of the answer to `(sheet ROOM)`, whatever is on the sheet. */
+#define TIMETABLE_SHEET_BYTES 657
+
+/* An area that no answer outgrows, for a table of so many records: those of a sheet, and for each record what a node
+ * takes in a view at most. A shorter one will do: a line whose answer does not fit is refused with 12. The argument is
+ * evaluated twice.
  */
 #define TIMETABLE_AREA_BYTES(records)                                                                                  \
-    ((size_t)12 + (size_t)35 * ((size_t)(records) < (size_t)TIMETABLE_MAX_RECORDS ? (size_t)(records)                  \
-                                                                                  : (size_t)TIMETABLE_MAX_RECORDS))
+    ((size_t)TIMETABLE_SHEET_BYTES +                                                                                   \
+     (size_t)35 * ((size_t)(records) < (size_t)TIMETABLE_MAX_RECORDS ? (size_t)(records)                               \
+                                                                     : (size_t)TIMETABLE_MAX_RECORDS))
 
-/* The free stack that is enough for every call. The most measured is 1,066 KiB, for a path of 16 steps with 16 steps in
- * each of three nested brackets; without brackets it is 236 KiB. The figures are measured, not proved.
+/* The free stack that is enough for every call. The most measured is 1,034 KiB, for a path of 16 steps with 16 steps in
+ * each of three nested brackets; without brackets it is 204 KiB. The figures are measured, not proved.
  */
 #define TIMETABLE_STACK_BYTES 1310720
 

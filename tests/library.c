@@ -194,6 +194,15 @@ static const struct example EXAMPLE[] = {
     {"(rename //note/* cold)", "(done 1 0)\n"},
     {"(find //room/R14)", "(hit 4 R14)\n"},
     {"(find //R12)", "(none)\n"},
+    {"(sheet room)", "  mon          |             |             |             |             |\n"
+                     "1 R14          |             |             |             |             |\n"
+                     "2              |             |             |             |             |\n"
+                     "3              |             |             |             |             |\n"
+                     "4              |             |             |             |             |\n"
+                     "5              |             |             |             |             |\n"
+                     "6              |             |             |             |             |\n"
+                     "7              |             |             |             |             |\n"
+                     "8              |             |             |             |             |\n"},
 };
 
 enum { POLICY_LINES = 7, TREE_LINES = 9, LOGGED_IN = 10, EXAMPLE_LINES = sizeof EXAMPLE / sizeof EXAMPLE[0] };
@@ -633,7 +642,8 @@ static size_t most_stack(struct store store, int nesting) {
                  {"append", " (y)"}, {"before", " (y)"}, {"after", " (y)"}, {"remove", ""}};
     char path[256];
     char line[TIMETABLE_MAX_LINE_BYTES];
-    size_t most = stack_of(store, "(view)");
+    size_t view = stack_of(store, "(view)"), sheet = stack_of(store, "(sheet room)");
+    size_t most = view > sheet ? view : sheet;
     write_path(path, nesting);
     for (size_t i = 0; i < sizeof forms / sizeof forms[0]; i++) {
         write_line(line, forms[i].word, path, forms[i].rest);
@@ -680,7 +690,7 @@ static void sizes(void) {
     int major, minor, patch;
     char rest;
     CHECK("the bytes of a state", timetable_state_bytes() == TIMETABLE_STATE_BYTES && timetable_library_fits());
-    CHECK("an area", TIMETABLE_AREA_BYTES(0) == 12 && TIMETABLE_AREA_BYTES(1) == 12 + 35);
+    CHECK("an area", TIMETABLE_AREA_BYTES(0) == TIMETABLE_SHEET_BYTES);
     CHECK("an area", TIMETABLE_AREA_BYTES(TIMETABLE_MAX_RECORDS - 1) < TIMETABLE_AREA_BYTES(TIMETABLE_MAX_RECORDS));
     CHECK("an area", TIMETABLE_AREA_BYTES(TIMETABLE_MAX_RECORDS + 1) == TIMETABLE_AREA_BYTES(TIMETABLE_MAX_RECORDS));
     CHECK("an area", TIMETABLE_AREA_BYTES(-1) == TIMETABLE_AREA_BYTES(TIMETABLE_MAX_RECORDS));

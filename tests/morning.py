@@ -1,9 +1,9 @@
 #!/usr/bin/env python3
 """morning.py [--schools N] [--readers N] [--classes N] [ARCHIVE]: a morning of the group. For each school a store is
-made, the policy is given, the solver's week is loaded, and every reader's view is published. Tells how many seconds it
-took, and how many of them the library. One small school if nothing is given; the group has 9 schools with 60 readers
-and 24 classes. The library is made from the archive, target/staticlib/liblouvretansy.a unless another is named. Needs
-gcc.
+made, the policy is given, the solver's week is loaded, every reader's view is published, and a sheet for each room door
+is written as the website sees the week. Tells how many seconds it took, and how many of them the library. One small
+school if nothing is given; the group has 9 schools with 60 readers and 24 classes. The library is made from the
+archive, target/staticlib/liblouvretansy.a unless another is named. Needs gcc.
 """
 
 import argparse
@@ -85,9 +85,10 @@ def command(*words):
 
 
 def school(folder, tree, readers):
-    """One school, from nothing to its pages: what was published by reader, the store, and the folder of the pages."""
+    """One school, from nothing to its pages and sheets: what was published by reader, the store, and both folders."""
     os.mkdir(folder)
-    store, policy, document, pages = (os.path.join(folder, name) for name in ("store", "policy", "week.xml", "www"))
+    names = ("store", "policy", "week.xml", "www", "doors")
+    store, policy, document, pages, doors = (os.path.join(folder, name) for name in names)
     lines = policy_of(tree, readers)
     with open(policy, "w", encoding="ascii") as file:
         file.write("".join(line + "\n" for line in lines))
@@ -97,7 +98,19 @@ def school(folder, tree, readers):
     command("run", "-q", store, policy)
     command("load", store, document)
     told = json.loads(command("publish", store, "--out", pages, "--json"))["readers"]
-    return {one["reader"]: one for one in told}, store, pages
+    command("sheets", store, "--as", "web", "--out", doors)
+    return {one["reader"]: one for one in told}, store, pages, doors
+
+
+def check_doors(tree, doors):
+    """Every room has a sheet, and every lesson of the week stands on one."""
+    rooms = [room for _, periods in tree[1] for _, rooms in periods for room, _ in rooms]
+    assert len(os.listdir(doors)) == len(set(rooms))
+    cells = 0
+    for name in os.listdir(doors):
+        with open(os.path.join(doors, name), encoding="ascii") as file:
+            cells += sum(bool(cell.strip()) for row in file.readlines()[1:] for cell in row[2:].split("|"))
+    assert cells == len(rooms)
 
 
 def check(told, tree, readers, store, pages):
@@ -123,14 +136,16 @@ def main():
         begun = time.perf_counter()
         done = [school(os.path.join(folder, f"school{k}"), tree, options.readers) for k, tree in enumerate(trees)]
         seconds, share, calls = time.perf_counter() - begun, clock.seconds, clock.calls
-        size = sum(os.path.getsize(os.path.join(pages, name)) for _, _, pages in done for name in os.listdir(pages))
-        for (told, store, pages), tree in zip(done, trees):
+        size = sum(os.path.getsize(os.path.join(pages, name)) for _, _, pages, _ in done for name in os.listdir(pages))
+        sheets = sum(len(os.listdir(doors)) for *_, doors in done)
+        for (told, store, pages, doors), tree in zip(done, trees):
             check(told, tree, options.readers, store, pages)
+            check_doors(tree, doors)
             shutil.rmtree(pages)
     views = options.schools * options.readers
     numbers = (options.schools, "school"), (sum(map(count_nodes, trees)), "node"), (views, "view")
     told = ", ".join(cli.counted(*number) for number in numbers)
-    print(f"{told}, {size / 2**20:,.1f} MiB of pages: {seconds:.1f} s")
+    print(f"{told}, {size / 2**20:,.1f} MiB of pages, {cli.counted(sheets, 'sheet')}: {seconds:.1f} s")
     print(f"the library: {share:.2f} s in {calls:,} calls, {100 * share / seconds:.1f} % of it")
 
 

@@ -9,6 +9,7 @@ import ast
 import collections
 import contextlib
 import csv
+import errno
 import glob
 import importlib
 import io
@@ -43,13 +44,20 @@ from timetable_office.documents import explain_document  # noqa: E402
 from timetable_office.errors import InputError  # noqa: E402
 from timetable_office.export import export_document, export_lines, policy_lines  # noqa: E402
 from timetable_office.formats import LOG_FORMATS, VIEW_FORMATS  # noqa: E402
-from timetable_office.library import LINE_MAXIMUM, RECORDS_MAXIMUM, Library, Refused, Session  # noqa: E402
+from timetable_office.library import (  # noqa: E402
+    LINE_MAXIMUM,
+    RECORDS_MAXIMUM,
+    SHEET_BYTES,
+    Library,
+    Refused,
+    Session,
+)
 from timetable_office.lines import split_lines  # noqa: E402
 from timetable_office.replace import replace_policy  # noqa: E402
 from timetable_office.runs import run_lines  # noqa: E402
 from timetable_office.state import read_policy  # noqa: E402
 from timetable_office.store import Store  # noqa: E402
-from timetable_office.tree import Node, read_table, read_view, tree_text  # noqa: E402
+from timetable_office.tree import Node, read_table, read_view, subtree_end, tree_text  # noqa: E402
 from timetable_office.views import log_in, view_of  # noqa: E402
 
 ARCHIVE = os.path.join(ROOT, "target", "staticlib", "liblouvretansy.a")
@@ -69,6 +77,22 @@ EDITOR = [
     "(rule accept insert //* editor)",
     "(rule accept delete //* editor)",
 ]
+
+# A library that passes every call on to another, lines with the form `sheet` apart.
+OLDER = """
+#include <dlfcn.h>
+#include <stddef.h>
+#include <string.h>
+typedef long call(void *, size_t, void *, size_t, const char *, size_t, void *, size_t);
+static void *found(const char *name) { return dlsym(dlopen(%s, RTLD_NOW), name); }
+size_t timetable_state_bytes(void) { return ((size_t (*)(void))found("timetable_state_bytes"))(); }
+long timetable_line(void *s, size_t sn, void *t, size_t tn, const char *l, size_t ln, void *a, size_t an) {
+    return ln > 6 && memcmp(l, "(sheet", 6) == 0 ? -2 : ((call *)found("timetable_line"))(s, sn, t, tn, l, ln, a, an);
+}
+long timetable_load_xml(void *s, size_t sn, void *t, size_t tn, const char *x, size_t xn, void *a, size_t an) {
+    return ((call *)found("timetable_load_xml"))(s, sn, t, tn, x, xn, a, an);
+}
+"""
 
 library_file = ""
 library: Library
@@ -188,6 +212,12 @@ class Office(unittest.TestCase):
         yield
         self.assertEqual({name: self.read(name) for name in os.listdir(self.folder)}, before)
 
+    def make_other(self, source):
+        """Another library, other.so."""
+        self.write("other.c", source)
+        words = ["gcc", "-shared", "-fPIC", "-o", self.path("other.so"), self.path("other.c"), "-ldl"]
+        subprocess.run(words, check=True)
+
     def holds(self, data):
         """Whether any file of the folder has these bytes."""
         return any(data in self.read(name) for name in os.listdir(self.folder))
@@ -196,7 +226,7 @@ class Office(unittest.TestCase):
 class Package(Office):
     def test_version_and_help(self):
         self.assertEqual(self.office("--version", process=True), f"timetable-office {__version__}\n")
-        for command in ("new", "run", "load", "policy", "show", "log", "export"):
+        for command in ("new", "run", "load", "policy", "show", "sheets", "log", "export"):
             self.assertIn(command, self.office("--help"))
             self.assertIn("STORE", self.office(command, "--help"))
 
@@ -290,7 +320,9 @@ class Completions(Office):
         self.assertEqual(self.completed("log", "store", "--format", "=", "js"), {"json"})
         self.assertEqual(self.completed("log", "--format", "="), set(LOG_FORMATS))
         self.assertEqual(self.completed("show", "--as", ""), set())
-        self.assertEqual(self.completed("publish", "--out", "p"), {"pages"})
+        for command in ("publish", "sheets"):
+            self.assertEqual(self.completed(command, "--out", "p"), {"pages"})
+        self.assertEqual(self.completed("sheets", "--room", ""), set())
         self.assertEqual(self.completed("map", "--out", "p"), {"pages", "plan.xml"})
         self.assertEqual(self.completed("load", "store", "pl"), {"plan.xml"})
         self.assertEqual(self.completed("--completions", "b"), {"bash"})
@@ -324,7 +356,7 @@ class Completions(Office):
             for word in command.words
         }
         files = {"FILE", "FILE.xml", "FILE.html", "STORE", "STORE|FILE"}
-        others = {None, "SHELL", "SECONDS", "N", "NAME", "FORMAT", "PATH"}
+        others = {None, "SHELL", "SECONDS", "N", "NAME", "ROOM", "FORMAT", "PATH"}
         self.assertEqual(set(values), files | {"DIR"} | others)
         self.assertEqual({value for value, (file, _) in values.items() if file}, files)
         self.assertEqual({value for value, (_, folder) in values.items() if folder}, {"DIR"})
@@ -404,20 +436,21 @@ class Readme(Office):
             else:
                 self.assertEqual(kind, "python")
                 exec(content, {})
-        self.assertEqual(seen, {"school.lines", "week.xml", "console", "python"})
+        self.assertEqual(seen, {"school.lines", "rooms.lines", "week.xml", "console", "python"})
 
     def test_the_examples_of_the_man_page(self):
         """Every command is done, with the policy and the file of examples/, and the last ones give the store again."""
         self.make_command()
-        for name in ("policy.lines", "week.xml"):
+        for name in ("policy.lines", "week.xml", "doors.lines"):
             self.write(name, read_page(f"examples/{name}"))
         page = read_page("office/timetable-office.1").replace("\\-", "-")
         examples = re.findall(r"^\.EX\n(.*?)^\.EE$", page, re.M | re.S)
-        self.assertEqual(len(examples), 3)
+        self.assertEqual(len(examples), 4)
         for command in "".join(examples).splitlines():
             printed = self.shell(f"{command}; echo status $?")
             self.assertEqual(printed.splitlines()[-1], "status 0", printed)
         self.assertIn("view-SHA~7.html", os.listdir(self.path("www")))
+        self.assertEqual(set(os.listdir(self.path("doors"))), {"sheet-R12~4.txt", "sheet-hall.txt"})
         self.assertEqual(self.office("export", "again"), self.office("export", "school"))
 
     def make_command(self):
@@ -504,10 +537,6 @@ class Binding(Office):
         self.write("text.so", "no library")
         self.office("new", "store", "--library", "text.so", status=3, says="cannot be loaded as a library")
         self.assertFalse(os.path.exists(self.store))
-
-    def make_other(self, source):
-        self.write("other.c", source)
-        subprocess.run(["gcc", "-shared", "-o", self.path("other.so"), self.path("other.c")], check=True)
 
     def test_another_library(self):
         self.make_other("int other;")
@@ -980,6 +1009,181 @@ class Show(Office):
                 self.office(*words.split(" "), before=before, status=3, says=says)
             before = ["bash", "-c", 'exec "$@" 2>&-', "bash"]
             self.assertEqual(self.office("show", "store", "--as", "nobody", before=before, status=1), "")
+
+
+def expected_sheet(nodes, room):
+    """The sheet of a room as document 02 tells it, from the nodes of a view."""
+
+    def children(number):
+        end = subtree_end(nodes, number)
+        return [k for k in range(number + 1, end) if nodes[k].level == nodes[number].level + 1]
+
+    def lesson(day, period):
+        periods = children(day)
+        rooms = [k for k in children(periods[period]) if nodes[k].label == room] if period < len(periods) else []
+        return nodes[children(rooms[0])[0]].label if rooms and children(rooms[0]) else ""
+
+    def row(begin, labels):
+        return f"{begin} " + "".join(f"{label[:13]:13}|" for label in (labels + [""] * 5)[:5]) + "\n"
+
+    days = children(0)[:5] if nodes else []
+    rows = [row(period + 1, [lesson(day, period) for day in days]) for period in range(8)]
+    return row(" ", [nodes[day].label for day in days]) + "".join(rows)
+
+
+class Sheets(Office):
+    """The sheets of room doors."""
+
+    def doors(self, rules="", changed=("", "")):
+        """A store with the week of examples/doors.lines, these rules after its own, and a part of it changed."""
+        given = read_page("examples/doors.lines").replace("(root school)\n", f"{rules}(root school)\n")
+        self.office("new", "store", "--records", "128", says="an empty store")
+        self.office("run", "-q", "store", given=given.replace(*changed))
+
+    def sheets(self, *words, says="sheets of store", **more):
+        return self.office("sheets", "store", *words, "--out", "doors", says=says, **more)
+
+    def files(self, folder="doors"):
+        """The files of a folder, each with its text."""
+        return {name: self.read(os.path.join(folder, name)).decode() for name in os.listdir(self.path(folder))}
+
+    def nodes(self, name):
+        return read_view(self.office("show", "store", "--as", name, "--format", "lines").encode())
+
+    def test_every_room(self):
+        self.doors()
+        before = self.read()
+        told = json.loads(self.sheets("--as", "door", "--json", process=True))
+        self.assertEqual(self.errors, "doors: 3 sheets of store for door\n")
+        files = {"R12": "sheet-R12~4.txt", "hall": "sheet-hall.txt", "R20": "sheet-R20~4.txt"}
+        rows = [{"room": room, "file": file, "blank": False} for room, file in files.items()]
+        self.assertEqual(told, {"folder": self.path("doors"), "reader": "door", "sheets": rows, "dropped": []})
+        wanted = {file: expected_sheet(self.nodes("door"), room) for room, file in files.items()}
+        self.assertEqual(self.files(), wanted)
+        self.assertEqual(self.read(), before)
+        self.assertEqual(sorted(os.listdir(self.folder)), ["doors", "store"])
+        answers = self.office("run", "store", given="(user door)\n(sheet R12)\n(sheet hall)\n(sheet R20)\n")
+        self.assertEqual(answers, "(ok)\n" + "".join(wanted.values()))
+
+    def test_what_the_reader_sees(self):
+        """No label that is hidden from the reader is in a file, and none depends on what is hidden."""
+        made = []
+        for changed in (
+            ("", ""),
+            ("(child (mon", "(child (counselling (p1 (R12 (Kim)))))\n(child (mon"),
+            ("(child (mon", "(child (mon (counselling (R12 (Kim)))"),
+            ("(R12 (counselling))", "(counselling (Kim))"),
+        ):
+            self.doors(changed=changed)
+            for name in ("staff", "door"):
+                self.sheets("--as", name)
+                made.append(self.files())
+            os.unlink(self.store)
+        self.assertTrue(all(door == made[1] for door in made[1::2]))
+        self.assertTrue(all(staff != made[0] for staff in made[2::2]))
+        self.assertIn("counselling", "".join(made[0].values()))
+        self.assertNotRegex("".join(made[1].values()), "counsel|exam|interview|Kim")
+
+    def test_rooms_that_are_shown(self):
+        self.doors("(rule deny read //hall door)\n(rule accept position //hall door)\n")
+        self.sheets("--as", "door", says="2 sheets of store for door")
+        self.assertEqual(set(self.files()), {"sheet-R12~4.txt", "sheet-R20~4.txt"})
+        self.sheets("--as", "door", "--room", "RESTRICTED", says="no longer there: sheet-R12~4.txt, sheet-R20~4.txt")
+        (text,) = self.files().values()
+        self.assertEqual(text, expected_sheet(self.nodes("door"), "RESTRICTED"))
+        self.assertIn("assembly", text)
+
+    def test_a_solvers_week(self):
+        lines = ["(subject door)", "(rule accept read //* door)", "(rule deny read //lesson door)"]
+        self.office("new", "store", says="an empty store")
+        self.office("run", "-q", "store", given=lines)
+        self.office("load", "store", "-", given=week.document_of(week.week()), says="nodes from")
+        told = json.loads(self.sheets("--as", "door", "--json"))["sheets"]
+        nodes = self.nodes("door")
+        self.assertEqual({sheet["room"] for sheet in told}, {node.label for node in nodes if node.level == 3})
+        self.assertGreater(len(told), 30)
+        wanted = {sheet["file"]: expected_sheet(nodes, sheet["room"]) for sheet in told}
+        self.assertEqual(self.files(), wanted)
+
+    def test_rooms_that_are_named(self):
+        self.doors()
+        self.sheets("--as", "door", "--room", "hall", "--room", "R21", "--room", "hall", says="2 sheets of store")
+        self.assertIn("doors: note: the sheet of R21 is blank\n", self.errors)
+        self.assertNotIn("hall is blank", self.errors)
+        self.assertEqual(set(self.files()), {"sheet-hall.txt", "sheet-R21~4.txt"})
+        names = [".", "..", "-x", "con", "r12", "R12", "sheet", "A" * 24]
+        self.sheets("--as", "door", *(f"--room={name}" for name in names), says="8 sheets of store")
+        files = list(self.files())
+        self.assertEqual(len({file.lower() for file in files}), len(names))
+        self.assertTrue(all(re.fullmatch(r"sheet-[A-Za-z0-9,_~-]+\.txt", file) for file in files), files)
+
+    def test_the_root_is_hidden(self):
+        self.doors("(rule deny read /school door)\n")
+        self.sheets("--as", "door", status=1, says="no room is shown to door")
+        self.assertFalse(os.path.exists(self.path("doors")))
+        self.sheets("--as", "door", "--room", "R12", says="the sheet of R12 is blank")
+        self.assertEqual(list(self.files().values()), [expected_sheet([], "R12")])
+
+    def test_nothing_to_write(self):
+        self.doors()
+        self.sheets("--as", "door")
+        before = self.files()
+        for words, says in (
+            (["--as", "Door"], "did you mean door?"),
+            (["--as", "door", "--room", "R12", "--room", "*"], "'*' cannot be a room: refused 2"),
+            (["--as", "door", "--room", "$"], "'$' cannot be a room: refused 2"),
+            (["--as", "door", "--room", "R12)(view"], "cannot be a room: refused 2"),
+            (["--as", "door", "--room", "x" * 25], "cannot be a room: refused 2"),
+            (["--as", "door", "--room", "R12)\n(view"], "cannot be a room: refused 1"),
+        ):
+            self.assertEqual(self.sheets(*words, status=1, says=says), "")
+            self.assertIn("doors is as it was, and nothing is published", self.errors)
+            self.assertEqual(self.files(), before)
+        self.sheets(status=2, says="--as")
+        self.office("sheets", "store", "--as", "door", status=2, says="--out")
+        self.office("new", "empty", says="an empty store")
+        self.office("run", "-q", "empty", given="(subject door)\n")
+        self.office("sheets", "empty", "--as", "door", "--out", "none", status=1, says="no tree yet")
+        self.assertEqual(sorted(os.listdir(self.folder)), ["doors", "empty", "store"])
+
+    def test_what_is_in_the_way(self):
+        """Sheets alone are replaced, and by sheets alone; on an error the old ones stay."""
+        self.doors()
+        self.sheets("--as", "door")
+        self.office("publish", "store", "--out", "www", says="2 views")
+        pages = self.files("www")
+        self.office("sheets", "store", "--as", "door", "--out", "www", status=3, says="such as index.html")
+        self.office("publish", "store", "--out", "doors", status=3, says="such as sheet-R12~4.txt")
+        before = self.files()
+        for name, text in (("R12.txt", before["sheet-R12~4.txt"]), ("sheet-x.txt", "mine"), ("sheet-x.html", "mine")):
+            self.write(os.path.join("doors", name), text)
+            self.sheets("--as", "staff", status=3, says="has files that were not published")
+            os.unlink(self.path(os.path.join("doors", name)))
+            self.assertEqual(self.files(), before)
+        full = OSError(errno.ENOSPC, "No space left on device")
+        for step in ("fsync", "chmod", "rename"):
+            with mock.patch.object(os, step, side_effect=full):
+                self.sheets("--as", "staff", status=3, says="nothing is published: No space left")
+            self.assertEqual(self.files(), before)
+        self.assertEqual(self.files("www"), pages)
+        self.assertEqual(sorted(os.listdir(self.folder)), ["doors", "store", "www"])
+        self.sheets("--as", "staff")
+        self.assertNotEqual(self.files(), before)
+
+    def test_an_older_library(self):
+        """One that refuses sheets with 2, and is this one in all else, is told before anything is done."""
+        self.doors()
+        self.make_other(OLDER % json.dumps(library_file))
+        says = "other.so is of another version: it does not take the usual lines"
+        with self.unchanged():
+            self.sheets("--as", "door", "--library", "other.so", status=3, says=says)
+            self.office("show", "store", "--as", "door", "--library", "other.so", status=3, says=says)
+
+    def test_the_smallest_table(self):
+        session = library.session(records=1)
+        for line in (b"(subject door)", b"(root school)", b"(user door)"):
+            session.line(line)
+        self.assertEqual(len(session.line(b"(sheet R12)")), SHEET_BYTES)
 
 
 class Log(Office):
@@ -1475,6 +1679,8 @@ class Faults(Office):
             )
             self.office("new", "other", before=before, status=3, says="other cannot be made: Permission denied")
             self.office("publish", "store", "--out", "www", before=before, status=3, says="Permission denied")
+            rooms = ["--as", "SHA", "--room", "room", "--out", "doors"]
+            self.office("sheets", "store", *rooms, before=before, status=3, says="Permission denied")
             self.office("map", "store", "--out", "map.html", before=before, status=3, says="Permission denied")
             self.assertEqual(self.office("show", "store", "--as", "SHA", before=before), OUTLINE)
             os.chmod(self.store, 0o400)
@@ -1556,6 +1762,7 @@ class Faults(Office):
                 (["load", "empty", "-"], week),
                 (["policy", "store"], text_of(EDITOR).encode()),
                 (["publish", "store", "--out", "www"], b""),
+                (["sheets", "store", "--as", "editor", *(f"--room=R{k}" for k in range(8)), "--out", "doors"], b""),
                 (["map", "store", "--out", "map.html"], b""),
                 (["new", "other"], b""),
             ):
@@ -1571,7 +1778,7 @@ class Faults(Office):
                 self.assertEqual(status, 0)
                 self.assertNotEqual(self.files(), before)
             self.assertGreaterEqual(min(failed.values()), 2)
-            self.assertEqual(len(failed), 6)
+            self.assertEqual(len(failed), 7)
             self.leave_free(0)
             with open(self.path("printed"), "wb") as printed:
                 says = "the answer cannot be written: No space left"

@@ -40,14 +40,15 @@ import timetable  # noqa: E402
 import week  # noqa: E402
 from office import ARCHIVE, COLUMNS, OFFICE, SECONDS, in_this_process, make_library  # noqa: E402
 
-from timetable_office import publish  # noqa: E402
+from timetable_office import folders, publish  # noqa: E402
 from timetable_office.decisions import Decider  # noqa: E402
 from timetable_office.errors import OutputError  # noqa: E402
+from timetable_office.folders import file_stem  # noqa: E402
 from timetable_office.library import Library  # noqa: E402
 from timetable_office.maps import Foot, map_page  # noqa: E402
 from timetable_office.pages import Publication, Row, index, lesson_level, page, view_html  # noqa: E402
 from timetable_office.places import node_paths  # noqa: E402
-from timetable_office.publish import file_stem, publish_views  # noqa: E402
+from timetable_office.publish import publish_views  # noqa: E402
 from timetable_office.state import read_policy  # noqa: E402
 from timetable_office.store import Store  # noqa: E402
 from timetable_office.tree import RESTRICTED, Node, read_table, read_view  # noqa: E402
@@ -328,7 +329,7 @@ class Pages(unittest.TestCase):
 
 def row_of(name):
     """The row of a reader in the index."""
-    return Row(name, *(file_stem(name) + ending for ending in (".html", ".csv", ".json")))
+    return Row(name, *(file_stem("view", name) + ending for ending in (".html", ".csv", ".json")))
 
 
 def mark_of(text):
@@ -388,7 +389,7 @@ class Publishing(unittest.TestCase):
         self.office("publish", "store", "--out", "www", says="www: 2 views of store\n")
         for name, nodes in self.whole()[0].items():
             self.assertEqual(nodes, read_view(self.office("show", "store", "--as", name, "--format", "lines").encode()))
-            stem = os.path.join(self.out, file_stem(name))
+            stem = os.path.join(self.out, file_stem("view", name))
             shown = self.office("show", "store", "--as", name, "--format", "csv")
             self.assertEqual(Path(f"{stem}.csv").read_text(), shown)
             shown = self.office("show", "store", "--as", name, "--format", "json")
@@ -444,22 +445,22 @@ class Publishing(unittest.TestCase):
         names += ["_", "a_b", "A" * 24, "a" * 24, "x.gz", "7"]
         self.store([*(f"(subject {name})" for name in names), "(root school)"])
         self.office("publish", "store", "--out", "www")
-        stems = {file_stem(name) for name in names}
+        stems = {file_stem("view", name) for name in names}
         files = os.listdir(self.out)
         self.assertEqual(len({file.lower() for file in files}), 1 + 3 * len(names))
         self.assertEqual({file.rpartition(".")[0] for file in files}, stems | {"index"})
         for name in names:
-            self.assertEqual(json.loads(Path(self.out, file_stem(name) + ".json").read_text())["reader"], name)
+            self.assertEqual(json.loads(Path(self.out, file_stem("view", name) + ".json").read_text())["reader"], name)
         rand = random.Random(24)
         short = ["".join(letters) for size in (1, 2) for letters in itertools.product(LABEL_BYTES, repeat=size)]
         long = ["".join(rand.choices(LABEL_BYTES, k=rand.randint(3, 24))) for _ in range(20000)]
         tried = {*short, *long}
-        self.assertEqual(len({file_stem(name).lower() for name in tried}), len(tried))
+        self.assertEqual(len({file_stem("view", name).lower() for name in tried}), len(tried))
         for name in tried:
-            self.assertRegex(file_stem(name), r"\Aview-[A-Za-z0-9,_~-]{1,31}\Z")
-            self.assertTrue(publish._PUBLISHED.fullmatch(file_stem(name) + ".csv"), name)
+            self.assertRegex(file_stem("view", name), r"\Aview-[A-Za-z0-9,_~-]{1,31}\Z")
+            self.assertTrue(publish._NAMES.fullmatch(file_stem("view", name) + ".csv"), name)
         for name in ("", "a/b", "a b", "x" * 25, "a\n", "\u00e9"):
-            self.assertRaises(ValueError, file_stem, name)
+            self.assertRaises(ValueError, file_stem, "view", name)
 
     def test_what_is_in_the_way(self):
         self.store()
@@ -529,8 +530,8 @@ class Publishing(unittest.TestCase):
     def test_no_exchange(self):
         """A file system that cannot exchange folders takes the first publication and keeps it."""
         session = store_of(EXAMPLE)
-        function = mock.Mock(side_effect=lambda *_: publish.ctypes.set_errno(errno.EINVAL) or -1)
-        with mock.patch.object(publish.ctypes, "CDLL", return_value=mock.Mock(renameat2=function)):
+        function = mock.Mock(side_effect=lambda *_: folders.ctypes.set_errno(errno.EINVAL) or -1)
+        with mock.patch.object(folders.ctypes, "CDLL", return_value=mock.Mock(renameat2=function)):
             publish_views(lambda: session, [], self.out, 0)
             function.assert_not_called()
             before = self.files()
@@ -544,14 +545,14 @@ class Publishing(unittest.TestCase):
         self.store()
         self.office("publish", "store", "--out", "www")
         mark = self.whole()[1]
-        exchange = publish.exchange
+        exchange = folders.exchange
 
         def exchange_with_more(new, old):
             Path(old, "mine.txt").write_text("mine")
             exchange(new, old)
 
-        with mock.patch.object(publish, "exchange", exchange_with_more):
-            self.office("publish", "store", "--out", "www", status=3, says="has all new pages, but the old ones are")
+        with mock.patch.object(folders, "exchange", exchange_with_more):
+            self.office("publish", "store", "--out", "www", status=3, says="has all new files, but the old ones are")
         self.assertNotEqual(self.whole()[1], mark)
         kept = Path(self.folder, ".www.publishing", "pages", "mine.txt")
         self.assertEqual(kept.read_text(), "mine")

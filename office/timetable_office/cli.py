@@ -24,6 +24,7 @@ from timetable_office.lines import STANDARD_INPUT, Lines, read_lines, read_sourc
 from timetable_office.publish import Published, publish_views
 from timetable_office.replace import replace_policy
 from timetable_office.runs import Answered, RefusedLine, run_lines
+from timetable_office.sheets import Sheets, write_sheets
 from timetable_office.state import read_policy
 from timetable_office.store import WAIT_SECONDS, Contents, Store, create_store
 from timetable_office.tree import read_table, read_view
@@ -231,8 +232,7 @@ def publish(options: argparse.Namespace) -> int:
     for reader in done.readers:
         if reader.nodes == 0:
             say(f"{options.out}: note: {reader.name} is shown nothing")
-    if done.dropped:
-        say(f"{options.out}: note: no longer there: {', '.join(done.dropped)}")
+    tell_dropped(options.out, done.dropped)
     say(f"{options.out}: {counted(len(done.readers), 'view')} of {options.store}")
     if options.json:
         put(published_json(done))
@@ -251,6 +251,34 @@ def published_json(done: Published) -> str:
         "dropped": done.dropped,
     }
     return json.dumps(made, indent=2) + "\n"
+
+
+def sheets(options: argparse.Namespace) -> int:
+    """Writes the sheets of room doors as one reader sees them, all of them or none. The store stays as it is."""
+    library = load_library(options.library)
+    with Store(options.store, options.wait) as store:
+        done = write_sheets(lambda: store.session(library), options.name, options.rooms, options.out, options.wait)
+    for sheet in done.sheets:
+        if sheet.blank:
+            say(f"{options.out}: note: the sheet of {sheet.room} is blank")
+    tell_dropped(options.out, done.dropped)
+    say(f"{options.out}: {counted(len(done.sheets), 'sheet')} of {options.store} for {done.reader}")
+    if options.json:
+        put(sheets_json(done))
+    return DONE
+
+
+def sheets_json(done: Sheets) -> str:
+    """The sheets that were written as JSON."""
+    sheets = [sheet._asdict() for sheet in done.sheets]
+    made = {"folder": done.folder, "reader": done.reader, "sheets": sheets, "dropped": done.dropped}
+    return json.dumps(made, indent=2) + "\n"
+
+
+def tell_dropped(out: str, dropped: Sequence[str]) -> None:
+    """Tells which files of the folder have no successor."""
+    if dropped:
+        say(f"{out}: note: no longer there: {', '.join(dropped)}")
 
 
 def log(options: argparse.Namespace) -> int:
@@ -453,6 +481,27 @@ def make_parser() -> argparse.ArgumentParser:
     made.add_argument("--json", action="store_true", help="print what was published as JSON")
 
     made = command(
+        "sheets",
+        sheets,
+        "write a sheet for each room door into a folder",
+        "Writes a text file for each room, what `(sheet ROOM)` answers to this one subject: a week with a column for\n"
+        "each day and a row for each period. The folder is replaced whole: all its sheets are of one state of the\n"
+        "store, and on any error the old ones stay. Sheets of rooms that are not named go. A folder with other files\n"
+        "in it is never replaced.",
+    )
+    made.add_argument("--as", dest="name", metavar="NAME", required=True, help="the subject whose view it is made from")
+    made.add_argument("--out", metavar="DIR", required=True, help="the folder")
+    made.add_argument(
+        "--room",
+        dest="rooms",
+        metavar="ROOM",
+        action="append",
+        default=[],
+        help="a room; give it once for each (all rooms that the subject is shown below a period)",
+    )
+    made.add_argument("--json", action="store_true", help="print what was written as JSON")
+
+    made = command(
         "policy",
         policy,
         "give a stored tree new rules",
@@ -542,7 +591,7 @@ def main(words: Sequence[str] | None = None) -> int:
         complain(str(error) if isinstance(error, RefusedLine | RefusedDocument) else f"{PROGRAM}: {error}")
         if isinstance(error, InputError) and options.work in (run, load, policy):
             say(f"{PROGRAM}: {options.store} is as it was")
-        if isinstance(error, InputError) and options.work is publish:
+        if isinstance(error, InputError) and options.work in (publish, sheets):
             say(f"{PROGRAM}: {options.out} is as it was, and nothing is published")
         return error.status
     except KeyboardInterrupt:

@@ -5,7 +5,7 @@ from __future__ import annotations
 import os
 
 from timetable_office.errors import LibraryError
-from timetable_office.library import Library, Refused
+from timetable_office.library import SHEET_BYTES, Library, Refused
 from timetable_office.state import STATE_BYTES, Stage, read_policy, stage_of, user_of
 from timetable_office.tree import Node, read_table, read_view
 
@@ -34,6 +34,7 @@ def load_library(path: str | os.PathLike[str] | None = None) -> Library:
         for line in _POLICY + _TREE:
             session.line(line)
         view = read_view(session.line(b"(view)"))
+        sheet = session.line(b"(sheet b)")
     except Refused as refused:
         raise LibraryError(f"{library.path} is of another version: it does not take the usual lines") from refused
     state = session.state
@@ -41,6 +42,7 @@ def load_library(path: str | os.PathLike[str] | None = None) -> Library:
         read_policy(state).lines() == _POLICY
         and (stage_of(state), user_of(state)) == (Stage.WORK, "b")
         and read_table(session.table) == view == _NODES
+        and len(sheet) == SHEET_BYTES
     )
     if not as_known:
         raise LibraryError(f"{library.path} is of another version: its bytes are not laid out as in docs/FORMAT.md")

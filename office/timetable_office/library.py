@@ -31,6 +31,7 @@ RECORDS_MAXIMUM = 16_384
 RECORD_BYTES = 32
 COUNT_BYTES = 4
 LINE_MAXIMUM = 1_024
+SHEET_BYTES = 657
 
 LIBRARY_VARIABLE = "TIMETABLE_LIBRARY"
 LIBRARY_NAME = "louvretansy"
@@ -56,8 +57,8 @@ def table_bytes(records: int) -> int:
 
 
 def area_bytes(records: int) -> int:
-    """An area that no answer outgrows, for a table of so many records."""
-    return 12 + 35 * min(records, RECORDS_MAXIMUM)
+    """An area that no answer outgrows, a sheet's neither, for a table of so many records."""
+    return SHEET_BYTES + 35 * min(records, RECORDS_MAXIMUM)
 
 
 def find_library(given: str | os.PathLike[str] | None = None) -> str:

@@ -27,6 +27,9 @@ pub const MAX_RECORDS: usize = 16_384;
 /// The bytes of a state. A library whose [`state_bytes`] are not so many is of another version.
 pub const STATE_BYTES: usize = 68_880;
 
+/// The bytes of the answer to `(sheet ROOM)`, whatever is on the sheet.
+pub const SHEET_BYTES: usize = 657;
+
 /// The free stack that is enough for every call: measured, with an eighth and more to spare.
 pub const STACK_BYTES: usize = 1_310_720;
 
@@ -177,10 +180,11 @@ pub const fn table_bytes(records: usize) -> usize {
     4 + 32 * records
 }
 
-/// An area that no answer outgrows, for a table of so many records.
+/// An area that no answer outgrows, for a table of so many records: those of a sheet, and for each record what a node
+/// takes in a view at most.
 #[must_use]
 pub const fn area_bytes(records: usize) -> usize {
-    12 + 35 * if records < MAX_RECORDS { records } else { MAX_RECORDS }
+    SHEET_BYTES + 35 * if records < MAX_RECORDS { records } else { MAX_RECORDS }
 }
 
 /// What the library returned: the answer's length, or minus the number of a refusal.

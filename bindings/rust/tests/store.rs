@@ -2,7 +2,7 @@
 
 use louvretansy::{
     area_bytes, library_fits, line, load_xml, state_bytes, table_bytes, Refusal, Store, UnknownRefusal, MAX_LINE_BYTES,
-    MAX_RECORDS, STACK_BYTES, STATE_BYTES, VERSION,
+    MAX_RECORDS, SHEET_BYTES, STACK_BYTES, STATE_BYTES, VERSION,
 };
 use std::collections::HashMap;
 use std::fs;
@@ -71,6 +71,7 @@ fn sizes_and_version_are_those_of_the_header() {
     assert_eq!(defined["MAX_LINE_BYTES"], MAX_LINE_BYTES.to_string());
     assert_eq!(defined["MAX_RECORDS"], MAX_RECORDS.to_string());
     assert_eq!(defined["STATE_BYTES"], STATE_BYTES.to_string());
+    assert_eq!(defined["SHEET_BYTES"], SHEET_BYTES.to_string());
     assert_eq!(defined["STACK_BYTES"], STACK_BYTES.to_string());
     assert!(library_fits() && state_bytes() == STATE_BYTES);
     assert_eq!(area_bytes(MAX_RECORDS + 1), area_bytes(MAX_RECORDS));
@@ -195,4 +196,13 @@ fn the_area_holds_the_longest_view() {
     let view = store.line(b"(view)").expect("the area is long enough");
     assert_eq!(view.len(), 32 + 999 * 35 + 11);
     assert!(view.len() <= area_bytes(1000));
+}
+
+#[test]
+fn the_smallest_store_has_room_for_a_sheet() {
+    let mut store = Store::new(1);
+    for line in ["(subject door)", "(rule accept read //* door)", "(root school)", "(user door)"] {
+        assert_eq!(store.line(line.as_bytes()), Ok(b"(ok)\n".to_vec()));
+    }
+    assert_eq!(store.line(b"(sheet R12)").map(|sheet| sheet.len()), Ok(SHEET_BYTES));
 }
