@@ -1,4 +1,5 @@
--- What an accepted `(view)` prints, in literal text: the tree of the nodes that the user is shown. Assumes nothing.
+-- What an accepted `(view)` prints, in literal text: the tree of the nodes that the user is shown. What an accepted `(sheet ROOM)` prints: the sheet of that
+-- tree. Assumes nothing.
 use Prim.Native.Nat.{ℕ, _<_}
 use mathlib.Core.Path.{_≡_, subst, sym, ap, _∙_}
 use mathlib.Core.Bool.{true, false, false≢true}
@@ -6,10 +7,15 @@ use mathlib.Core.List.{List, [], _∷_}
 use native.Mathlib.Omega.{arith}
 use lib.ListN.{length, getD}
 use Rattle.rights.specs.Bytes.{bytes}
+use Rattle.rights.specs.Table.{tableOk}
 use Rattle.views.specs.Shown.{grants}
 use Rattle.views.proofs.TableKept.{length-records}
 use Rattle.views.proofs.ViewLaws.{view-nested, view-hidden, view-rooted}
+use Rattle.rights.specs.Tree.{none}
 use Rattle.answers.specs.Answer.{viewText}
+use Rattle.answers.specs.Sheet.{sheetText}
+use Rattle.answers.specs.SheetTree.{weekSheet, SheetPrinted}
+use Rattle.answers.proofs.SheetTreeLaws.{sheet-printed, sheet-empty}
 use Rattle.answers.specs.AnswerTree.{Printed}
 use Rattle.answers.proofs.AnswerTreeLaws.{view-printed, view-empty}
 use Rattle.forms.specs.declared.layout.Word.the-variants as word
@@ -27,21 +33,43 @@ some-right : (ss : List ℕ) → grants (getD ss 0 0) ≡ true → 0 < length ss
 some-right [] h = absurd (false≢true h)
 some-right (x ∷ ss) h = omega arith
 
-module _ (s t line : List ℕ) (room : ℕ) (text : List ℕ) (form : readForm line ≡ formOf (command word.View tt)) (answered : step s t line room .reply ≡ says text) where
+module _ (s t line : List ℕ) (room : ℕ) (text : List ℕ) (answered : step s t line room .reply ≡ says text) where
   taken : Accepted s t line room
   taken = accepted s t line room text answered
 
-  said : text ≡ viewText (viewIn s t)
-  said = answer-is s t line room text answered ∙ ap (λ (f : ReadForm). workOf f s t .text) form
+  table-ok : tableOk t ≡ true
+  table-ok = store-held s t (taken .passes) .table
 
-  -- "nothing but `(end 0)` if the root is hidden": if the user has neither read nor position on it.
-  pub view-of-hidden-root : grants (getD (rightsIn s t) 0 0) ≡ false → text ≡ bytes "(end 0)\n"
-  view-of-hidden-root h = said ∙ ap viewText (view-hidden t (rightsIn s t) (store-held s t (taken .passes) .table) h) ∙ view-empty
+  -- Where the user has neither read nor position on the root, the view is empty; otherwise it shows the root.
+  hidden : grants (getD (rightsIn s t) 0 0) ≡ false → viewIn s t ≡ []
+  hidden h = view-hidden t (rightsIn s t) table-ok h
 
-  -- Otherwise "`(root L)`, a `(child TREE)` for each shown child, `(end K)`, K shown nodes".
-  pub view-of-shown-root : grants (getD (rightsIn s t) 0 0) ≡ true → Printed (viewIn s t) text
-  view-of-shown-root h =
-      let ok = store-held s t (taken .passes) .table in
+  rooted : grants (getD (rightsIn s t) 0 0) ≡ true → 0 < length (viewIn s t)
+  rooted h =
       let k = some-right (rightsIn s t) h in
-      subst (Printed (viewIn s t)) (sym said)
-      (view-printed (viewIn s t) (view-rooted t (rightsIn s t) ok (omega (arith, k, rights-length s t, length-records t)) k h) (view-nested t (rightsIn s t) ok))
+      view-rooted t (rightsIn s t) table-ok (omega (arith, k, rights-length s t, length-records t)) k h
+
+  module _ (form : readForm line ≡ formOf (command word.View tt)) where
+    view-said : text ≡ viewText (viewIn s t)
+    view-said = answer-is s t line room text answered ∙ ap (λ (f : ReadForm). workOf f s t .text) form
+
+    -- "nothing but `(end 0)` if the root is hidden"
+    pub view-of-hidden-root : grants (getD (rightsIn s t) 0 0) ≡ false → text ≡ bytes "(end 0)\n"
+    view-of-hidden-root h = view-said ∙ ap viewText (hidden h) ∙ view-empty
+
+    -- Otherwise "`(root L)`, a `(child TREE)` for each shown child, `(end K)`, K shown nodes".
+    pub view-of-shown-root : grants (getD (rightsIn s t) 0 0) ≡ true → Printed (viewIn s t) text
+    view-of-shown-root h = subst (Printed (viewIn s t)) (sym view-said) (view-printed (viewIn s t) (rooted h) (view-nested t (rightsIn s t) table-ok))
+
+  module _ (room-label : List ℕ) (form : readForm line ≡ formOf (command word.Sheet (room-label, tt))) where
+    sheet-said : text ≡ sheetText room-label (viewIn s t)
+    sheet-said = answer-is s t line room text answered ∙ ap (λ (f : ReadForm). workOf f s t .text) form
+
+    -- the sheet of no days: nine rows of blank cells
+    pub sheet-of-hidden-root : grants (getD (rightsIn s t) 0 0) ≡ false → text ≡ weekSheet room-label none
+    sheet-of-hidden-root h = sheet-said ∙ ap (sheetText room-label) (hidden h) ∙ sheet-empty room-label
+
+    -- the sheet of the root's trees, in the tree of the nodes that are shown
+    pub sheet-of-shown-root : grants (getD (rightsIn s t) 0 0) ≡ true → SheetPrinted room-label (viewIn s t) text
+    sheet-of-shown-root h =
+        subst (SheetPrinted room-label (viewIn s t)) (sym sheet-said) (sheet-printed room-label (viewIn s t) (rooted h) (view-nested t (rightsIn s t) table-ok))

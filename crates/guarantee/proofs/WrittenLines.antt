@@ -1,5 +1,5 @@
--- Lines as they are written, `(append P TREE)`, `(before P TREE)`, `(after P TREE)`, `(child TREE)`, `(root L)`, `(view)`, `(find P)`: where an accepted insertion lands,
--- what a view prints, what is found. Assumes nothing.
+-- Lines as they are written, `(append P TREE)`, `(before P TREE)`, `(after P TREE)`, `(child TREE)`, `(root L)`, `(view)`, `(sheet ROOM)`, `(find P)`: where an accepted insertion lands,
+-- what a view and a sheet print, what is found. Assumes nothing.
 use Prim.Native.Nat.{ℕ}
 use mathlib.Core.Path.{_≡_, ap, _∙_}
 use mathlib.Core.Bool.{true, false}
@@ -15,6 +15,7 @@ use Rattle.views.specs.declared.insert.Place.{Place}
 use Rattle.views.specs.declared.insert.Place.the-variants as place
 use Rattle.answers.specs.Answer.{okText, doneText, noneLine, hitLine}
 use Rattle.answers.specs.AnswerTree.{Printed}
+use Rattle.answers.specs.SheetTree.{weekSheet, SheetPrinted}
 use Rattle.forms.specs.declared.layout.Word.the-variants as word
 use Rattle.forms.specs.Command.{command, written, GoodCommand}
 use Rattle.forms.specs.Form.{ReadForm}
@@ -27,7 +28,7 @@ use Rattle.store.specs.Line.{step}
 use Rattle.store.proofs.ClauseLaws.{find-clause, find-clause-none}
 use Rattle.guarantee.proofs.Accepted.{answer-is}
 use Rattle.guarantee.proofs.InsertionStep.{insertCommand, root-lands, insert-lands, child-lands}
-use Rattle.guarantee.proofs.ViewStep.{view-of-hidden-root, view-of-shown-root}
+use Rattle.guarantee.proofs.ViewStep.{view-of-hidden-root, view-of-shown-root, sheet-of-hidden-root, sheet-of-shown-root}
 
 module _ (s t : List ℕ) (room : ℕ) (text : List ℕ) where
   pub insert-written : (at : Place) (path : List ℕ) (new : Tree) → GoodCommand (insertCommand at path new) → step s t (written (insertCommand at path new)) room .reply ≡ says text
@@ -52,7 +53,15 @@ module _ (s t : List ℕ) (room : ℕ) (text : List ℕ) where
   unfolding written
   view-written g a =
       let w = written-read (command word.View tt) g in
-      (view-of-hidden-root s t (bytes "(view)") room text w a, view-of-shown-root s t (bytes "(view)") room text w a)
+      (view-of-hidden-root s t (bytes "(view)") room text a w, view-of-shown-root s t (bytes "(view)") room text a w)
+
+  -- `(sheet ROOM)` (document 02, card 3)
+  pub sheet-written : (l : List ℕ) → GoodCommand (command word.Sheet (l, tt)) → step s t (written (command word.Sheet (l, tt))) room .reply ≡ says text
+      → (grants (getD (rightsIn s t) 0 0) ≡ false → text ≡ weekSheet l none) × (grants (getD (rightsIn s t) 0 0) ≡ true → SheetPrinted l (viewIn s t) text)
+  sheet-written l g a =
+      let c = command word.Sheet (l, tt) in
+      let w = written-read c g in
+      (sheet-of-hidden-root s t (written c) room text a l w, sheet-of-shown-root s t (written c) room text a l w)
 
   -- `(find P)`: "the first selected node in document order", or "`(none)` if nothing is selected"
   pub find-written : (path : List ℕ) → GoodCommand (command word.Find (path, tt)) → step s t (written (command word.Find (path, tt))) room .reply ≡ says text
