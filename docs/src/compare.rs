@@ -8,7 +8,8 @@
 
 use std::process::ExitCode;
 use timetable::form::{LINE_MAXIMUM, WORDS};
-use timetable::step::{read_store, Reading, AREA_SHORT, BAD_LABEL, BAD_STORE, NO_DOCUMENT, TABLE_FULL, TOO_DEEP, WRONG_STAGE};
+use timetable::reading::Reading;
+use timetable::step::{read_store, AREA_SHORT, BAD_LABEL, BAD_STORE, NO_DOCUMENT, TABLE_FULL, TOO_DEEP, WRONG_STAGE};
 use timetable::table::{nest, Tree};
 use timetable::testing::engine::{Engine, Straightforward};
 use timetable::testing::generate::{text_of, tree_text};

@@ -10,8 +10,9 @@
 use std::process::ExitCode;
 use timetable::label::{Label, RESTRICTED};
 use timetable::policy::Policy;
+use timetable::reading::{Reading, FALSE_READINGS};
 use timetable::state::{Stage, State};
-use timetable::step::{read_store, step, Reading, Store, FALSE_READINGS, TABLE_FULL};
+use timetable::step::{read_store, step, Store, TABLE_FULL};
 use timetable::table::{flatten, nest, Node, Tree, LEVEL_MAXIMUM};
 use timetable::testing::documents::{document_of, has_document};
 use timetable::testing::engine::{Engine, Straightforward};

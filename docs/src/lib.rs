@@ -6,6 +6,7 @@ pub mod label;
 pub mod path;
 pub mod plain_view;
 pub mod policy;
+pub mod reading;
 pub mod state;
 pub mod step;
 pub mod table;

@@ -4,6 +4,7 @@ use crate::form::{read_form, Form, Place, LINE_MAXIMUM};
 use crate::label::{Label, RESTRICTED};
 use crate::path::{read_path, select, Step};
 use crate::policy::{Policy, Rule, DELETE, INSERT, ISA_MAXIMUM, READ, RULES_MAXIMUM, SUBJECTS_MAXIMUM, UPDATE};
+use crate::reading::Reading;
 use crate::state::{self, Stage, State};
 use crate::table::{self, flatten, nest, nest_inserted, Node, Table, Tree, LEVEL_MAXIMUM};
 use crate::view::{view, View};
@@ -23,63 +24,6 @@ pub const TABLE_FULL: u8 = 11;
 pub const AREA_SHORT: u8 = 12;
 pub const BAD_STORE: u8 = 13;
 pub const NO_DOCUMENT: u8 = 14;
-
-/// How document 01 and the cards are read. All but the first are false, and stand here for the tests of the testers alone.
-#[derive(Clone, Copy, PartialEq, Eq, Debug)]
-pub enum Reading {
-    Right,
-    RenameIntoWord,
-    RenameOfWord,
-    NoOwnNames,
-    UpdateHidden,
-    StoredLabels,
-    CountFreed,
-    SpareHidden,
-    ReadersWords,
-    PlaceByPlace,
-    StoredHits,
-    LastHit,
-    NoneForOneHit,
-    RoomForAllHits,
-    AnyClosingTag,
-    TextDropped,
-    TextNotTrimmed,
-    TextsJoined,
-    SecondRoot,
-    LabelsBeforeDocument,
-    RootNotCounted,
-    RootAloneAtD,
-}
-
-/// Those that make demand 3 false
-pub const FALSE_READINGS: [(&str, Reading); 10] = [
-    ("rename-into-word", Reading::RenameIntoWord),
-    ("rename-of-word", Reading::RenameOfWord),
-    ("no-own-names", Reading::NoOwnNames),
-    ("update-hidden", Reading::UpdateHidden),
-    ("stored-labels", Reading::StoredLabels),
-    ("count-freed", Reading::CountFreed),
-    ("spare-hidden", Reading::SpareHidden),
-    ("readers-words", Reading::ReadersWords),
-    ("place-by-place", Reading::PlaceByPlace),
-    ("stored-hits", Reading::StoredHits),
-];
-
-/// Those that give two trees that look alike the same answers, though not the right ones
-pub const OTHER_ANSWERS: [(&str, Reading); 3] =
-    [("last-hit", Reading::LastHit), ("none-for-one-hit", Reading::NoneForOneHit), ("room-for-all-hits", Reading::RoomForAllHits)];
-
-/// Those of the solver's file
-pub const OTHER_TREES: [(&str, Reading); 8] = [
-    ("any-closing-tag", Reading::AnyClosingTag),
-    ("text-dropped", Reading::TextDropped),
-    ("text-not-trimmed", Reading::TextNotTrimmed),
-    ("texts-joined", Reading::TextsJoined),
-    ("second-root", Reading::SecondRoot),
-    ("labels-before-document", Reading::LabelsBeforeDocument),
-    ("root-not-counted", Reading::RootNotCounted),
-    ("root-alone-at-d", Reading::RootAloneAtD),
-];
 
 /// What 13 lets pass: a state, a table, and the two agreeing on the root.
 #[derive(Clone, Debug)]
