@@ -7,6 +7,7 @@ pub mod path;
 pub mod plain_view;
 pub mod policy;
 pub mod reading;
+pub mod sheet;
 pub mod state;
 pub mod step;
 pub mod table;

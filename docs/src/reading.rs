@@ -17,6 +17,20 @@ pub enum Reading {
     LastHit,
     NoneForOneHit,
     RoomForAllHits,
+    StoredSheet,
+    StoredDays,
+    StoredPeriods,
+    StoredLessons,
+    TrueLabels,
+    TrueRooms,
+    SecondRoom,
+    RoomWithLesson,
+    SixthForFifth,
+    SixDays,
+    LabelsUncut,
+    NoBlankCells,
+    NoRowsForHiddenRoot,
+    NoRestrictedRoom,
     AnyClosingTag,
     TextDropped,
     TextNotTrimmed,
@@ -28,7 +42,7 @@ pub enum Reading {
 }
 
 /// Those that make demand 3 false
-pub const FALSE_READINGS: [(&str, Reading); 10] = [
+pub const FALSE_READINGS: [(&str, Reading); 16] = [
     ("rename-into-word", Reading::RenameIntoWord),
     ("rename-of-word", Reading::RenameOfWord),
     ("no-own-names", Reading::NoOwnNames),
@@ -39,11 +53,28 @@ pub const FALSE_READINGS: [(&str, Reading); 10] = [
     ("readers-words", Reading::ReadersWords),
     ("place-by-place", Reading::PlaceByPlace),
     ("stored-hits", Reading::StoredHits),
+    ("stored-sheet", Reading::StoredSheet),
+    ("stored-days", Reading::StoredDays),
+    ("stored-periods", Reading::StoredPeriods),
+    ("stored-lessons", Reading::StoredLessons),
+    ("true-labels", Reading::TrueLabels),
+    ("true-rooms", Reading::TrueRooms),
 ];
 
 /// Those that give two trees that look alike the same answers, though not the right ones
-pub const OTHER_ANSWERS: [(&str, Reading); 3] =
-    [("last-hit", Reading::LastHit), ("none-for-one-hit", Reading::NoneForOneHit), ("room-for-all-hits", Reading::RoomForAllHits)];
+pub const OTHER_ANSWERS: [(&str, Reading); 11] = [
+    ("last-hit", Reading::LastHit),
+    ("none-for-one-hit", Reading::NoneForOneHit),
+    ("room-for-all-hits", Reading::RoomForAllHits),
+    ("second-room", Reading::SecondRoom),
+    ("room-with-lesson", Reading::RoomWithLesson),
+    ("sixth-for-fifth", Reading::SixthForFifth),
+    ("six-days", Reading::SixDays),
+    ("labels-uncut", Reading::LabelsUncut),
+    ("no-blank-cells", Reading::NoBlankCells),
+    ("no-rows-for-hidden-root", Reading::NoRowsForHiddenRoot),
+    ("no-restricted-room", Reading::NoRestrictedRoom),
+];
 
 /// Those of the solver's file
 pub const OTHER_TREES: [(&str, Reading); 8] = [

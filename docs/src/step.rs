@@ -1,10 +1,11 @@
-//! One line on a state and a table (document 01, Lines to Who can be turned down), and one document of the solver (document 02, card 2).
+//! One line on a state and a table (document 01, Lines to Who can be turned down; document 02, cards 1 and 3), and one document of the solver (card 2).
 
 use crate::form::{read_form, Form, Place, LINE_MAXIMUM};
 use crate::label::{Label, RESTRICTED};
 use crate::path::{read_path, select, Step};
 use crate::policy::{Policy, Rule, DELETE, INSERT, ISA_MAXIMUM, READ, RULES_MAXIMUM, SUBJECTS_MAXIMUM, UPDATE};
 use crate::reading::Reading;
+use crate::sheet::Sheet;
 use crate::state::{self, Stage, State};
 use crate::table::{self, flatten, nest, nest_inserted, Node, Table, Tree, LEVEL_MAXIMUM};
 use crate::view::{view, View};
@@ -255,6 +256,13 @@ impl Session<'_> {
         answer
     }
 
+    fn sheet_answer(&self, room: Label) -> Result<Vec<u8>, u8> {
+        refuse_if(self.reading == Reading::NoRestrictedRoom && room == RESTRICTED, BAD_LABEL)?;
+        let stored_tree = || View { nodes: self.nodes().to_vec(), stored: (0..self.nodes().len()).collect() };
+        let view = if self.reading == Reading::StoredSheet { &stored_tree() } else { &self.view };
+        Ok(Sheet { view, stored: self.nodes(), room, reading: self.reading }.answer())
+    }
+
     /// A node of the stored tree may be relabelled: read and update on it, its label no policy word.
     fn may_relabel(&self, stored: usize, words: &[Label]) -> bool {
         let word = words.contains(&self.nodes()[stored].label);
@@ -453,6 +461,7 @@ pub fn step(store: &Store, line: &[u8], area_length: usize, reading: Reading) ->
             let (session, path) = session(store, Some(text), reading)?;
             session.remove(&path)
         }
+        Form::Sheet(room) => answered(session(store, None, reading)?.0.sheet_answer(room)?),
     };
     refuse_if(accepted.answer.len() > area_length, AREA_SHORT)?;
     Ok(accepted)
