@@ -204,8 +204,7 @@ def the_example():
 
 def policy_of_readers():
     """The lines that make the readers see as they do."""
-    for name, (hidden, restricted) in READERS.items():
-        yield f"(subject {name})"
+    yield from (f"(subject {name})" for name in READERS)
     for name, (hidden, restricted) in READERS.items():
         yield f"(rule accept read //* {name})"
         yield from (f"(rule deny read //{label} {name})" for label in hidden + restricted)
@@ -236,7 +235,7 @@ def sheet(view, room):
 
 
 def a_school_week():
-    """A solver's week with what is left out of a sheet, or blank there: a ninth period, a sixth day, a room with no lesson before one that has, a long label."""
+    """A solver's week, and what a sheet cuts, leaves out or leaves blank: a long label, a ninth period, a sixth day, a room with no lesson before one."""
     root, days = week.week(classes=2)
     days[0][1].append(("p9", [("R10", [("no", [])])]))
     days[4][1][0][1].insert(0, ("R10", [(LONG_LABEL, []), ("no", [])]))
@@ -249,13 +248,12 @@ def sheets_for_the_doors():
     school = [*policy_of_readers(), f"(root {root})", *(f"(child {week.tree_text(day)})" for day in days)]
     rooms = sorted({room for _, periods in days for _, rooms in periods for room, _ in rooms}) + ["RESTRICTED", "R99", LONG_LABEL]
     lines = [line for name in READERS for line in (f"(user {name})", *(f"(sheet {room})" for room in rooms))]
-    views = [shown(tree, *how) for how in READERS.values()]
-    sheets = [[sheet(view, room) for room in rooms] for view in views]
-    # what the sheets worked out here are worth: who hides lessons alone prints the office's, who is not shown the root blank ones
-    different = [set(of_reader) for of_reader in sheets]
-    assert {len(text) for texts in different for text in texts} == {657}
-    assert sheets[1] == sheets[0] and different[4] == {BLANK_SHEET} and len(set.union(*different)) == 18
-    expect("sheets", "\n".join(school + lines).encode(), OK * len(school) + b"".join(OK + b"".join(of_reader) for of_reader in sheets))
+    sheets = {name: [sheet(shown(tree, *how), room) for room in rooms] for name, how in READERS.items()}
+    # what is expected tells readers and rooms apart
+    different = set.union(*map(set, sheets.values()))
+    assert {len(text) for text in different} == {657} and len(different) == 18
+    assert sheets["pupils"] == sheets["office"] and set(sheets["parents"]) == {BLANK_SHEET}
+    expect("sheets", "\n".join(school + lines).encode(), OK * len(school) + b"".join(OK + b"".join(printed) for printed in sheets.values()))
 
 
 def refused_sheets():
