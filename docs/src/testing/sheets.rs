@@ -7,13 +7,6 @@ use crate::step::AREA_SHORT;
 const CUT: &[u8] = b"philosophy-an"; // what a cell holds of a longer label
 const LESSONS_PERCENT: usize = 40; // of the sheets, that have a lesson
 
-#[derive(Default)]
-pub struct Sheets {
-    accepted: usize,
-    lesson: usize,
-    seen: [usize; 8], // by WHAT
-}
-
 const WHAT: [&str; 8] = [
     "with a lesson on the fifth day",
     "with a lesson in period 8",
@@ -24,6 +17,13 @@ const WHAT: [&str; 8] = [
     "in an area of its length",
     "refused in an area one byte shorter",
 ];
+
+#[derive(Default)]
+pub struct Sheets {
+    accepted: usize,
+    lesson: usize, // accepted, with a lesson
+    seen: [usize; WHAT.len()],
+}
 
 /// The label in a row's cell for a day, without the spaces behind it.
 fn cell(sheet: &[u8], row: usize, day: usize) -> &[u8] {
@@ -37,14 +37,11 @@ impl Sheets {
         if !line.starts_with(b"(sheet ") {
             return;
         }
-        self.seen[7] += usize::from(returned == -i64::from(AREA_SHORT) && area.len() + 1 == SHEET_BYTES);
-        if returned != SHEET_BYTES as i64 {
-            return;
-        }
-        let cells = |rows: std::ops::RangeInclusive<usize>| rows.flat_map(|row| (0..DAYS).map(move |day| (row, day)));
-        let filled: Vec<(usize, usize)> = cells(0..=PERIODS).filter(|(row, day)| !cell(area, *row, *day).is_empty()).collect();
+        let accepted = returned == SHEET_BYTES as i64;
+        let cells = (0..=PERIODS).flat_map(|row| (0..DAYS).map(move |day| (row, day)));
+        let filled: Vec<(usize, usize)> = cells.filter(|(row, day)| accepted && !cell(area, *row, *day).is_empty()).collect();
         let lessons: Vec<(usize, usize)> = filled.iter().copied().filter(|(row, _)| *row > 0).collect();
-        self.accepted += 1;
+        self.accepted += usize::from(accepted);
         self.lesson += usize::from(!lessons.is_empty());
         let seen = [
             lessons.iter().any(|(_, day)| day + 1 == DAYS),
@@ -52,8 +49,9 @@ impl Sheets {
             lessons.iter().any(|(row, day)| cell(area, *row, *day) == RESTRICTED.text()),
             filled.iter().any(|(row, day)| cell(area, *row, *day) == CUT),
             lessons.is_empty() && !filled.is_empty(),
-            filled.is_empty(),
-            area.len() == SHEET_BYTES,
+            accepted && filled.is_empty(),
+            accepted && area.len() == SHEET_BYTES,
+            returned == -i64::from(AREA_SHORT) && area.len() + 1 == SHEET_BYTES,
         ];
         for (count, seen) in self.seen.iter_mut().zip(seen) {
             *count += usize::from(seen);
