@@ -144,12 +144,12 @@ fn make_run(engine: &dyn Engine, random: &mut Random, policy: &Policy, user: Opt
 /// Two runs whose trees differ and are alike to the reader.
 fn make_pair(engine: &dyn Engine, random: &mut Random) -> Result<Pair, String> {
     loop {
-        let (policy, reader) = generate::policy(random);
+        let (mut policy, reader) = generate::policy(random);
         let first = if random.percent(15) {
             let height = random.within(8, LEVEL_MAXIMUM);
             generate::deep_tree(random, height)
         } else if random.percent(25) {
-            generate::week(random, DAYS + 2, 3)
+            generate::week_for(random, &mut policy, reader, DAYS + 2, 3)
         } else {
             let (size, height) = (random.within(8, 36), random.within(2, 6));
             generate::tree(random, size, height)

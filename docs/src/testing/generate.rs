@@ -5,7 +5,7 @@ use crate::label::Label;
 use crate::path::{Step, Test};
 use crate::policy::{Policy, Rule, DELETE, INSERT, POSITION, READ, UPDATE};
 use crate::step::write_tree;
-use crate::table::{nest_inserted, Node, Tree, LEVEL_MAXIMUM};
+use crate::table::{flatten, nest_inserted, Node, Tree, LEVEL_MAXIMUM};
 
 /// Two of them fill a sheet's cell and more.
 const LABELS: [&str; 14] = ["a", "b", "c", "note", "x", "y", "z", "k.1", "R-12", "10B", "lesson", "room", "geography-12C", "philosophy-and-logic-13C"];
@@ -139,12 +139,12 @@ pub fn deep_tree(random: &mut Random, height: usize) -> Tree {
     Tree { label: some_label(random), origin: None, children }
 }
 
-/// A day of some periods, each with a few rooms; in a room stands mostly one lesson, and now and then none or two.
+/// A day of some periods, each with a few rooms; in a room stand mostly one lesson or two, and now and then none.
 pub fn day(random: &mut Random, periods: usize) -> Tree {
     let lesson = |random: &mut Random| Tree { label: some_label(random), origin: None, children: Vec::new() };
     let room = |random: &mut Random| {
         let name = if random.percent(90) { label(random.pick::<&str>(&ROOMS)) } else { some_label(random) };
-        let lessons = *random.pick(&[0, 1, 1, 1, 1, 2]);
+        let lessons = *random.pick(&[0, 1, 1, 2, 2, 3]);
         Tree { label: name, origin: None, children: (0..lessons).map(|_| lesson(random)).collect() }
     };
     let period = |random: &mut Random| {
@@ -162,6 +162,21 @@ pub fn week(random: &mut Random, days: usize, periods: usize) -> Tree {
     };
     let days = random.within(days / 2, days);
     Tree { label: some_label(random), origin: None, children: (0..days).map(|_| day(random)).collect() }
+}
+
+/// A week for a reader from whom some of its days, periods, rooms or lessons are kept.
+pub fn week_for(random: &mut Random, policy: &mut Policy, reader: usize, days: usize, periods: usize) -> Tree {
+    let week = week(random, days, periods);
+    let nodes = flatten(&week).0;
+    for _ in 0..random.within(1, 3) {
+        let level = random.within(1, ROOM_LEVEL + 1);
+        let labels: Vec<Label> = nodes.iter().filter(|node| node.level == level).map(|node| node.label).collect();
+        if !labels.is_empty() {
+            let path = vec![Step { descendants: true, test: Test::Label(*random.pick(&labels)), brackets: Vec::new() }];
+            policy.rules.push(Rule { accept: false, right: READ, subject: reader, path });
+        }
+    }
+    week
 }
 
 /// A tree of exactly `size` nodes and at most `height` levels below its root.
@@ -312,8 +327,8 @@ pub fn room(random: &mut Random, view: &[Node]) -> String {
     match random.below(20) {
         0 => "RESTRICTED".to_string(),
         1 => text_of(&some_label(random)),
-        2..=14 if !with_lesson.is_empty() => text_of(&view[*random.pick(&with_lesson)].label),
-        _ if !any.is_empty() => text_of(&view[*random.pick(&any)].label),
+        2..=13 if !with_lesson.is_empty() => text_of(&view[*random.pick(&with_lesson)].label),
+        14..=17 if !any.is_empty() => text_of(&view[*random.pick(&any)].label),
         _ => random.pick(&ROOMS).to_string(),
     }
 }

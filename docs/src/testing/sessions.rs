@@ -393,7 +393,7 @@ fn sound_start(random: &mut Random) -> Start {
         let grown = match random.below(8) {
             0 => generate::deep_tree(random, LEVEL_MAXIMUM),
             1 => tree(random, 300, LEVEL_MAXIMUM),
-            2..=3 => generate::week(random, DAYS + 2, PERIODS + 2),
+            2..=3 if !full => generate::week_for(random, &mut policy, reader, DAYS + 2, PERIODS + 2),
             _ => {
                 let size = random.within(1, 40);
                 tree(random, size, 6)
