@@ -327,23 +327,17 @@ def nested(levels, wrong=None):
     return b"<a>" * levels + b"".join(closing)
 
 
-def line_of(tree):
-    """A tree as lines have it."""
-    label, children = tree
-    return f"({' '.join([label, *map(line_of, children)])})"
-
-
 def lines_of(tree):
     """The lines that leave a week's tree, none above 1,024 bytes: days with empty periods, a login, and each room of a period by itself."""
     root, days = tree
     yield f"(root {root})"
     for day, periods in days:
-        yield f"(child {line_of((day, [(period, []) for period, _ in periods]))})"
+        yield f"(child {week.tree_text((day, [(period, []) for period, _ in periods]))})"
     yield "(user office)"
     for day, periods in days:
         for period, rooms in periods:
             for room in rooms:
-                yield f"(append /{root}/{day}/{period} {line_of(room)})"
+                yield f"(append /{root}/{day}/{period} {week.tree_text(room)})"
 
 
 def occupied(room):

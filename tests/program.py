@@ -1,6 +1,6 @@
 #!/usr/bin/env python3
 """program.py [PROGRAM]: tests of the program `timetable` by its input and output. The default is the program that `rt check timetable`
-builds. Every expected answer is worked out here, from document 01.
+builds. Every expected answer is worked out here, from documents 01 and 02.
 """
 
 import os
@@ -13,6 +13,7 @@ import tempfile
 
 sys.path.insert(0, os.path.dirname(os.path.abspath(__file__)))
 import timetable  # noqa: E402
+import week  # noqa: E402
 
 PROGRAM = timetable.arguments(__doc__)
 OK = b"(ok)\n"
@@ -26,6 +27,17 @@ EXAMPLE = "\n".join(timetable.EXAMPLE + ["(view)", ""]).encode()
 EXAMPLE_VIEW = b"(root school)\n(child (mon (lesson (class (10B)) (room (R12)) (note (RESTRICTED)))))\n(end 9)\n"
 EXAMPLE_CHANGES = b"(update //room R14)\n(query //lesson/*)\n(rename //note/* cold)\n"
 EXAMPLE_DONE = b"(done 1 1)\n(hit 3 class)\n(hit 3 room)\n(hit 3 note)\n(end 3)\n(done 1 0)\n"
+
+# Who sees a week how: the labels that are hidden, and those shown as RESTRICTED.
+READERS = {
+    "office": ([], []),
+    "pupils": (["lesson"], []),
+    "visitors": (["tue", "p2", "IT1", "7A-PE"], ["thu", "p4", "R11", "8A-french"]),
+    "cleaners": ([], ["*"]),
+    "parents": (["*"], []),
+}
+LONG_LABEL = "a-label-of-24-bytes-long"
+BLANK_SHEET = b"".join(b"%c %b\n" % (first, b"             |" * 5) for first in b" 12345678")
 
 failed = []
 
@@ -190,6 +202,70 @@ def the_example():
     expect("stages", b"(root r)\n(root q)\n(subject a)\n(rule accept read //* a)\n", OK + refused(3) * 3)
 
 
+def policy_of_readers():
+    """The lines that make the readers see as they do."""
+    yield from (f"(subject {name})" for name in READERS)
+    for name, (hidden, restricted) in READERS.items():
+        yield f"(rule accept read //* {name})"
+        yield from (f"(rule deny read //{label} {name})" for label in hidden + restricted)
+        yield from (f"(rule accept position //{label} {name})" for label in restricted)
+
+
+def shown(tree, hidden, restricted):
+    """What is shown of a tree: no tree, or one."""
+    label, children = tree
+    if label in hidden or "*" in hidden:
+        return []
+    carried = "RESTRICTED" if label in restricted or "*" in restricted else label
+    return [(carried, [part for child in children for part in shown(child, hidden, restricted)])]
+
+
+def sheet(view, room):
+    """A room's sheet (document 02, card 3) from a view of no tree or one."""
+    days = [day for _, children in view for day in children][:5]
+    days += [("", [])] * (5 - len(days))
+    rows = [[" "] + [day for day, _ in days]]
+    for n in range(1, 9):
+        row = [str(n)]
+        for _, periods in days:
+            rooms = [lessons for _, children in periods[n - 1 : n] for label, lessons in children if label == room]
+            row.append(next((label for lessons in rooms[:1] for label, _ in lessons[:1]), ""))
+        rows.append(row)
+    return "".join(f"{first} " + "".join(f"{label:13.13}|" for label in cells) + "\n" for first, *cells in rows).encode()
+
+
+def a_school_week():
+    """A solver's week, and what a sheet cuts, leaves out or leaves blank: a long label, a ninth period, a sixth day, a room with no lesson before one."""
+    root, days = week.week(classes=2)
+    days[0][1].append(("p9", [("R10", [("no", [])])]))
+    days[4][1][0][1].insert(0, ("R10", [(LONG_LABEL, []), ("no", [])]))
+    days[4][1][1][1][:0] = [("R10", []), ("R10", [("no", [])])]
+    return root, days + [("sat", [("p1", [("R10", [("no", [])])])])]
+
+
+def sheets_for_the_doors():
+    root, days = tree = a_school_week()
+    school = [*policy_of_readers(), f"(root {root})", *(f"(child {week.tree_text(day)})" for day in days)]
+    rooms = sorted({room for _, periods in days for _, rooms in periods for room, _ in rooms}) + ["RESTRICTED", "R99", LONG_LABEL]
+    lines = [line for name in READERS for line in (f"(user {name})", *(f"(sheet {room})" for room in rooms))]
+    sheets = {name: [sheet(shown(tree, *how), room) for room in rooms] for name, how in READERS.items()}
+    # what is expected tells readers and rooms apart
+    different = set.union(*map(set, sheets.values()))
+    assert {len(text) for text in different} == {657} and len(different) == 18
+    assert sheets["pupils"] == sheets["office"] and set(sheets["parents"]) == {BLANK_SHEET}
+    expect("sheets", "\n".join(school + lines).encode(), OK * len(school) + b"".join(OK + b"".join(printed) for printed in sheets.values()))
+
+
+def refused_sheets():
+    forms = [b"", b" ", b" $", b" *", b" /R10", b" //R10", b" R10[1]", b" R10 R10", b" R10 ", b"  R10", b" (R10)", b" R+10", b" " + b"R" * 25]
+    wrong = b"".join(b"(sheet%b)\n" % form for form in forms)
+    right = b"(sheet R10)\n(sheet RESTRICTED)\n(sheet %b)\n" % (b"R" * 24)
+    lines = right + wrong
+    expect("sheets without a root", lines, refused(3) * 3 + refused(2) * len(forms))
+    expect("sheets without a user", START + lines, OK * 3 + refused(8) * 3 + refused(2) * len(forms))
+    expect("sheets of a root alone", START + b"(user a)\n" + lines, OK * 4 + BLANK_SHEET * 3 + refused(2) * len(forms))
+
+
 def pieces_of_any_size():
     """What is written does not hang on how the input comes."""
     rand = random.Random(20240502)
@@ -274,7 +350,7 @@ def the_limit_of_the_input():
 
 def main():
     tests = [lines_and_their_ends, long_lines, bytes_0_to_255, limits_of_the_policy, labels_of_24_and_25_bytes, levels_and_records, the_longest_answers, the_example]
-    tests += [pieces_of_any_size, answers_come_at_once, closed_and_failing_streams, the_limit_of_the_input]
+    tests += [sheets_for_the_doors, refused_sheets, pieces_of_any_size, answers_come_at_once, closed_and_failing_streams, the_limit_of_the_input]
     for test in tests:
         test()
     print(f"{len(tests)} groups of tests of the program, {len(failed)} checks failed")

@@ -143,6 +143,12 @@ def document_of(tree):
     return ("\n".join(lines_of(tree)) + "\n").encode("ascii")
 
 
+def tree_text(tree):
+    """A tree as lines have it."""
+    label, children = tree
+    return f"({' '.join([label, *map(tree_text, children)])})"
+
+
 def main():
     parser = argparse.ArgumentParser(description=__doc__, formatter_class=argparse.RawDescriptionHelpFormatter)
     parser.add_argument("--seed", type=int, default=SEED)

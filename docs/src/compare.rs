@@ -8,7 +8,9 @@
 
 use std::process::ExitCode;
 use timetable::form::{LINE_MAXIMUM, WORDS};
-use timetable::step::{read_store, Reading, AREA_SHORT, BAD_LABEL, BAD_STORE, NO_DOCUMENT, TABLE_FULL, TOO_DEEP, WRONG_STAGE};
+use timetable::reading::Reading;
+use timetable::sheet::SHEET_BYTES;
+use timetable::step::{read_store, AREA_SHORT, BAD_LABEL, BAD_STORE, NO_DOCUMENT, TABLE_FULL, TOO_DEEP, WRONG_STAGE};
 use timetable::table::{nest, Tree};
 use timetable::testing::engine::{Engine, Straightforward};
 use timetable::testing::generate::{text_of, tree_text};
@@ -16,6 +18,7 @@ use timetable::testing::lent::{agree, new_area, Call, Lent};
 use timetable::testing::options::Options;
 use timetable::testing::random::Random;
 use timetable::testing::sessions::{self, Start};
+use timetable::testing::sheets::Sheets;
 
 const DEFAULT_LINES: usize = 20_000;
 const ENOUGH_LINES: usize = 20_000; // to have seen every form accepted and every refusal
@@ -27,10 +30,11 @@ const TOLD_BYTES: usize = 4_096; // of each line or document, where a difference
 struct Counts {
     sessions: usize,
     lines: usize,
-    accepted: [usize; 16], // by form; the last is for what is none
-    refused: [usize; 16],
+    accepted: [usize; WORDS.len() + 1], // by form; the last is for what is none
+    refused: [usize; WORDS.len() + 1],
     refusals: [usize; REFUSALS + 1],
     effective_changes: usize,
+    sheets: Sheets,
     documents: Documents,
 }
 
@@ -60,9 +64,11 @@ fn compare_session(engine: &dyn Engine, random: &mut Random, start: Start, count
         }
         let store = read_store(&one.state, &one.table);
         let call = sessions::call(random, store.as_ref());
-        if matches!(call, Call::LoadXml(_)) && random.percent(8) {
-            one.area.truncate(random.below(6));
-            other.area.clone_from(&one.area);
+        if random.percent(8) {
+            if let Some(length) = short_area(random, &call) {
+                one.area.truncate(length);
+                other.area.clone_from(&one.area);
+            }
         }
         before.copy_from(&one);
         let returned = one.call(&Straightforward(Reading::Right), &call);
@@ -80,6 +86,15 @@ fn compare_session(engine: &dyn Engine, random: &mut Random, start: Start, count
         }
     }
     Ok(())
+}
+
+/// The length of an area that is just long enough for a call's answer, or not.
+fn short_area(random: &mut Random, call: &Call) -> Option<usize> {
+    match call {
+        Call::LoadXml(_) => Some(random.below(6)),
+        Call::Line(line) if line.starts_with(b"(sheet ") => Some(random.within(SHEET_BYTES - 1, SHEET_BYTES)),
+        Call::Line(_) => None,
+    }
 }
 
 fn call_text(call: &Call) -> String {
@@ -130,6 +145,7 @@ fn count_document(documents: &mut Documents, returned: i64) {
 
 fn count_line(counts: &mut Counts, line: &[u8], returned: i64, area: &[u8]) {
     counts.lines += 1;
+    counts.sheets.count(line, returned, area);
     let form = form_number(line);
     if returned < 0 {
         counts.refused[form] += 1;
@@ -150,6 +166,7 @@ fn print_counts(counts: &Counts) {
     }
     let refusals: Vec<String> = (1..=REFUSALS).map(|number| format!("{number}: {}", counts.refusals[number])).collect();
     println!("changes with at least one node done {}", counts.effective_changes);
+    println!("{}", counts.sheets.text());
     println!("refusals {}", refusals.join(", "));
     let refusals = DOCUMENT_REFUSALS.map(|number| format!("{number}: {}", documents.refusals[number as usize]));
     println!(
@@ -171,7 +188,7 @@ fn unseen(counts: &Counts) -> Vec<String> {
         [("taken as its lines are", documents.by_lines), ("taken though its lines are too long", too_long), ("that fills the table", documents.filling)];
     let accepted = accepted.into_iter().filter(|(_, count)| *count == 0).map(|(what, _)| format!("a document {what}"));
     let refused = DOCUMENT_REFUSALS.iter().filter(|number| documents.refusals[**number as usize] == 0).map(|number| format!("refusal {number} of a document"));
-    forms.chain(refusals).chain(accepted).chain(refused).collect()
+    forms.chain(refusals).chain(counts.sheets.unseen()).chain(accepted).chain(refused).collect()
 }
 
 fn run(engine: &dyn Engine, seed: u64, lines: usize) -> bool {

@@ -10,14 +10,17 @@
 use std::process::ExitCode;
 use timetable::label::{Label, RESTRICTED};
 use timetable::policy::Policy;
+use timetable::reading::{Reading, FALSE_READINGS};
+use timetable::sheet::{DAYS, SHEET_BYTES};
 use timetable::state::{Stage, State};
-use timetable::step::{read_store, step, Reading, Store, FALSE_READINGS, TABLE_FULL};
+use timetable::step::{read_store, step, Store, TABLE_FULL};
 use timetable::table::{flatten, nest, Node, Tree, LEVEL_MAXIMUM};
 use timetable::testing::documents::{document_of, has_document};
 use timetable::testing::engine::{Engine, Straightforward};
 use timetable::testing::generate;
 use timetable::testing::options::Options;
 use timetable::testing::random::Random;
+use timetable::testing::sheets::Sheets;
 use timetable::view::{look, view};
 use timetable::{state, table, STATE_BYTES};
 
@@ -141,10 +144,12 @@ fn make_run(engine: &dyn Engine, random: &mut Random, policy: &Policy, user: Opt
 /// Two runs whose trees differ and are alike to the reader.
 fn make_pair(engine: &dyn Engine, random: &mut Random) -> Result<Pair, String> {
     loop {
-        let (policy, reader) = generate::policy(random);
+        let (mut policy, reader) = generate::policy(random);
         let first = if random.percent(15) {
             let height = random.within(8, LEVEL_MAXIMUM);
             generate::deep_tree(random, height)
+        } else if random.percent(25) {
+            generate::week_for(random, &mut policy, reader, DAYS + 2, 3)
         } else {
             let (size, height) = (random.within(8, 36), random.within(2, 6));
             generate::tree(random, size, height)
@@ -209,6 +214,7 @@ struct Counts {
     accepted_changes: usize,
     effective_changes: usize,
     accepted_others: usize,
+    sheets: Sheets,
     refusals: [usize; 14],
     kept_nodes: usize,
 }
@@ -263,7 +269,11 @@ fn run_pair(engine: &dyn Engine, random: &mut Random, pair: &mut Pair, counts: &
         left -= 1;
         let line =
             if pair.login && lines.is_empty() { format!("(user {})", generate::text_of(&pair.policy.subjects[pair.reader])) } else { next_line(random, pair) };
-        let area_length = if random.percent(94) || lines.is_empty() { AREA_BYTES } else { random.below(60) };
+        let area_length = match random.below(100) {
+            0..=5 if line.starts_with("(sheet ") => random.within(SHEET_BYTES - 1, SHEET_BYTES),
+            0..=5 if !lines.is_empty() => random.below(60),
+            _ => AREA_BYTES,
+        };
         lines.push(line);
         let line = lines[lines.len() - 1].as_bytes();
         counts.lines += 1;
@@ -317,6 +327,7 @@ fn reply_text(returned: i64, run: &Run) -> String {
 }
 
 fn count_reply(returned: i64, line: &[u8], area: &[u8], counts: &mut Counts) {
+    counts.sheets.count(line, returned, area);
     if returned < 0 {
         counts.refusals[(-returned).min(13) as usize] += 1;
     } else if CHANGES.iter().any(|word| line.starts_with(word)) {
@@ -377,12 +388,13 @@ fn print_counts(counts: &Counts) {
         percent(counts.effective_changes),
         counts.accepted_others
     );
+    println!("{}", counts.sheets.text());
     let refusals: Vec<String> = (1..counts.refusals.len()).map(|number| format!("{number}: {}", counts.refusals[number])).collect();
     println!("refusals {}", refusals.join(", "));
     println!("rights compared on {} kept nodes", counts.kept_nodes);
 }
 
-/// One run; true if nothing is found, at least 30 of 100 lines are changes that do something, and trees were loaded.
+/// One run; true if nothing is found, at least 30 of 100 lines are changes that do something, trees were loaded, and sheets of each kind seen.
 fn test(engine: &dyn Engine, seed: u64, lines: usize) -> bool {
     let (counts, finding) = run(engine, seed, lines);
     print_counts(&counts);
@@ -391,7 +403,13 @@ fn test(engine: &dyn Engine, seed: u64, lines: usize) -> bool {
             println!("FAILED: pair {}, line {}: {}\n{}", finding.pair, finding.line, finding.what, finding.story);
             false
         }
-        None => 100 * counts.effective_changes >= 30 * counts.lines && counts.loaded > 0,
+        None => {
+            let unseen = if counts.lines >= DEFAULT_LINES { counts.sheets.unseen() } else { Vec::new() };
+            if !unseen.is_empty() {
+                println!("FAILED: not seen: {}", unseen.join(", "));
+            }
+            100 * counts.effective_changes >= 30 * counts.lines && counts.loaded > 0 && unseen.is_empty()
+        }
     }
 }
 

@@ -1,4 +1,4 @@
-//! The forms of a line (document 01, Lines).
+//! The forms of a line (document 01, Lines; document 02, card 3).
 
 use crate::label::{is_label_byte, Label};
 use crate::policy::{DELETE, INSERT, POSITION, READ, UPDATE};
@@ -29,11 +29,12 @@ pub enum Form<'a> {
     Update(&'a [u8], Label),
     Insert(Place, &'a [u8], Tree),
     Remove(&'a [u8]),
+    Sheet(Label),
 }
 
-/// The words that forms begin with, in document 01's order.
-pub const WORDS: [&str; 15] =
-    ["subject", "isa", "rule", "root", "child", "user", "view", "query", "find", "rename", "update", "append", "before", "after", "remove"];
+/// The words that forms begin with, in the order of documents 01 and 02.
+pub const WORDS: [&str; 16] =
+    ["subject", "isa", "rule", "root", "child", "user", "view", "query", "find", "rename", "update", "append", "before", "after", "remove", "sheet"];
 
 /// Bytes that are read from left to right.
 pub struct Reader<'a> {
@@ -139,6 +140,7 @@ impl<'a> Reader<'a> {
             b"before" => Form::Insert(Place::Before, self.next_path()?, self.next_tree()?),
             b"after" => Form::Insert(Place::After, self.next_path()?, self.next_tree()?),
             b"remove" => Form::Remove(self.next_path()?),
+            b"sheet" => Form::Sheet(self.next_label()?),
             _ => return None,
         };
         self.skip(b')')?;

@@ -6,6 +6,8 @@ pub mod label;
 pub mod path;
 pub mod plain_view;
 pub mod policy;
+pub mod reading;
+pub mod sheet;
 pub mod state;
 pub mod step;
 pub mod table;

@@ -1,9 +1,11 @@
-//! One line on a state and a table (document 01, Lines to Who can be turned down), and one document of the solver (document 02, card 2).
+//! One line on a state and a table (document 01, Lines to Who can be turned down; document 02, cards 1 and 3), and one document of the solver (card 2).
 
 use crate::form::{read_form, Form, Place, LINE_MAXIMUM};
 use crate::label::{Label, RESTRICTED};
 use crate::path::{read_path, select, Step};
 use crate::policy::{Policy, Rule, DELETE, INSERT, ISA_MAXIMUM, READ, RULES_MAXIMUM, SUBJECTS_MAXIMUM, UPDATE};
+use crate::reading::Reading;
+use crate::sheet::Sheet;
 use crate::state::{self, Stage, State};
 use crate::table::{self, flatten, nest, nest_inserted, Node, Table, Tree, LEVEL_MAXIMUM};
 use crate::view::{view, View};
@@ -23,63 +25,6 @@ pub const TABLE_FULL: u8 = 11;
 pub const AREA_SHORT: u8 = 12;
 pub const BAD_STORE: u8 = 13;
 pub const NO_DOCUMENT: u8 = 14;
-
-/// How document 01 and the cards are read. All but the first are false, and stand here for the tests of the testers alone.
-#[derive(Clone, Copy, PartialEq, Eq, Debug)]
-pub enum Reading {
-    Right,
-    RenameIntoWord,
-    RenameOfWord,
-    NoOwnNames,
-    UpdateHidden,
-    StoredLabels,
-    CountFreed,
-    SpareHidden,
-    ReadersWords,
-    PlaceByPlace,
-    StoredHits,
-    LastHit,
-    NoneForOneHit,
-    RoomForAllHits,
-    AnyClosingTag,
-    TextDropped,
-    TextNotTrimmed,
-    TextsJoined,
-    SecondRoot,
-    LabelsBeforeDocument,
-    RootNotCounted,
-    RootAloneAtD,
-}
-
-/// Those that make demand 3 false
-pub const FALSE_READINGS: [(&str, Reading); 10] = [
-    ("rename-into-word", Reading::RenameIntoWord),
-    ("rename-of-word", Reading::RenameOfWord),
-    ("no-own-names", Reading::NoOwnNames),
-    ("update-hidden", Reading::UpdateHidden),
-    ("stored-labels", Reading::StoredLabels),
-    ("count-freed", Reading::CountFreed),
-    ("spare-hidden", Reading::SpareHidden),
-    ("readers-words", Reading::ReadersWords),
-    ("place-by-place", Reading::PlaceByPlace),
-    ("stored-hits", Reading::StoredHits),
-];
-
-/// Those that give two trees that look alike the same answers, though not the right ones
-pub const OTHER_ANSWERS: [(&str, Reading); 3] =
-    [("last-hit", Reading::LastHit), ("none-for-one-hit", Reading::NoneForOneHit), ("room-for-all-hits", Reading::RoomForAllHits)];
-
-/// Those of the solver's file
-pub const OTHER_TREES: [(&str, Reading); 8] = [
-    ("any-closing-tag", Reading::AnyClosingTag),
-    ("text-dropped", Reading::TextDropped),
-    ("text-not-trimmed", Reading::TextNotTrimmed),
-    ("texts-joined", Reading::TextsJoined),
-    ("second-root", Reading::SecondRoot),
-    ("labels-before-document", Reading::LabelsBeforeDocument),
-    ("root-not-counted", Reading::RootNotCounted),
-    ("root-alone-at-d", Reading::RootAloneAtD),
-];
 
 /// What 13 lets pass: a state, a table, and the two agreeing on the root.
 #[derive(Clone, Debug)]
@@ -311,6 +256,13 @@ impl Session<'_> {
         answer
     }
 
+    fn sheet_answer(&self, room: Label) -> Result<Vec<u8>, u8> {
+        refuse_if(self.reading == Reading::NoRestrictedRoom && room == RESTRICTED, BAD_LABEL)?;
+        let stored_tree = || View { nodes: self.nodes().to_vec(), stored: (0..self.nodes().len()).collect() };
+        let view = if self.reading == Reading::StoredSheet { &stored_tree() } else { &self.view };
+        Ok(Sheet { view, stored: self.nodes(), room, reading: self.reading }.answer())
+    }
+
     /// A node of the stored tree may be relabelled: read and update on it, its label no policy word.
     fn may_relabel(&self, stored: usize, words: &[Label]) -> bool {
         let word = words.contains(&self.nodes()[stored].label);
@@ -509,6 +461,7 @@ pub fn step(store: &Store, line: &[u8], area_length: usize, reading: Reading) ->
             let (session, path) = session(store, Some(text), reading)?;
             session.remove(&path)
         }
+        Form::Sheet(room) => answered(session(store, None, reading)?.0.sheet_answer(room)?),
     };
     refuse_if(accepted.answer.len() > area_length, AREA_SHORT)?;
     Ok(accepted)

@@ -5,7 +5,8 @@
 
 use std::collections::BTreeMap;
 use std::process::ExitCode;
-use timetable::step::{Reading, AREA_SHORT, BAD_STORE, NO_USER, WRONG_STAGE};
+use timetable::reading::Reading;
+use timetable::step::{AREA_SHORT, BAD_STORE, NO_USER, WRONG_STAGE};
 use timetable::testing::engine::{Engine, PlainView, Straightforward};
 use timetable::testing::lent::{agree, new_area, Lent};
 use timetable::testing::options::Options;

@@ -2,7 +2,7 @@
 
 use crate::form::Reader;
 use crate::label::Label;
-use crate::step::Reading;
+use crate::reading::Reading;
 use crate::table::Node;
 
 /// A document that is read from left to right: the nodes so far in document order, and those of them that are elements still open.

@@ -362,7 +362,7 @@ pub fn document(random: &mut Random, capacity: usize) -> Vec<u8> {
 #[cfg(test)]
 mod tests {
     use super::*;
-    use crate::step::Reading;
+    use crate::reading::Reading;
     use crate::table::flatten;
     use crate::xml::Document;
 

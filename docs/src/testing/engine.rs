@@ -2,8 +2,9 @@
 
 use crate::plain_view;
 use crate::policy::RULES_MAXIMUM;
+use crate::reading::{Reading, FALSE_READINGS, OTHER_ANSWERS, OTHER_TREES};
 use crate::state::{RULES_AT, RULE_BYTES, SESSION_BYTES};
-use crate::step::{load_xml, read_line, Reading, FALSE_READINGS, OTHER_ANSWERS, OTHER_TREES};
+use crate::step::{load_xml, read_line};
 use crate::STATE_BYTES;
 use std::ffi::{c_char, c_int, c_void, CStr, CString};
 

@@ -5,9 +5,12 @@ use crate::label::Label;
 use crate::path::{Step, Test};
 use crate::policy::{Policy, Rule, DELETE, INSERT, POSITION, READ, UPDATE};
 use crate::step::write_tree;
-use crate::table::{nest_inserted, Node, Tree, LEVEL_MAXIMUM};
+use crate::table::{flatten, nest_inserted, Node, Tree, LEVEL_MAXIMUM};
 
-const LABELS: [&str; 12] = ["a", "b", "c", "note", "x", "y", "z", "k.1", "R-12", "10B", "lesson", "room"];
+/// Two of them fill a sheet's cell and more.
+const LABELS: [&str; 14] = ["a", "b", "c", "note", "x", "y", "z", "k.1", "R-12", "10B", "lesson", "room", "geography-12C", "philosophy-and-logic-13C"];
+const ROOMS: [&str; 3] = ["k.1", "R-12", "room"];
+const ROOM_LEVEL: usize = 3;
 const NAMES: [&str; 6] = ["ann", "bob", "cid", "staff", "music", "office"];
 const RIGHTS: [(&str, u8); 5] = [("position", POSITION), ("read", READ), ("insert", INSERT), ("update", UPDATE), ("delete", DELETE)];
 
@@ -134,6 +137,46 @@ pub fn deep_tree(random: &mut Random, height: usize) -> Tree {
         random.shuffle(&mut children);
     }
     Tree { label: some_label(random), origin: None, children }
+}
+
+/// A day of some periods, each with a few rooms; in a room stand mostly one lesson or two, and now and then none.
+pub fn day(random: &mut Random, periods: usize) -> Tree {
+    let lesson = |random: &mut Random| Tree { label: some_label(random), origin: None, children: Vec::new() };
+    let room = |random: &mut Random| {
+        let name = if random.percent(90) { label(random.pick::<&str>(&ROOMS)) } else { some_label(random) };
+        let lessons = *random.pick(&[0, 1, 1, 2, 2, 3]);
+        Tree { label: name, origin: None, children: (0..lessons).map(|_| lesson(random)).collect() }
+    };
+    let period = |random: &mut Random| {
+        let rooms = *random.pick(&[0, 1, 1, 2, 2, 3]);
+        Tree { label: some_label(random), origin: None, children: (0..rooms).map(|_| room(random)).collect() }
+    };
+    Tree { label: some_label(random), origin: None, children: (0..periods).map(|_| period(random)).collect() }
+}
+
+/// A week of so many days at most, each of so many periods at most.
+pub fn week(random: &mut Random, days: usize, periods: usize) -> Tree {
+    let day = |random: &mut Random| {
+        let periods = random.within(periods / 2, periods);
+        day(random, periods)
+    };
+    let days = random.within(days / 2, days);
+    Tree { label: some_label(random), origin: None, children: (0..days).map(|_| day(random)).collect() }
+}
+
+/// A week for a reader from whom some of its days, periods, rooms or lessons are kept.
+pub fn week_for(random: &mut Random, policy: &mut Policy, reader: usize, days: usize, periods: usize) -> Tree {
+    let week = week(random, days, periods);
+    let nodes = flatten(&week).0;
+    for _ in 0..random.within(1, 3) {
+        let level = random.within(1, ROOM_LEVEL + 1);
+        let labels: Vec<Label> = nodes.iter().filter(|node| node.level == level).map(|node| node.label).collect();
+        if !labels.is_empty() {
+            let path = vec![Step { descendants: true, test: Test::Label(*random.pick(&labels)), brackets: Vec::new() }];
+            policy.rules.push(Rule { accept: false, right: READ, subject: reader, path });
+        }
+    }
+    week
 }
 
 /// A tree of exactly `size` nodes and at most `height` levels below its root.
@@ -277,11 +320,34 @@ pub fn change(random: &mut Random, view: &[Node], room: usize) -> String {
     }
 }
 
+/// A room for a sheet, mostly one that stands where a sheet looks for rooms.
+pub fn room(random: &mut Random, view: &[Node]) -> String {
+    let any: Vec<usize> = (0..view.len()).filter(|number| view[*number].level == ROOM_LEVEL).collect();
+    let with_lesson: Vec<usize> = view.iter().filter(|node| node.level == ROOM_LEVEL + 1).filter_map(|node| node.parent).collect();
+    match random.below(20) {
+        0 => "RESTRICTED".to_string(),
+        1 => text_of(&some_label(random)),
+        2..=13 if !with_lesson.is_empty() => text_of(&view[*random.pick(&with_lesson)].label),
+        14..=17 if !any.is_empty() => text_of(&view[*random.pick(&any)].label),
+        _ => random.pick(&ROOMS).to_string(),
+    }
+}
+
+/// How often a sheet is asked for, of a view that has lessons or none.
+pub fn sheet_share(view: &[Node], with_lessons: usize, with_none: usize) -> usize {
+    if view.iter().any(|node| node.level == ROOM_LEVEL + 1) {
+        with_lessons
+    } else {
+        with_none
+    }
+}
+
 pub fn question(random: &mut Random, view: &[Node]) -> String {
-    match random.below(6) {
+    match random.below(6 + sheet_share(view, 3, 1)) {
         0 => "(view)".to_string(),
         1..=3 => format!("(query {})", command_path(random, view)),
-        _ => format!("(find {})", command_path(random, view)),
+        4..=5 => format!("(find {})", command_path(random, view)),
+        _ => format!("(sheet {})", room(random, view)),
     }
 }
 
@@ -289,7 +355,7 @@ pub fn question(random: &mut Random, view: &[Node]) -> String {
 pub fn refused(random: &mut Random) -> String {
     let path = any_path(random);
     let name = text_of(&some_label(random));
-    match random.below(14) {
+    match random.below(15) {
         0 => format!("(subject {name})"),
         1 => format!("(isa {name} staff)"),
         2 => format!("(rule accept read {path} {name})"),
@@ -303,6 +369,7 @@ pub fn refused(random: &mut Random) -> String {
         10 => format!("(rename {path} RESTRICTED)"),
         11 => format!("(view {path})"),
         12 => format!("(query {path}\t)"),
+        13 => format!("(sheet {path})"),
         _ => format!("(find  {path})"),
     }
 }

@@ -7,3 +7,4 @@ pub mod lent;
 pub mod options;
 pub mod random;
 pub mod sessions;
+pub mod sheets;

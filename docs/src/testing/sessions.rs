@@ -8,8 +8,10 @@ use crate::form::LINE_MAXIMUM;
 use crate::label::{write_record, Label, RECORD_BYTES};
 use crate::path::{Step, Test};
 use crate::policy::{Policy, Rule, ISA_MAXIMUM, POSITION, READ, RULES_MAXIMUM, SUBJECTS_MAXIMUM};
+use crate::reading::Reading;
+use crate::sheet::{DAYS, PERIODS};
 use crate::state::{self, Stage, State};
-use crate::step::{step, Reading, Store};
+use crate::step::{step, Store};
 use crate::table::{self, flatten, Node, Tree, CAPACITY_MAXIMUM, LEVEL_MAXIMUM};
 use crate::view::view;
 use crate::STATE_BYTES;
@@ -76,6 +78,22 @@ const ODD_PATHS: [&str; 34] = [
     "//*[*//*//*//*//*//*//*//*//*//*//*//*//*//*//*//*//*]",
     "//$[$]",
     "//a$",
+];
+const ODD_SHEETS: [&str; 14] = [
+    "(sheet)",
+    "(sheet )",
+    "(sheet $)",
+    "(sheet *)",
+    "(sheet /R-12)",
+    "(sheet //room)",
+    "(sheet R-12[1])",
+    "(sheet room )",
+    "(sheet  room)",
+    "(sheet room R-12)",
+    "(sheet (room))",
+    "(sheet ro+m)",
+    "(sheet abcdefghijklmnopqrstuvwx)",
+    "(sheet abcdefghijklmnopqrstuvwxy)",
 ];
 const PATH_BYTES: &[u8] = b"/[]*$ab019.-#";
 
@@ -218,6 +236,7 @@ fn stage_line(random: &mut Random, stage: Stage, store: Option<&Store>) -> Vec<u
         Stage::B => rule_line(random, store),
         Stage::C => format!("(root {})", label_text(random)),
         Stage::D if random.percent(4) => long_line(random, "(child"),
+        Stage::D if random.percent(25) => format!("(child {})", tree_text(&generate::day(random, PERIODS))),
         Stage::D => format!("(child {})", tree_text(&some_tree(random))),
         Stage::E => session_line(random, store),
     }
@@ -255,7 +274,7 @@ fn rule_line(random: &mut Random, store: Option<&Store>) -> String {
 
 fn session_line(random: &mut Random, store: Option<&Store>) -> String {
     let Some(store) = store else {
-        return "(view)".to_string();
+        return generate::question(random, &[]);
     };
     let Some(user) = store.state.user else {
         return match random.below(4) {
@@ -279,7 +298,7 @@ fn session_line(random: &mut Random, store: Option<&Store>) -> String {
 
 fn user_line(random: &mut Random, store: &Store, seen: &[Node]) -> String {
     let path = command_path(random, seen);
-    match random.below(24) {
+    match random.below(24 + generate::sheet_share(seen, 8, 1)) {
         0 => format!("(user {})", declared_name(random, Some(store))),
         1..=3 => "(view)".to_string(),
         4..=6 => format!("(query {path})"),
@@ -290,6 +309,8 @@ fn user_line(random: &mut Random, store: &Store, seen: &[Node]) -> String {
         17..=18 => format!("(before {path} {})", tree_text(&some_tree(random))),
         19..=20 => format!("(after {path} {})", tree_text(&some_tree(random))),
         21 if random.percent(15) => long_line(random, &format!("(append {path}")),
+        24.. if random.percent(6) => random.pick(&ODD_SHEETS).to_string(),
+        24.. => format!("(sheet {})", generate::room(random, seen)),
         _ => format!("(remove {path})"),
     }
 }
@@ -372,6 +393,7 @@ fn sound_start(random: &mut Random) -> Start {
         let grown = match random.below(8) {
             0 => generate::deep_tree(random, LEVEL_MAXIMUM),
             1 => tree(random, 300, LEVEL_MAXIMUM),
+            2..=3 if !full => generate::week_for(random, &mut policy, reader, DAYS + 2, PERIODS + 2),
             _ => {
                 let size = random.within(1, 40);
                 tree(random, size, 6)
