@@ -32,8 +32,8 @@ for path in glob.glob("crates/*/src/*.rt"):
 edits = {path.split("/")[1] + "/" + os.path.basename(path)[:-5] for path in glob.glob("crates/*/edits/*.edit")}
 crates = {os.path.basename(path) for path in glob.glob("crates/*")}
 
-# the most lines of definitions to be believed; 1,700 until card 3, whose own definitions have 46
-BELIEVED_MAX = 1750
+# the most lines of definitions to be believed; 1,700 until card 3, whose own definitions have 49; since then the table of the forms counts too
+BELIEVED_MAX = 1800
 # words of the language, no names of ours
 WORDS = {"ensures", "requires"}
 seen, wrong = set(), []
@@ -143,23 +143,23 @@ for name in PAGES:
         if not re.search(r"(?m)^\[%s\]: " % re.escape(word), text):
             wrong.append("%s: [%s] leads nowhere" % (name, word))
 
-# docs/MODEL.md's tables of the forms: the stage of each is that of `stageFor`, and the numbers that it may be refused with are those of `rows`.
+# docs/MODEL.md's tables of the forms: the stage of each is that of its row in `layout`, and the numbers that it may be refused with are those of `rowsBy`.
 model = open("docs/MODEL.md").read()
 conditions = open("crates/lines/specs/Conditions.antt").read()
-stages = dict(re.findall(r"(?m)^stageFor \(?command\.(\w+).*= stage(\w)$", open("crates/lines/specs/Clause.antt").read()))
+stages = {form: stage for stage, form in re.findall(r'(?m)^layout word\.\w+ = row stage(\w) \(bytes "(\w+)"\)', open("crates/forms/specs/Layout.antt").read())}
 
 
 def numbers(body):
     """The numbers of rows, in order, each once; rows that are named are those of their definition."""
     found = []
     for number, name in re.findall(r"\((\d+),|\b(\w+Rows)\b", body):
-        for one in [int(number)] if number else numbers(re.search(r"(?ms)^  %s \w.*?=(.*?)(?:\n\n|\Z)" % name, conditions).group(1)):
+        for one in [int(number)] if number else numbers(re.search(r"(?ms)^  %s\b[^=:\n]*=(.*?)(?:\n\n|\Z)" % name, conditions).group(1)):
             if one not in found:
                 found.append(one)
     return found
 
 
-clauses = {form: numbers(body) for form, body in re.findall(r"(?ms)^  rows \(?command\.(\w+)[^=\n]*=(.*?)(?=^  rows |\n\n)", conditions)}
+clauses = {form.lower(): numbers(body) for form, body in re.findall(r"(?ms)^  rowsBy word\.(\w+)[^=\n]*=(.*?)(?=^  rowsBy |\n\n)", conditions)}
 told = {form: [int(one) for one in said.split(", ")] for names, said in re.findall(r"(?m)^\| ((?:`\w+`(?:, )?)+) \| ([\d, ]+) \|$", model) for form in re.findall(r"\w+", names)}
 staged = {form: stage for stage, form in re.findall(r"(?m)^\| ([A-E]) \| `\((\w+)", model)}
 for form in stages:
@@ -167,7 +167,7 @@ for form in stages:
     if stages[form] != staged.get(form) or form not in clauses or clauses[form] != told.get(form):
         wrong.append("docs/MODEL.md: %s is of stage %s, and refused with %s" % (form, stages[form], clauses.get(form)))
 if not stages or set(stages) != set(staged) or set(stages) != set(told):
-    wrong.append("docs/MODEL.md: other forms than `stageFor` has")
+    wrong.append("docs/MODEL.md: other forms than `layout` has")
 
 # The picture of the crates has each of them, and its arrows lead, in one step or more, to all that each rests on and to nothing else.
 rests = {name: [one for one in names.split() if one in crates] for name, names in re.findall(r"(?m)^(\w+):(.*)$", open("crates.txt").read())}
