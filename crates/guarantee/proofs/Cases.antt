@@ -6,7 +6,7 @@ use mathlib.Core.List.{List, [], _∷_, map}
 use lib.ListN.{drop}
 use Rattle.guarantee.specs.Alike.{Input, outcome}
 use Rattle.guarantee.specs.Cases.{replies, newState, newTable, input, Case, CaseAnswered, Starred}
-use Rattle.guarantee.specs.Cases.{exampleAnswered, exampleRenamed, bracketHolds, bracketCounts, noRules, rootRemoved, lessonRemoved, levels, fewRecords, hiddenChild, wordsOfOthers, ReadRight, firstRoom, CardsAnswered}
+use Rattle.guarantee.specs.Cases.{exampleAnswered, exampleRenamed, bracketHolds, bracketCounts, noRules, rootRemoved, lessonRemoved, levels, fewRecords, hiddenChild, wordsOfOthers, ReadRight, firstRoom, doorSheet, CardsAnswered}
 use Rattle.rights.specs.Bytes.{digitByte, run, all, every}
 use Rattle.rights.specs.Labels.{labelByte, folded, sameLabel}
 use Rattle.rights.specs.Path.{passes}
@@ -26,6 +26,7 @@ use Rattle.rights.specs.Marks.{eachFrom, keep}
 use Rattle.views.specs.Change.{dropBelow, putBehind, remove, insertBehind, rename, chunks, raise, join, changed, deepest, tooDeep}
 use Rattle.views.specs.Done.{inTable}
 use Rattle.answers.specs.Answer.{hitLines, childLines, viewText}
+use Rattle.answers.specs.Sheet.{cell, days, labelled, lesson, rowText, headRow, row, sheetText}
 use Rattle.forms.specs.Word.{sameText, among, signAt, rightAt}
 use Rattle.forms.specs.Layout.{wordAt}
 use Rattle.forms.specs.Part.{pathByte, labelEnd, runEnd, knownEnd}
@@ -74,7 +75,7 @@ small-passes = refl
 
 -- what the lines of a row give from a new store, where 13 is not computed
 unfoldable pub given : Case → List Reply
-unfolding passedReplies passed digitByte run all labelByte sameLabel passes readTest readStep numberOf isPosition readPosition closes readBrackets readSteps unslashed brackets steps pathOf decimal writeTest some passesOwn policyWord testOf namesFrom isaFrom stepsFrom rulesFrom policyOf recordOf isBy reaches decide rightsBy chains levelAt labelAt filter withNumber each stretch nodeSet filtered xpathSelected recordsFrom storedFrom atParent nearestFirst shownAfter keep eachFrom dropBelow putBehind remove insertBehind rename chunks raise join changed deepest tooDeep inTable hitLines childLines viewText sameText among wordAt signAt rightAt pathByte labelEnd openEnd tailEnd treeEnd tailNodes treeNodes recordsOf partsOf endsIn readForm subjectFrom subjectNamed isaHeld bracketed hasBracket stepList stepsIn pathRestricted stepRecords withLine lineByte lineOk checked performed treeRestricted folded padded standsFor subjectsWhere runEnd knownEnd
+unfolding passedReplies passed digitByte run all labelByte sameLabel passes readTest readStep numberOf isPosition readPosition closes readBrackets readSteps unslashed brackets steps pathOf decimal writeTest some passesOwn policyWord testOf namesFrom isaFrom stepsFrom rulesFrom policyOf recordOf isBy reaches decide rightsBy chains levelAt labelAt filter withNumber each stretch nodeSet filtered xpathSelected recordsFrom storedFrom atParent nearestFirst shownAfter keep eachFrom dropBelow putBehind remove insertBehind rename chunks raise join changed deepest tooDeep inTable hitLines childLines viewText sameText among wordAt signAt rightAt pathByte labelEnd openEnd tailEnd treeEnd tailNodes treeNodes recordsOf partsOf endsIn readForm subjectFrom subjectNamed isaHeld bracketed hasBracket stepList stepsIn pathRestricted stepRecords withLine lineByte lineOk checked performed treeRestricted folded padded standsFor subjectsWhere runEnd knownEnd cell days labelled lesson rowText headRow row sheetText
 given c = passedReplies newState (newTable (c .capacity)) (map input (c .turns))
 
 abbrev Gives : Case → Type 0
@@ -159,5 +160,12 @@ first-room : Gives firstRoom
 unfolding given
 first-room = refl
 
+door-sheet : Gives doorSheet
+unfolding given
+door-sheet = refl
+
 pub cards-answered : CardsAnswered
-cards-answered = answered firstRoom small-passes first-room and tt
+cards-answered =
+    answered firstRoom small-passes first-room
+    and answered doorSheet new-passes door-sheet
+    and tt

@@ -31,10 +31,19 @@ pub record Turn : Type 0 where
 abbrev pub _gives_ : String → String → Turn
 _gives_ l b = record { line = l; reply = says (bytes b) }
 
+-- an answer by its rows
+abbrev pub rowsOf : List String → List ℕ
+rowsOf [] = []
+rowsOf (r ∷ rs) = bytes r ++ (bytes "\n" ++ rowsOf rs)
+
+abbrev pub _prints_ : String → List String → Turn
+_prints_ l rs = record { line = l; reply = says (rowsOf rs) }
+
 abbrev pub _refused_ : String → ℕ → Turn
 _refused_ l n = record { line = l; reply = refuses n }
 
 infix 80 _gives_
+infix 80 _prints_
 infix 80 _refused_
 abbrev pub ok : String → Turn
 ok l = l gives "(ok)\n"
@@ -295,5 +304,38 @@ firstRoom =
           ∷ [];
     }
 
+-- Card 3: Tuesday is hidden, and Wednesday stands in its place. The first child labelled R12 alone decides; labels are those that the view carries, cut at 13 bytes.
+abbrev pub doorSheet : Case
+doorSheet =
+    record {
+      capacity = 1024;
+      turns =
+          ok "(subject door)"
+          ∷ ok "(rule accept read //* door)"
+          ∷ ok "(rule deny read /school/Tue door)"
+          ∷ ok "(rule deny read //private door)"
+          ∷ ok "(rule accept position //private door)"
+          ∷ ok "(root school)"
+          ∷ ok "(child (Mon (p1 (R9 (art)) (R12 (maths) (set-1)))))"
+          ∷ ok "(child (Tue (p1 (R12 (music)))))"
+          ∷ ok "(child (Wed (p1 (R12) (R12 (art))) (p2 (R12 (assembly-of-all)))))"
+          ∷ ok "(child (Thu (p1 (R12 (private)))))"
+          ∷ ok "(user door)"
+          ∷ "(sheet R12)" prints (
+          "  Mon          |Wed          |Thu          |             |             |"
+          ∷ "1 maths        |             |RESTRICTED   |             |             |"
+          ∷ "2              |assembly-of-a|             |             |             |"
+          ∷ "3              |             |             |             |             |"
+          ∷ "4              |             |             |             |             |"
+          ∷ "5              |             |             |             |             |"
+          ∷ "6              |             |             |             |             |"
+          ∷ "7              |             |             |             |             |"
+          ∷ "8              |             |             |             |             |"
+          ∷ []
+          )
+          ∷ "(sheet $)" refused 2
+          ∷ [];
+    }
+
 abbrev pub CardsAnswered : Type 0
-CardsAnswered = All CaseAnswered (firstRoom ∷ [])
+CardsAnswered = All CaseAnswered (firstRoom ∷ doorSheet ∷ [])
