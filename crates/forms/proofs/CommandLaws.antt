@@ -7,7 +7,7 @@ use lib.ListN.{length, drop, length-append, length-drop}
 use lib.Seq.{take-at}
 use Rattle.forms.specs.Kind.{Kind, Label, Path, Tree, Sign, Right}
 use Rattle.forms.specs.Layout.{shapeOf}
-use Rattle.forms.specs.Form.{part, bytesOf, placeIn, heldAt, allHeldAt, readForm}
+use Rattle.forms.specs.Form.{partBytes, placeIn, heldAt, allHeldAt, readForm}
 use Rattle.forms.specs.Command.{Value, Values, Command, writeValue, writeValues, written, GoodValue, GoodValues, GoodCommand, heldOf, allHeldOf, formOf}
 use Rattle.forms.proofs.TreeTextLaws.{tree-complete}
 use Rattle.forms.proofs.FormTextLaws.{sign-reads, right-reads, part-after, values-stop, placesOf, placesIn, endOf, after-word, written-form}
@@ -15,7 +15,7 @@ use Rattle.forms.proofs.FormTextLaws.{sign-reads, right-reads, part-aft
 -- The part of kind k at place a, after a space: it stands within the line and holds what it says, and the parts ks follow it
 pub record PartSaid (s : List ℕ) (a : ℕ) (k : Kind) (v : Value k) (ks : List Kind) (vs : Values ks) : Type 0 where
   pub inside : a + 1 + length (writeValue k v) ≤ length s
-  pub holds : bytesOf s (part a (a + 1 + length (writeValue k v))) ≡ writeValue k v
+  pub holds : partBytes s a (a + 1 + length (writeValue k v)) ≡ writeValue k v
   pub follows : drop (a + 1) s ≡ writeValue k v ++ writeValues ks vs
 
 part-said : (s : List ℕ) (a : ℕ) (k : Kind) (v : Value k) (ks : List Kind) (vs : Values ks) → drop a s ≡ writeValues (k ∷ ks) (v, vs) → PartSaid s a k v ks vs

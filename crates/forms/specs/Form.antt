@@ -11,7 +11,6 @@ use Rattle.rights.specs.declared.path.Read.{Read}
 use Rattle.rights.specs.declared.path.Read.the-variants.{At, Bad}
 use Rattle.forms.specs.declared.layout.Word.{Word}
 use Rattle.forms.specs.declared.layout.Word.the-variants.{Other}
-use Rattle.forms.specs.declared.form.Part.{Part}
 use Rattle.forms.specs.Word.{signAt, rightAt}
 use Rattle.forms.specs.Layout.{shapeOf, wordAt}
 use Rattle.forms.specs.Part.{runEnd}
@@ -45,17 +44,9 @@ partsOf (k ∷ ks) s at = onePart k s at andThen (none, λ e. (at ∷ []) onTo p
 abbrev pub placeIn : List ℕ → ℕ → ℕ
 placeIn es i = getD es i 0
 
--- the part that follows a space at a, up to b
-abbrev pub part : ℕ → ℕ → Part
-part a b = record { at = a + 1; end = b }
-
--- the part that stands after place i
-abbrev pub partAt : (ℕ → ℕ) → ℕ → Part
-partAt e i = part (e i) (e (suc i))
-
--- the bytes of a part of a line
-abbrev pub bytesOf : List ℕ → Part → List ℕ
-bytesOf line p = take (p .end - p .at) (drop (p .at) line)
+-- the bytes of the part that follows a space at a, up to b
+abbrev pub partBytes : List ℕ → ℕ → ℕ → List ℕ
+partBytes line a b = take (b - (a + 1)) (drop (a + 1) line)
 
 -- What is held of a part of each kind: the bytes of a label or a path, a tree's nodes, whether a sign accepts, the bit of a right
 abbrev pub Held : Kind → Type 0
@@ -80,8 +71,8 @@ noForm = record { word = Other; parts = tt }
 
 -- of the part of kind k that follows a space at a, up to b; of the parts of a shape that stand after place i
 abbrev pub heldAt : (k : Kind) → List ℕ → ℕ → ℕ → Held k
-heldAt Label s a b = bytesOf s (part a b)
-heldAt Path s a b = bytesOf s (part a b)
+heldAt Label s a b = partBytes s a b
+heldAt Path s a b = partBytes s a b
 heldAt Tree s a b = treeNodes s (a + 1)
 heldAt Sign s a b = eqb (signAt s (a + 1)) 1
 heldAt Right s a b = rightAt s (a + 1)

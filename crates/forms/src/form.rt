@@ -4,16 +4,9 @@ use crate::limits::NO_STAGE;
 use crate::reader::beginning;
 use crate::reader::walk;
 ghost use mathlib.Core.Path.{_≡_};
-ghost use Prim.Native.Nat.{_*_, _≤_, _<_};
+ghost use Prim.Native.Nat.{_*_, _≤_};
 ghost use lib.ListN.{length};
-ghost use Rattle.forms.specs.Form.{placeIn, partAt};
-ghost use Rattle.forms.specs.How.Reader.{Ends, FormRead, areaIn};
-
-// The bytes of the line from `at` up to `end`.
-pub struct Part {
-    pub at: usize,
-    pub end: usize,
-}
+ghost use Rattle.forms.specs.How.Reader.{FormRead, areaIn};
 
 // What a line says: its word and stage, the places after the word and after each part, and what each part says: 1 for accept, a right's bit, how many nodes a
 // tree has. A tree's nodes stand in the lent area. The word of what is no form (refusal 2) is `Other`.
@@ -22,17 +15,6 @@ pub struct Form {
     pub stage: u8,
     pub ends: [usize; 5],
     pub says: [usize; 4],
-}
-
-// The part that stands after place i.
-pub fn part_at(ends: &[usize; 5], i: usize) -> Part
-    requires { ⌜ (i < 4) × Ends (now ends) ⌝ }
-    ensures { λ r. ⌜ r ≡ partAt (placeIn (now (ends .entry))) i ⌝ }
-{
-    Part {
-        at: ends[i] + 1,
-        end: ends[i + 1],
-    }
 }
 
 // What the line s says. The records of its tree, if it holds one, are put into the lent area from the front, each when its node is passed: a line that is

@@ -1,7 +1,5 @@
 // One call for every line (document 01, "Lines" and "Who can be turned down").
 use forms::form::Form;
-use forms::form::Part;
-use forms::form::part_at;
 use forms::form::read_form;
 use forms::layout::Word;
 use forms::limits::NO_STAGE;
@@ -32,7 +30,7 @@ use views::done::Change;
 use views::insert::Place;
 ghost use mathlib.Core.Path.{_≡_};
 ghost use mathlib.Core.Bool.{true, cond};
-ghost use Prim.Native.Nat.{_*_, _≤_, _<_};
+ghost use Prim.Native.Nat.{suc, _*_, _≤_, _<_};
 ghost use lib.Dec.{leb};
 ghost use lib.ListN.{length, take, replicate};
 ghost use Rattle.rights.specs.Marks.{bit};
@@ -40,7 +38,7 @@ ghost use Rattle.rights.specs.Record.{pasted};
 ghost use Rattle.forms.specs.Text.{lineOk};
 ghost use Rattle.forms.specs.Tree.{recordsOf};
 ghost use Rattle.forms.specs.Layout.{stageOf};
-ghost use Rattle.forms.specs.Form.{partAt, placeIn, bytesOf, readForm, treeIn};
+ghost use Rattle.forms.specs.Form.{placeIn, partBytes, readForm, treeIn};
 ghost use Rattle.forms.specs.How.Reader.{Ends, FormRead};
 ghost use Rattle.lines.specs.State.{stage, storeOk};
 ghost use Rattle.lines.specs.Outcome.{Made};
@@ -102,11 +100,10 @@ fn smaller(a: usize, b: usize) -> usize
 // The bytes of the part that stands after place i, as far as the line goes.
 fn part_of<'a>(line: &'a [u8], ends: &[usize; 5], i: usize) -> &'a [u8]
     requires { ⌜ (i < 4) × Ends (now ends) ⌝ }
-    ensures { λ r. ⌜ now r ≡ bytesOf (now (line .entry)) (partAt (placeIn (now (ends .entry))) i) ⌝ }
+    ensures { λ r. ⌜ now r ≡ partBytes (now (line .entry)) (placeIn (now (ends .entry)) i) (placeIn (now (ends .entry)) (suc i)) ⌝ }
 {
-    let p = part_at(ends, i);
-    let end = smaller(p.end, line.len());
-    let at = smaller(p.at, end);
+    let end = smaller(ends[i + 1], line.len());
+    let at = smaller(ends[i] + 1, end);
     &line[at..end]
 }
 
