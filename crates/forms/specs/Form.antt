@@ -1,4 +1,4 @@
--- How a line's form is read (document 01, "Lines"): its word, then the parts of the word's shape. What is read stands in FormText.
+-- How a line's form is read (document 01, "Lines"): its word, then the parts of the word's shape. How it is written stands in Command.
 use Prim.Native.Nat.{ℕ, suc, _+_, _-_}
 use mathlib.Core.Bool.{Bool, cond, _&&_}
 use mathlib.Core.List.{List, [], _∷_, _++_}
