@@ -18,7 +18,7 @@ use Rattle.rights.proofs.PathTexts.{and-left, and-right, run-all, run-length}
 use Rattle.forms.specs.Word.{signs, rights, sameText, among, labelBytesAt, signAt, rightAt}
 use Rattle.forms.specs.How.Codes.{textNumber, textNumberAt, byNumber, nextWeight}
 
--- The textNumber of a text, letter by letter
+-- The number of a text, letter by letter
 
 letter-more : (xs : List ℕ) (k : ℕ) → k < length xs → textNumber (take (suc k) xs) ≡ textNumber (take k xs) + getD xs k 0 * 256 ^ k
 unfolding textNumber
@@ -95,7 +95,7 @@ label-range x =
         let h = leb-true x hi (and-right (leb lo x) (leb x hi) e) in
         (omega arith, omega arith)
 
--- Two texts of label bytes have the same textNumber exactly if they are equal
+-- Two texts of label bytes have the same number exactly if they are equal
 
 same-number : (xs ys : List ℕ) → all labelByte xs ≡ true → all labelByte ys ≡ true → eqb (textNumber xs) (textNumber ys) ≡ sameText xs ys
 unfolding textNumber sameText all
@@ -168,7 +168,7 @@ same-at s at w g =
         (λ e. absurd (omega (arith, short, run-length labelByte (drop at s), ap length (same-equal (labelBytesAt s at) w e))))
         (λ e. e)
 
--- So looking a word up by its textNumber is looking it up by its letters
+-- So looking a word up by its number is looking it up by its letters
 pub numbered-among : {A : Type 0} (other : A) (t : List (List ℕ × A)) → wordTexts t ≡ true → (s : List ℕ) (at : ℕ) → byNumber other t (textNumberAt s at) ≡ among other t (labelBytesAt s at)
 unfolding byNumber among
 numbered-among other [] g s at = refl
@@ -183,7 +183,7 @@ pub right-numbered : (s : List ℕ) (at : ℕ) → byNumber 0 rights (textNumber
 unfolding rightAt labelByte all
 right-numbered s at = numbered-among 0 rights refl s at
 
--- A textNumber that is none of a table's: what a `match` on the numbers leaves
+-- A number that is none of a table's: what a `match` on the numbers leaves
 abbrev pub Missing : {A : Type 0} → Type 0 → List (List ℕ × A) → ℕ → Type 0
 Missing X [] n = X
 Missing X ((w, x) ∷ rest) n = Missing (X × (n ≡ textNumber w → ⊥)) rest n

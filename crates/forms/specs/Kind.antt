@@ -20,7 +20,7 @@ partEnd Tree s at = treeEnd s at
 partEnd Sign s at = knownEnd (signAt s at) s at
 partEnd Right s at = knownEnd (rightAt s at) s at
 
--- The number of a kind. In the code 0 is no kind, and 6 the form's word itself.
+-- The number of a kind. In the code 0 is no kind.
 abbrev pub codeOf : Kind → ℕ
 codeOf Label = 1
 codeOf Path = 2

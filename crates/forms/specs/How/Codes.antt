@@ -17,7 +17,7 @@ use Rattle.forms.specs.declared.layout.Word.{Word}
 use Rattle.forms.specs.declared.layout.Layout.{Layout}
 use Rattle.forms.specs.Layout.{stageOf, shapeOf}
 
--- The code compares words by textNumber: a text as a textNumber, its first byte lowest. Law numbered-among says that this comes to the same.
+-- The code compares words by textNumber: a text as a number, its first byte lowest. Law numbered-among says that this comes to the same.
 unfoldable pub textNumber : List ℕ → ℕ
 textNumber [] = 0
 textNumber (x ∷ xs) = textNumber xs * 256 + x
