@@ -12,9 +12,10 @@ import sys
 ROOT = os.path.dirname(os.path.dirname(os.path.abspath(__file__)))
 CAPACITY = "rights::table::capacity_of"
 DIVISION = re.compile(r"\(op2 \((?:div|rem) ")
-OPERAND = r" \w+\) \((?:copy|move) \(place [^)]*\)\) \(int \d+ "
-SHIFT_BY_5 = re.compile(r"\(op2 \(shr" + OPERAND + r"5\)")
-DIVISION_BY_32 = re.compile(r"\(op2 \((?:div|rem)" + OPERAND + r"32\)")
+# the first operand, whatever it is, and the second, a number
+OPERANDS = r" \w+\) (?:(?!\(op2|\(seq|\(assign).)*? \(int \d+ %d\)\)"
+SHIFT_BY_5 = re.compile(r"\(op2 \(shr" + OPERANDS % 5)
+DIVISION_BY_32 = re.compile(r"\(op2 \((?:div|rem)" + OPERANDS % 32)
 CALLED = re.compile(r'\(fnRef "([^"]+)"\)')
 
 bodies = {}

@@ -1,5 +1,5 @@
 -- The lines that write a tree: its labels, the table of the root alone, the last child of the root. Assumes nothing.
-use Prim.Native.Nat.{ℕ, zero, suc, _+_, _-_, _*_, _/_, min, _≤_, _<_}
+use Prim.Native.Nat.{ℕ, zero, suc, _+_, _-_, _*_, _≤_, _<_}
 use mathlib.Core.Bool.{true, false, not, _||_, Bool·beq, false≢true}
 use mathlib.Core.Path.{_≡_, refl, sym, ap, ap₂, _∙_}
 use mathlib.Core.List.{List, [], _∷_, _++_, append-nil}
@@ -13,7 +13,7 @@ use Rattle.rights.specs.Labels.{sameLabel, restricted}
 use Rattle.rights.specs.Policy.{some}
 use Rattle.rights.specs.Record.{noSpare, nodeRecord, pasted}
 use Rattle.rights.specs.Table.{level, label, count, capacity, records, recordOk, recordsOk, tableOk}
-use Rattle.rights.proofs.TableLaws.{both}
+use Rattle.rights.proofs.TableLaws.{both, capacity-exact, table-long}
 use Rattle.rights.proofs.LabelLaws.{same-differ}
 use Rattle.rights.proofs.ListLaws.{byCase}
 use Rattle.rights.proofs.RecordOfLaws.{pasted-record}
@@ -86,14 +86,14 @@ zeros-behind zero x e = e
 zeros-behind (suc n) [] e = refl
 zeros-behind (suc n) (b ∷ x) e = zeros-behind n x (both (isZero b) (all isZero x) e .1)
 
-pub root-room : (t : List ℕ) → 1 ≤ capacity (length t) → 36 ≤ length t
-root-room t h = let k : 1 ≤ min ((length t - 4) / 32) 16384 = h in omega (arith, k)
+pub root-room : (t : List ℕ) → tableOk t ≡ true → 1 ≤ capacity (length t) → 36 ≤ length t
+root-room t ok h = capacity-exact (length t) 1 (table-long t ok) .0 h .0
 
 pub root-put : (t l p q : List ℕ) → tableOk t ≡ true → count t ≡ 0 → 1 ≤ capacity (length t) → length l ≤ 24
     → p ≡ pasted t 4 (nodeRecord 0 (take (length l) (drop 0 l))) → q ≡ le4 1 ++ drop 4 p → q ≡ changed t (nodeRecord 0 l ∷ [])
 unfolding changed join
 root-put t l p q ok n h k ep eq =
-    let g : 36 ≤ length t = root-room t h in
+    let g : 36 ≤ length t = root-room t ok h in
     let a : p ≡ take 4 t ++ (nodeRecord 0 l ++ drop 36 t) = ep ∙ ap (λ x. pasted t 4 (nodeRecord 0 x)) (take-length l) ∙ pasted-record t 4 0 l noSpare k refl in
     let b : drop 4 p ≡ nodeRecord 0 l ++ drop 36 t =
     ap (drop 4) a ∙ drop-at (take 4 t) (nodeRecord 0 l ++ drop 36 t) 4 (length-take-le 4 t (omega arith)) in

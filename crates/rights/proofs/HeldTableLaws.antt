@@ -1,5 +1,5 @@
 -- A table as records of 32 bytes are held in it: what is read of it again. Assumes nothing.
-use Prim.Native.Nat.{ℕ, zero, suc, _+_, _*_, _-_, _/_, _%_, _≤_, _<_, min}
+use Prim.Native.Nat.{ℕ, zero, suc, _+_, _*_, _-_, _/_, _%_, _≤_, _<_}
 use mathlib.Core.Path.{_≡_, refl, sym, ap, _∙_}
 use mathlib.Core.Bool.{true}
 use mathlib.Core.List.{List, [], _∷_, _++_, map}
@@ -7,6 +7,7 @@ use native.Mathlib.Nat.{zero-add}
 use native.Mathlib.Omega.{arith}
 use lib.ListN.{length, getD, take, drop, replicate, length-append, length-replicate, length-map, List·getD-map}
 use lib.Seq.{drop-at, drop-drop}
+use Rattle.rights.specs.Limits.{recordsMax}
 use Rattle.rights.specs.Bytes.{all, isZero}
 use Rattle.rights.specs.Marks.{eachFrom}
 use Rattle.rights.specs.Table.{recordAt, recordsFrom, recordsOk, count, capacity, records, tableOk}
@@ -16,6 +17,7 @@ use Rattle.rights.proofs.MarkLaws.{each-at}
 use Rattle.rights.proofs.PlaceLaws.{Wide, length-join, join-at}
 use Rattle.rights.proofs.RecordOfLaws.{zeros-zero}
 use Rattle.rights.proofs.RecordsOkLaws.{table-yes}
+use Rattle.rights.proofs.TableLaws.{capacity-exact}
 
 pub records-each : (t : List ℕ) (n i : ℕ) → recordsFrom t n i ≡ eachFrom (recordAt t) i n
 unfolding recordsFrom eachFrom
@@ -53,8 +55,8 @@ module _ {A : Type 0} (f : A → List ℕ) (d : A) (n : ℕ) (xs : List A) (head
   abbrev blank : List ℕ
   blank = replicate (n - (4 + length (map f xs) * 32)) 0
 
-  fits : (length (map f xs) ≤ 16384) × (4 + length (map f xs) * 32 ≤ n)
-  fits = let r : length xs ≤ min ((n - 4) / 32) 16384 = room in let l = length-map xs f in (omega (arith, r, l), omega (arith, r, head, l))
+  fits : (4 + length (map f xs) * 32 ≤ n) × (length (map f xs) ≤ recordsMax)
+  fits = rw (length-map xs f) (capacity-exact n (length xs) head .0 room)
 
   records-long : length (join (map f xs)) ≡ length (map f xs) * 32
   records-long = length-join f 32 xs wide ∙ ap (λ (k : ℕ). k * 32) (sym (length-map xs f))
@@ -63,10 +65,10 @@ module _ {A : Type 0} (f : A → List ℕ) (d : A) (n : ℕ) (xs : List A) (head
   length-table =
       let e : length (join (map f xs) ++ blank) ≡ length (map f xs) * 32 + (n - (4 + length (map f xs) * 32)) =
       length-append (join (map f xs)) blank ∙ rw (records-long, length-replicate {A = ℕ} (n - (4 + length (map f xs) * 32)) 0) in
-      omega (arith, e, fits .1)
+      omega (arith, e, fits .0)
 
   pub count-table : count held ≡ length (map f xs)
-  count-table = let m : ℕ = length (map f xs) in let h : m ≤ 16384 = fits .0 in omega (arith, h)
+  count-table = let m : ℕ = length (map f xs) in let h : m ≤ 16384 = fits .1 in omega (arith, h)
 
   record-held : (k : ℕ) → k < length xs → recordAt held k ≡ f (getD xs k d)
   record-held k h = ap (take 32) (sym (drop-drop (k * 32) 4 held)) ∙ join-at f 32 xs blank d k wide h

@@ -1,5 +1,5 @@
 -- The call that loads the solver's file, step by step: what each step asks for, and what is returned and left where it turns the call away. Assumes nothing.
-use Prim.Native.Nat.{ℕ, max, min, _+_, _-_, _*_, _/_, _≤_, _<_}
+use Prim.Native.Nat.{ℕ, max, _+_, _*_, _≤_, _<_}
 use mathlib.Core.Path.{_≡_, refl, ap, _∙_}
 use mathlib.Core.Bool.{true, false, _||_}
 use mathlib.Core.List.{List, [], _∷_, _++_, map}
@@ -12,6 +12,7 @@ use Rattle.rights.specs.Nodes.{Nodes, levelOf}
 use Rattle.rights.specs.Policy.{some}
 use Rattle.rights.specs.Table.{count, capacity}
 use Rattle.rights.proofs.ListLaws.{byCase}
+use Rattle.rights.proofs.TableLaws.{capacity-exact}
 use Rattle.views.proofs.TableLaws.{facts}
 use Rattle.answers.specs.Answer.{okText}
 use Rattle.answers.specs.How.AnswerArea.{Answered}
@@ -98,10 +99,10 @@ module _ (s t xml : List ℕ) where
         document-fits =
             let p = own-passed in
             let low = ltb-false 11 (deepest (documentNodes xml)) (deepest-told (documentNodes xml) ∙ p .1 .1 .1 .1 .0) in
-            let few : length (documentNodes xml) ≤ min ((length t - 4) / 32) 16384 = ltb-false (capacity (length t)) (length (documentNodes xml)) (p .1 .1 .1 .1 .1 .0) in
             let h = facts t (store-held s t ok .table) in
+            let fits = capacity-exact (length t) (length (documentNodes xml)) (h .head) .0 (ltb-false (capacity (length t)) (length (documentNodes xml)) (p .1 .1 .1 .1 .1 .0)) in
             let e : 4 + count t * 32 ≡ 4 = omega (arith, no-records s t ok early) in
-            record { document = document; levels = low; few = omega (arith, few); room = omega (arith, few, h .head); clear = rw e at (h .clear) }
+            record { document = document; levels = low; few = fits .1; room = fits .0; clear = rw e at (h .clear) }
 
         -- 12, and nothing
         module _ {before area : List ℕ} {need k : ℕ} (a : Answered okText before area need) (q : k ≡ firstRefusal (areaCheck (length area) need ∷ [])) where

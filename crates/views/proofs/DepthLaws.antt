@@ -2,14 +2,16 @@
 use mathlib.Core.Path.{_≡_, refl, ap, sym, _∙_}
 use mathlib.Core.List.{List, [], _∷_}
 use mathlib.Core.Bool.{Bool, true, false, cond, not, _&&_, _||_, false≢true}
-use Prim.Native.Nat.{ℕ, zero, suc, _+_, _-_, _*_, _/_, _^_, _≤_, _<_, min}
+use Prim.Native.Nat.{ℕ, zero, suc, _+_, _-_, _*_, _^_, _≤_, _<_}
 use native.Mathlib.Omega.{arith}
 use lib.ListN.{length, getD, take, drop}
 use lib.Seq.{getD-drop, drop-drop}
 use lib.Dec.{eqb, leb, ltb}
 use borrow.Author.Tests.{ltb-true, ltb-false, leb-true, lt-ltb, le-ltb, eq-eqb, ne-eqb}
 use Rattle.rights.specs.Table.{level, count, capacity, records, tableOk}
+use Rattle.rights.specs.Limits.{recordsMax}
 use Rattle.rights.proofs.ListLaws.{byCase}
+use Rattle.rights.proofs.TableLaws.{capacity-exact}
 use Rattle.views.specs.declared.insert.Place.{Place}
 use Rattle.views.specs.Change.{chunks, lower, placed, deepest, tooDeep, hasRoom}
 use Rattle.rights.specs.Marks.{marksOf, markCount}
@@ -103,14 +105,14 @@ module _ (place : Place) (n k m : ℕ) (t ms tree : List ℕ) (ok : tableOk t �
   product : k * m ≡ markCount (take (count t) (marksOf ms)) * m
   product = ap (λ (z : ℕ). z * m) (ek ∙ ap (λ (z : ℕ). markCount (take z (marksOf ms))) en)
 
-  fits : n + k * m ≤ min ((length t - 4) / 32) 16384
+  fits : (4 + (n + k * m) * 32 ≤ length t) × (n + k * m ≤ recordsMax)
   fits =
       let r : markCount (take (count t) (marksOf ms)) * m ≤ capacity (length t) - count t = leb-true _ _ room in
       let f = facts t ok in
-      omega (arith, product, en, r, f .held)
+      capacity-exact (length t) (n + k * m) (f .head) .0 (omega (arith, product, en, r, f .held))
 
   pub gap-fits : k * m < 2 ^ 64
-  gap-fits = omega (arith, fits)
+  gap-fits = omega (arith, fits .1)
 
   pub fill-asks : Fixed n (k * m) m t ms tree
       × ((n + k * m < 2 ^ 32) × (Under level 12 (chunks n (drop 4 t))) × (AtDone (λ r. Shallow (lower place) m tree (level r)) (marksOf ms) (chunks n (drop 4 t)))
@@ -118,8 +120,8 @@ module _ (place : Place) (n k m : ℕ) (t ms tree : List ℕ) (ok : tableOk t �
   fill-asks =
       let f = facts t ok in
       let s = shallow-places (lower place) m tree (marksOf ms) (records t) shallow in (
-        record { size = omega (arith, fits, f .head); marks = omega (arith, en); whole = whole },
-        (omega (arith, fits), rw en (f .low), rw (en, ← all-chunks t) s, rw ek (placed-length place n m tree (marksOf ms) (drop 4 t))),
+        record { size = omega (arith, fits .0); marks = omega (arith, en); whole = whole },
+        (omega (arith, fits .1), rw en (f .low), rw (en, ← all-chunks t) s, rw ek (placed-length place n m tree (marksOf ms) (drop 4 t))),
       )
 
 -- whether there is room

@@ -1,14 +1,13 @@
 -- What a table that passed the check is known to hold. Assumes nothing.
-use Prim.Native.Nat.{ℕ, _+_, _-_, _*_, _/_, _≤_, min}
-use mathlib.Core.Bool.{true, and-eq-true-iff}
+use Prim.Native.Nat.{ℕ, _+_, _*_, _≤_}
+use mathlib.Core.Bool.{true}
 use mathlib.Core.Path.{_≡_}
 use mathlib.Core.List.{List, [], _∷_}
 use native.Mathlib.Omega.{arith}
-use borrow.Author.Tests.{leb-true}
 use lib.ListN.{length, drop}
 use Rattle.rights.specs.Bytes.{all, isZero}
 use Rattle.rights.specs.Table.{recordOk, recordsOk, level, tableOk, count, capacity, records}
-use Rattle.rights.proofs.TableLaws.{both, sound}
+use Rattle.rights.proofs.TableLaws.{both, sound, table-long, table-held, table-room, table-few, table-records, table-clear}
 use Rattle.views.specs.Change.{chunks}
 use Rattle.views.specs.Nodes.{Under}
 use Rattle.views.proofs.ChunkLaws.{all-chunks}
@@ -30,17 +29,12 @@ pub record Holds (t : List ℕ) : Type 0 where
   pub clear : all isZero (drop (4 + count t * 32) t) ≡ true
 
 pub facts : (t : List ℕ) → tableOk t ≡ true → Holds t
-unfolding tableOk
-facts t e =
-    let f = simp (tableOk, and-eq-true-iff) at e in
-    let h : 4 ≤ length t = leb-true _ _ (f .0) in
-    let k : count t ≤ min ((length t - 4) / 32) 16384 = leb-true _ _ (f .1 .0) in
-    record {
-      head = h;
-      held = k;
-      size = omega (arith, h, k);
-      few = omega (arith, k);
-      nested = f .1 .1 .0;
-      low = rw (← all-chunks t) (under-ok 0 0 (records t) (f .1 .1 .0));
-      clear = f .1 .1 .1;
-    }
+facts t e = record {
+  head = table-long t e;
+  held = table-held t e;
+  size = table-room t e;
+  few = table-few t e;
+  nested = table-records t e;
+  low = rw (← all-chunks t) (under-ok 0 0 (records t) (table-records t e));
+  clear = table-clear t e;
+}

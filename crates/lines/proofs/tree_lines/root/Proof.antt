@@ -42,7 +42,7 @@ put-node-requires c κs =
     let g = start .pre in
     let t = a .table .now in
     let f : 1 ≤ capacity (length t) = omega (arith, ltb-false (free t) 1 ((passed (rootChecks t (a .label .now)) _ refl (at-root-refusal .root-refusal .ensures) (at-if1 .if1 .left)) .1 .0), (no-records (a .state .now) t (g .0) (g .1))) in
-    (omega (arith, root-room t f), g .2, omega arith)
+    (omega (arith, root-room t (store-held (a .state .now) t (g .0) .table) f), g .2, omega arith)
 
 put-count-requires : tie.Need-put-count-requires
 put-count-requires c κs =
@@ -52,7 +52,7 @@ put-count-requires c κs =
     let g = start .pre in
     let t = a .table .now in
     let f : 1 ≤ capacity (length t) = omega (arith, ltb-false (free t) 1 ((passed (rootChecks t (a .label .now)) _ refl (at-root-refusal .root-refusal .ensures) (at-if1 .if1 .left)) .1 .0), (no-records (a .state .now) t (g .0) (g .1))) in
-    let k = root-room t f in (omega (arith, k), search needs)
+    let k = root-room t (store-held (a .state .now) t (g .0) .table) f in (omega (arith, k), search needs)
 
 slice-write-state : tie.Need-slice-write-state
 slice-write-state c =
