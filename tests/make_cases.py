@@ -1,7 +1,7 @@
 #!/usr/bin/env python3
-"""Writes crates/cases/stdin and crates/cases/stdout: the cases of document 01 that fall to labels, tables, paths, policies, rights and selections.
+"""Writes crates/cases/stdin and crates/cases/stdout: the cases of documents 01 and 02 that fall to labels, tables, paths, policies, rights and selections.
 
-Each case stands here with its answer and the sentence of document 01 (or the reading of it in docs/DECISIONS.md) that the answer comes from. The answers
+Each case stands here with its answer and the sentence of the documents (or the reading of it in docs/DECISIONS.md) that the answer comes from. The answers
 are written by hand; nothing here computes them. With --check it writes nothing, and fails where the two files are not what the list says.
 """
 
@@ -303,9 +303,14 @@ rights(
     [(True, "read", "/r", "all"), (True, "update", "/r", "staff"), (True, "delete", "/r", "head")],
     [(0, "0200000000"), (1, "0a00000000"), (2, "1a00000000"), (3, "0000000000")],
 )
-# "(for `$`, with that subject's name)": never the rule's N, never a role's name
-rights(["r", "a", "b"], [("a", "r"), ("b", "r")], [(True, "read", "//$", "r")], [(0, "0200000000"), (1, "0002020000"), (2, "0000000202")])
-rights(["r", "a"], [("a", "r")], [(True, "read", "//$/*", "r")], [(0, "0002000002"), (1, "0000020200")])
+# Document 02, card 5: "`$` passes a label equal to the name of any subject that the user is, the login name included." In a rule it is the subject whose
+# rights are asked: not the rule's N alone, and no name of a subject that it is not
+rights(["r", "a", "b"], [("a", "r"), ("b", "r")], [(True, "read", "//$", "r")], [(0, "0200000000"), (1, "0202020000"), (2, "0200000202")])
+rights(["r", "a"], [("a", "r")], [(True, "read", "//$/*", "r")], [(0, "0002000002"), (1, "0002020202")])
+# a role of a role; what the subject is beside the rule's N; two names in one path
+rights(["b", "r", "a"], [("r", "b"), ("a", "r")], [(True, "read", "//$", "b")], [(0, "0000000202"), (1, "0200000202"), (2, "0202020202")])
+rights(["r", "b", "a"], [("a", "r"), ("a", "b")], [(True, "read", "//$", "r")], [(0, "0200000000"), (1, "0000000000"), (2, "0202020202")])
+rights(["r", "a", "b"], [("b", "r")], [(True, "read", "//$/$", "r")], [(0, "0000000000"), (1, "0000000000"), (2, "0000000002")])
 
 # ---- Selections
 
@@ -355,7 +360,7 @@ FOREST = [
     ("//x[y[2]]", "00000000000000"),
     ("//x[*[2]]", "00001000000000"),
     ("//x[y]/z", "00000000100000"),
-    # "`$` (the label equal to the session's login name)"
+    # "`$` (the label equal to the session's login name)": of one who is nobody else
     ("//$", "00000000010000"),
     ("//*[$]", "10000000000000"),
     ("//$/b", "00000000001000"),
@@ -383,6 +388,29 @@ case("s 00 //*", "refused")
 lines.append("h " + NODES(13))
 case("s 00 //b", "01")
 case("s 02 //b", "refused")
+# Document 02, card 5: "This holds in rules and in commands." x, c, b, a: b is x, and a is b; a position counts what passes under whichever name
+put_policy(policy_of(["x", "c", "b", "a"], [("b", "x"), ("a", "b")]))
+case("k", "yes")
+lines.append("h " + NODES(*range(14)))
+OWN = [
+    #             rxyzxywzzabcbb
+    (0, "//$", "01001000000000"),
+    (1, "//$", "00000000000100"),
+    (2, "//$", "01001000001011"),
+    (3, "//$", "01001000011011"),
+    (3, "//$/$", "00000000001001"),
+    (3, "//*[$]", "10000000010010"),
+    (3, "/r/$[3]", "00000000010000"),
+    (3, "/r/$[4]", "00000000000010"),
+    (3, "/r/$[5]", "00000000000000"),
+    (3, "/r/$[b][2]", "00000000000010"),
+    (3, "//*[$[4]]", "10000000000000"),
+]
+for user, path, marks in OWN:
+    case("s %02x %s" % (user, path), "".join("0" + m for m in marks))
+# a hidden label is found under no name
+lines.append("h " + NODES(0, 9 + HIDDEN, 10))
+case("s 03 //$", "000001")
 
 text = "".join(line + "\n" for line in lines)
 if 65536 <= len(text):

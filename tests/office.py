@@ -78,7 +78,7 @@ EDITOR = [
     "(rule accept delete //* editor)",
 ]
 
-# A library that passes every call on to another, lines with the form `sheet` apart.
+# A library that passes every call on to another. Lines that begin with a text are answered by it, or refused with 2.
 OLDER = """
 #include <dlfcn.h>
 #include <stddef.h>
@@ -87,7 +87,11 @@ typedef long call(void *, size_t, void *, size_t, const char *, size_t, void *, 
 static void *found(const char *name) { return dlsym(dlopen(%s, RTLD_NOW), name); }
 size_t timetable_state_bytes(void) { return ((size_t (*)(void))found("timetable_state_bytes"))(); }
 long timetable_line(void *s, size_t sn, void *t, size_t tn, const char *l, size_t ln, void *a, size_t an) {
-    return ln > 6 && memcmp(l, "(sheet", 6) == 0 ? -2 : ((call *)found("timetable_line"))(s, sn, t, tn, l, ln, a, an);
+    const char *begins = %s, *answers = %s;
+    if (ln < strlen(begins) || memcmp(l, begins, strlen(begins)) != 0)
+        return ((call *)found("timetable_line"))(s, sn, t, tn, l, ln, a, an);
+    memcpy(a, answers, strlen(answers));
+    return *answers ? (long)strlen(answers) : -2;
 }
 long timetable_load_xml(void *s, size_t sn, void *t, size_t tn, const char *x, size_t xn, void *a, size_t an) {
     return ((call *)found("timetable_load_xml"))(s, sn, t, tn, x, xn, a, an);
@@ -1171,13 +1175,18 @@ class Sheets(Office):
         self.assertNotEqual(self.files(), before)
 
     def test_an_older_library(self):
-        """One that refuses sheets with 2, and is this one in all else, is told before anything is done."""
+        """One that refuses sheets with 2, or to which `$` is the login name alone, and is this one in all else, is told
+        before anything is done."""
         self.doors()
-        self.make_other(OLDER % json.dumps(library_file))
-        says = "other.so is of another version: it does not take the usual lines"
-        with self.unchanged():
-            self.sheets("--as", "door", "--library", "other.so", status=3, says=says)
-            self.office("show", "store", "--as", "door", "--library", "other.so", status=3, says=says)
+        for begins, answers, tells in (
+            ("(sheet", "", "it does not take the usual lines"),
+            ("(view)", "(root r)\n(child (c))\n(end 2)\n", "its views are not those of this one"),
+        ):
+            self.make_other(OLDER % tuple(map(json.dumps, (library_file, begins, answers))))
+            told = {"process": True, "status": 3, "says": f"other.so is of another version: {tells}"}
+            with self.unchanged():
+                self.sheets("--as", "door", "--library", "other.so", **told)
+                self.office("show", "store", "--as", "door", "--library", "other.so", **told)
 
     def test_the_smallest_table(self):
         session = library.session(records=1)

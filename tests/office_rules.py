@@ -308,7 +308,11 @@ class Check(office.Office):
         steps = "/*" * 13
         self.finds([*STAFF, f"(rule deny read {steps} staff)", *SCHOOL], ("slip", "selects-nothing", 3))
         lines = [STAFF[0], "(subject a)", "(isa a staff)", STAFF[1], "(rule deny read //$/* staff)", *SCHOOL]
-        self.finds(lines, ("hint", "selects-nothing", 5), says="a reader who is staff")
+        self.finds(lines, ("hint", "selects-nothing", 5), says="a reader who is staff, or of a role of theirs")
+        # a role of a role has the name of a node
+        lines = ["(subject 10B)", "(subject tutors)", "(subject SHA)", "(isa tutors 10B)", "(isa SHA tutors)"]
+        lines += ["(rule accept read /* SHA)", "(rule accept read //$ SHA)", "(root school)", "(child (10B (note)))"]
+        self.finds(lines)
 
     def test_a_rule_that_later_ones_override(self):
         deny, accept = "(rule deny read //note/* staff)", "(rule accept read //* staff)"
@@ -322,8 +326,10 @@ class Check(office.Office):
         # the other way round it decides for the others
         lines = [*roles, "(rule accept read //* staff)", "(rule deny read //* SHA)", *SCHOOL]
         self.finds(lines)
-        # for staff alone, and not for SHA
-        self.finds([*roles, accept, "(rule deny read //staff staff)", "(rule accept read //$ staff)"])
+        # by `$`, which passes the name staff for all who are staff, and the name SHA for SHA alone
+        own = "(rule accept read //$ staff)"
+        self.finds([*roles, accept, "(rule deny read //staff staff)", own], ("slip", "overridden", 5))
+        self.finds([*roles, accept, "(rule deny read //SHA staff)", own])
         # on this tree alone
         two = ["(rule deny read //ill staff)", "(rule deny read //note/* staff)"]
         self.finds([*STAFF, *two, *SCHOOL], ("hint", "decides-nothing", 3))
@@ -450,6 +456,10 @@ class Check(office.Office):
         self.finds([line.replace("tutors", "SHA") for line in lines] + ["(root school)", "(child (SHA))"])
         says = "speaks of its reader by $, and nobody is tutors"
         self.finds([*lines, *SCHOOL], ("hint", "selects-nothing", 3), ("hint", "role-nobody-has", 1), says=says)
+        # the name of a form that they are, which is there for its name alone
+        form = ["(subject 10B)", lines[0], "(isa tutors 10B)", *lines[1:], *SCHOOL]
+        self.finds(form)
+        self.finds([line for line in form if "$" not in line], ("hint", "no-rule", 1))
 
     def test_a_rule_within_another(self):
         for path, other, within in (
@@ -470,12 +480,20 @@ class Check(office.Office):
             ("//you", "//$", False),
             ("/a/b/c", "/*//c", True),
         ):
-            self.assertEqual(is_within(path, other, "me"), within, (path, other))
+            self.assertEqual(is_within(path, other, ["me"]), within, (path, other))
+        for path, other, within in (
+            ("//me/role", "//$/$", True),
+            ("//$", "//me", False),
+            ("//$", "//role", False),
+            ("//role/*", "//$/*", True),
+            ("//you", "//$", False),
+        ):
+            self.assertEqual(is_within(path, other, ["me", "role"]), within, (path, other))
 
     def test_random_rules_within_others(self):
         """What is said to be within is so in random trees; what is not is mostly seen not to be."""
         rand = random.Random(11)
-        words = ["a", "b"]
+        words, own = ["a", "b", "role"], ["me", "role"]
         trees = []
         for _ in range(60):
             text = f"(x {random_tree(rand, [*words, 'c', 'me'], 0, 6)})"
@@ -485,9 +503,9 @@ class Check(office.Office):
         for _ in range(400):
             path, other = random_path(rand, words, 5), random_path(rand, words, 5)
             both = Selector([path, other])
-            selected = [bits for nodes in trees for bits in both.select(nodes, "me")]
+            selected = [bits for nodes in trees for bits in both.select(nodes, own)]
             outside = any(bits & both.ends[0] and not bits & both.ends[1] for bits in selected)
-            within = is_within(path, other, "me")
+            within = is_within(path, other, own)
             self.assertFalse(within and outside, (path, other))
             told[within] += 1
         self.assertGreater(min(told.values()), 30)

@@ -29,12 +29,15 @@ else
     run 'each false reading is found by the demand-3 tester' "$bin/demand3" --self-test
     run 'the straightforward version and itself as a library' "$bin/compare" --library "$bin/examples/libshared.so"
     for wrong in rename-into-word rename-of-word no-own-names update-hidden stored-labels count-freed spare-hidden readers-words place-by-place \
-        stored-hits last-hit none-for-one-hit room-for-all-hits stored-sheet stored-days stored-periods stored-lessons true-labels true-rooms \
-        second-room room-with-lesson sixth-for-fifth six-days labels-uncut no-blank-cells no-rows-for-hidden-root no-restricted-room \
+        stored-hits last-hit none-for-one-hit room-for-all-hits names-of-roles login-in-commands login-in-rules direct-roles rules-name names-between \
+        every-name name-by-name stored-sheet stored-days stored-periods stored-lessons true-labels true-rooms second-room room-with-lesson \
+        sixth-for-fifth six-days labels-uncut no-blank-cells no-rows-for-hidden-root no-restricted-room \
         any-closing-tag text-dropped text-not-trimmed texts-joined second-root labels-before-document root-not-counted root-alone-at-d; do
         run "$wrong is found by the comparer" fails "$bin/compare" --wrong "$wrong"
     done
     run 'the view alone and the straightforward version' "$bin/views"
-    run 'first-rule-wins is found by the tester of views' fails "$bin/views" --wrong first-rule-wins
+    for wrong in first-rule-wins login-in-rules direct-roles rules-name names-between every-name name-by-name; do
+        run "$wrong is found by the tester of views" fails "$bin/views" --wrong "$wrong"
+    done
 fi
 counted

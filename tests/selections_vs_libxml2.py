@@ -1,8 +1,9 @@
 #!/usr/bin/env python3
 """Selections against libxml2, by xmllint (Debian's package libxml2-utils), on random pairs of path and tree.
 
-The same path runs on a table through crate `trials`, and on the view written as XML through xmllint. In the XML `$` stands written out as the
-subject's name; all else is read alike. Every node has its number as an attribute, and the root one attribute more, so that no answer is empty.
+The same path runs on a table through crate `trials`, and on the view written as XML through xmllint. There `$` is any element whose name is one of those
+that the subject is (document 02, card 5), `*[self::SHA or self::div ..]`; all else is read alike. Every node has its number as an attribute, and the root one
+attribute more, so that no answer is empty.
 Fails where a pair differs, where fewer than a third of the pairs select some nodes and not all, or where an element of the grammar is in fewer than
 100 pairs. The seed is fixed: every run tries the same pairs.
 """
@@ -21,9 +22,12 @@ import trials  # noqa: E402
 
 SEED, TREES, PATHS_EACH = 20240501, 125, 20
 LABELS = ["a", "b", "c", "or", "div", "_x", "SHA", "a-b", "x.y"]
-USER = "SHA"
+NAMES = ["a", "div", "or", "SHA"]
+ISA = [("or", "div"), ("SHA", "or")]
+USER, IS = "SHA", ["SHA", "or", "div"]
+OWN = "*[" + " or ".join(f"self::{name}" for name in IS) + "]"
 LEVEL_MAX = 11
-ELEMENTS = ["child step", "descendant step", "label", "`*`", "position bracket", "path bracket", "nested bracket", "two brackets on a step", "`$`", "several steps", "RESTRICTED by name"]
+ELEMENTS = ["child step", "descendant step", "label", "`*`", "position bracket", "path bracket", "nested bracket", "two brackets on a step", "`$`", "a position after `$`", "several steps", "RESTRICTED by name"]
 
 
 def random_tree(rand, level, left):
@@ -50,10 +54,10 @@ def random_view(rand, nodes):
 
 def random_test(rand, used, labels):
     kind = rand.random()
-    if kind < 0.48:
+    if kind < 0.42:
         used["`*`"] += 1
         return "*"
-    if kind < 0.54:
+    if kind < 0.56:
         used["`$`"] += 1
         return "$"
     used["label"] += 1
@@ -72,7 +76,8 @@ def random_steps(rand, used, labels, depth, first):
         slash = first if k == 0 else rand.choice(["/", "//", "//"])
         if slash:
             used["descendant step" if slash == "//" else "child step"] += 1
-        text += slash + random_test(rand, used, labels)
+        test = random_test(rand, used, labels)
+        text += slash + test
         brackets = rand.choices([0, 1, 2], [13, 5, 2])[0] if 0 < depth else 0
         if brackets == 2:
             used["two brackets on a step"] += 1
@@ -81,6 +86,8 @@ def random_steps(rand, used, labels, depth, first):
                 used["nested bracket"] += 1
             if rand.random() < 0.4:
                 used["position bracket"] += 1
+                if test == "$":
+                    used["a position after `$`"] += 1
                 text += "[%d]" % rand.choice([1, 1, 1, 1, 2, 2, 3, 9999])
             else:
                 used["path bracket"] += 1
@@ -102,7 +109,7 @@ def xml_of(view):
 
 def ask_xmllint(xmllint, file, path, count):
     """The marks that libxml2 gives."""
-    query = re.sub(r"\$", USER, path) + "/@n | /*/@z"
+    query = path.replace("$", OWN) + "/@n | /*/@z"
     run = subprocess.run([xmllint, "--xpath", query, file], capture_output=True, text=True)
     if run.returncode != 0 or 'z="z"' not in run.stdout:
         sys.exit(f"FAILED: xmllint on {path}: {run.stdout}{run.stderr}")
@@ -115,7 +122,7 @@ def ask_xmllint(xmllint, file, path, count):
 def main():
     xmllint = trials.need("xmllint", "libxml2-utils")
     library = trials.Trials()
-    policy = trials.policy_of(["other", USER])
+    policy, user = trials.policy_of(NAMES, ISA), NAMES.index(USER)
     rand = random.Random(SEED)
     pairs, in_pairs = [], collections.Counter()
     with tempfile.TemporaryDirectory() as folder:
@@ -132,7 +139,7 @@ def main():
             for _ in range(PATHS_EACH):
                 used = collections.Counter()
                 path = random_steps(rand, used, labels, 3, rand.choice(["//"] * 7 + ["/"]))
-                marks = library.select(policy, 1, table, shown, path)
+                marks = library.select(policy, user, table, shown, path)
                 if marks in (-1, -2):
                     sys.exit(f"FAILED: {path} was refused with {marks}")
                 in_pairs.update(set(used))

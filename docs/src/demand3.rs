@@ -188,18 +188,19 @@ fn make_pair(engine: &dyn Engine, random: &mut Random) -> Result<Pair, String> {
 fn next_line(random: &mut Random, pair: &Pair) -> String {
     let nodes = &pair.runs[0].store.table.nodes;
     let view = view(nodes, &pair.runs[0].rights[pair.reader]).nodes;
+    let own = pair.policy.own_names(pair.reader);
     match random.below(100) {
         0..=69 => {
             let room = CROWDED.saturating_sub(nodes.len());
-            let line = generate::change(random, &view, room);
+            let line = generate::change(random, &view, &own, room);
             let idle = step(&pair.runs[0].store, line.as_bytes(), AREA_BYTES, Reading::Right).is_ok_and(|accepted| accepted.answer.ends_with(b" 0)\n"));
             if idle {
-                generate::change(random, &view, room) // a second try to find something to do
+                generate::change(random, &view, &own, room) // a second try to find something to do
             } else {
                 line
             }
         }
-        70..=89 => generate::question(random, &view),
+        70..=89 => generate::question(random, &view, &own),
         90..=92 => format!("(user {})", generate::text_of(&pair.policy.subjects[pair.reader])),
         _ => generate::refused(random),
     }

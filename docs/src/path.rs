@@ -124,10 +124,10 @@ pub fn read_path(text: &[u8]) -> Option<Vec<Step>> {
 // --- Selecting ---
 
 /// Which nodes pass a step: its test, then its brackets from left to right.
-fn passing(nodes: &[Node], step: &Step, own: &Label) -> Vec<bool> {
+fn passing(nodes: &[Node], step: &Step, own: &[Label]) -> Vec<bool> {
     let mut passes: Vec<bool> = match &step.test {
         Test::Any => vec![true; nodes.len()],
-        Test::Own => nodes.iter().map(|node| node.label == *own).collect(),
+        Test::Own => nodes.iter().map(|node| own.contains(&node.label)).collect(),
         Test::Label(label) => nodes.iter().map(|node| node.label == *label).collect(),
     };
     for bracket in &step.brackets {
@@ -154,7 +154,7 @@ fn passing(nodes: &[Node], step: &Step, own: &Label) -> Vec<bool> {
 }
 
 /// The nodes from which a path finds something.
-fn finding(nodes: &[Node], path: &[Step], own: &Label) -> Vec<bool> {
+fn finding(nodes: &[Node], path: &[Step], own: &[Label]) -> Vec<bool> {
     let mut finds = vec![true; nodes.len()]; // nothing is left to find
     for step in path.iter().rev() {
         let passes = passing(nodes, step, own);
@@ -172,8 +172,8 @@ fn finding(nodes: &[Node], path: &[Step], own: &Label) -> Vec<bool> {
     finds
 }
 
-/// The nodes that a path selects from the document node; `own` is the label that passes `$`.
-pub fn select(nodes: &[Node], path: &[Step], own: &Label) -> Vec<bool> {
+/// The nodes that a path selects from the document node; `own` are the labels that pass `$`.
+pub fn select(nodes: &[Node], path: &[Step], own: &[Label]) -> Vec<bool> {
     let mut from = vec![false; nodes.len()];
     let mut from_document = true;
     for step in path {
@@ -196,7 +196,7 @@ pub fn select(nodes: &[Node], path: &[Step], own: &Label) -> Vec<bool> {
 #[cfg(test)]
 mod tests {
     use super::*;
-    use crate::table::flatten;
+    use crate::table::{flatten, Tree};
     use crate::testing::{generate, random::Random};
 
     /// Children of a node, or of the document node.
@@ -205,7 +205,7 @@ mod tests {
     }
 
     /// XPath's own definition from one context node: a step is taken from each node on its own, and each bracket filters the list that the one before left.
-    fn reached(nodes: &[Node], from: Option<usize>, path: &[Step], own: &Label) -> Vec<usize> {
+    fn reached(nodes: &[Node], from: Option<usize>, path: &[Step], own: &[Label]) -> Vec<usize> {
         let Some((step, rest)) = path.split_first() else {
             return from.into_iter().collect();
         };
@@ -222,7 +222,7 @@ mod tests {
             let mut list = children(nodes, parent);
             list.retain(|number| match &step.test {
                 Test::Any => true,
-                Test::Own => nodes[*number].label == *own,
+                Test::Own => own.contains(&nodes[*number].label),
                 Test::Label(label) => nodes[*number].label == *label,
             });
             for bracket in &step.brackets {
@@ -241,7 +241,7 @@ mod tests {
     #[test]
     fn selections_are_those_of_xpath() {
         let mut random = Random::new(1);
-        let own = generate::label("ann");
+        let own = ["ann", "staff"].map(generate::label);
         let mut hits = 0;
         for _ in 0..20_000 {
             let size = random.within(1, 14);
@@ -250,7 +250,7 @@ mod tests {
                 0 => generate::any_path(&mut random),
                 _ => {
                     let node = random.below(nodes.len());
-                    generate::path_to(&mut random, &nodes, node)
+                    generate::path_to(&mut random, &nodes, &own, node)
                 }
             };
             let path = read_path(text.as_bytes()).expect("a path");
@@ -262,5 +262,24 @@ mod tests {
             assert_eq!(select(&nodes, &path, &own), marks, "{text}");
         }
         assert!(hits > 10_000);
+    }
+
+    #[test]
+    fn a_position_after_own_counts_under_whichever_name() {
+        let tree = |text: &str, children| Tree { label: generate::label(text), origin: None, children };
+        let leaf = |text: &str| tree(text, Vec::new());
+        let nodes = flatten(&tree("r", vec![leaf("ann"), leaf("x"), tree("staff", vec![leaf("ann")]), leaf("bob"), leaf("ann")])).0;
+        let own = ["ann", "staff"].map(generate::label);
+        let selected = |text: &str| {
+            let marks = select(&nodes, &read_path(text.as_bytes()).expect("a path"), &own);
+            (0..marks.len()).filter(|number| marks[*number]).collect::<Vec<usize>>()
+        };
+        assert_eq!(selected("//$"), [1, 3, 4, 6]);
+        assert_eq!(selected("/r/$[1]"), [1]);
+        assert_eq!(selected("/r/$[2]"), [3]);
+        assert_eq!(selected("/r/$[3]"), [6]);
+        assert_eq!(selected("/r/$[4]"), []);
+        assert_eq!(selected("//$/$"), [4]); // two names in one path
+        assert_eq!(selected("//*[$][$[2]]"), [0]);
     }
 }

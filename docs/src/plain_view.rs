@@ -134,24 +134,42 @@ fn store<'a>(state: &'a [u8], table: &'a [u8]) -> Option<Store<'a>> {
 
 // --- Rules and paths ---
 
-/// A step of a rule's path; no label for `*`, the user's name for `$`.
+/// What a step lets pass: any label, one label, or for `$` the user's names (document 02, card 5).
+enum Test<'a> {
+    Any,
+    Label(&'a Padded),
+    Own,
+}
+
+/// A node of a chain: its label, and whether that is one of the user's names.
+#[derive(Clone, Copy)]
+struct Link<'a> {
+    label: &'a Padded,
+    own: bool,
+}
+
+/// A step of a rule's path.
 struct Step<'a> {
     descendants: bool,
-    label: Option<&'a Padded>,
+    test: Test<'a>,
 }
 
 impl<'a> Step<'a> {
-    fn new(step: &'a [u8], own: &'a Padded) -> Step<'a> {
-        let label = match text(step) {
-            b"*" => None,
-            b"$" => Some(own),
-            _ => Some(padded(step)),
+    fn new(step: &'a [u8]) -> Step<'a> {
+        let test = match text(step) {
+            b"*" => Test::Any,
+            b"$" => Test::Own,
+            _ => Test::Label(padded(step)),
         };
-        Step { descendants: step[0] == 1, label }
+        Step { descendants: step[0] == 1, test }
     }
 
-    fn passes(&self, label: &Padded) -> bool {
-        self.label.is_none_or(|wanted| wanted == label)
+    fn passes(&self, node: Link) -> bool {
+        match self.test {
+            Test::Any => true,
+            Test::Label(wanted) => wanted == node.label,
+            Test::Own => node.own,
+        }
     }
 }
 
@@ -162,9 +180,9 @@ struct Rule<'a> {
 }
 
 impl<'a> Rule<'a> {
-    fn new(rule: &'a [u8], own: &'a Padded) -> Rule<'a> {
+    fn new(rule: &'a [u8]) -> Rule<'a> {
         let steps = &rule[RULE_STEPS_AT..][..rule[3] as usize * RECORD_BYTES];
-        Rule { accept: rule[0] == 1, right: rule[1], path: steps.chunks_exact(RECORD_BYTES).map(|step| Step::new(step, own)).collect() }
+        Rule { accept: rule[0] == 1, right: rule[1], path: steps.chunks_exact(RECORD_BYTES).map(Step::new).collect() }
     }
 }
 
@@ -182,18 +200,21 @@ impl Policy<'_> {
         roles
     }
 
-    /// The rules of read and position that apply to a user, the last one first.
-    fn rules(&self, user: usize) -> Vec<Rule<'_>> {
-        let roles = self.roles(user);
-        let own = padded(&self.subjects[user * RECORD_BYTES..]);
+    /// The names of these subjects.
+    fn names(&self, roles: u64) -> Vec<&Padded> {
+        self.subjects.chunks_exact(RECORD_BYTES).enumerate().filter(|(subject, _)| roles >> subject & 1 == 1).map(|(_, name)| padded(name)).collect()
+    }
+
+    /// The rules of read and position that apply to a user with these roles, the last one first.
+    fn rules(&self, roles: u64) -> Vec<Rule<'_>> {
         let applies = |rule: &&[u8]| rule[1] & (READ | POSITION) != 0 && roles >> rule[2] & 1 == 1;
-        self.rules.chunks_exact(RULE_BYTES).rev().filter(applies).map(|rule| Rule::new(rule, own)).collect()
+        self.rules.chunks_exact(RULE_BYTES).rev().filter(applies).map(Rule::new).collect()
     }
 }
 
 /// Whether a path selects the last node of a chain of labels that begins with the root's. From the last step backwards, each run of steps after a `//` is put
 /// as low as it fits: if the steps before it fit above any place of the run, they fit above the lowest.
-fn selects(path: &[Step], chain: &[&Padded]) -> bool {
+fn selects(path: &[Step], chain: &[Link]) -> bool {
     let (mut step, mut level) = (path.len() - 1, chain.len() - 1);
     let mut next = None; // the last step before the `//` passed last, and the next level to put it on
     loop {
@@ -220,7 +241,7 @@ fn selects(path: &[Step], chain: &[&Padded]) -> bool {
 }
 
 /// Read and position on the last node of a chain.
-fn rights(rules: &[Rule], chain: &[&Padded]) -> u8 {
+fn rights(rules: &[Rule], chain: &[Link]) -> u8 {
     let (mut decided, mut granted) = (0, 0);
     for rule in rules {
         if decided & rule.right == 0 && selects(&rule.path, chain) {
@@ -276,9 +297,10 @@ impl Answer {
     }
 }
 
-/// The view of a user: one pass over the records.
-fn view(records: &[u8], rules: &[Rule]) -> Vec<u8> {
-    let mut chain = [&[0; LABEL_MAXIMUM]; LEVEL_MAXIMUM + 1]; // the labels from the root to the node
+/// The view of a user with these names: one pass over the records, each compared with the names once, if a rule uses `$`.
+fn view(records: &[u8], rules: &[Rule], names: &[&Padded]) -> Vec<u8> {
+    let mut chain = [Link { label: &[0; LABEL_MAXIMUM], own: false }; LEVEL_MAXIMUM + 1]; // from the root to the node
+    let uses_own = rules.iter().flat_map(|rule| &rule.path).any(|step| matches!(step.test, Test::Own));
     let mut hidden = LEVEL_MAXIMUM + 1; // the level of the highest node on the way that is not shown
     let mut answer = Answer { bytes: Vec::new(), level: 0, nodes: 0 };
     for record in records.chunks_exact(RECORD_BYTES) {
@@ -287,7 +309,8 @@ fn view(records: &[u8], rules: &[Rule]) -> Vec<u8> {
             continue;
         }
         hidden = LEVEL_MAXIMUM + 1;
-        chain[level] = padded(record);
+        let label = padded(record);
+        chain[level] = Link { label, own: uses_own && names.contains(&label) };
         match rights(rules, &chain[..=level]) {
             0 => hidden = level,
             rights if rights & READ != 0 => answer.node(level, text(record)),
@@ -306,7 +329,8 @@ fn answer(state: &[u8], table: &[u8], line: &[u8]) -> Result<Vec<u8>, u8> {
         return Err(WRONG_STAGE);
     }
     let user = store.user.ok_or(NO_USER)?;
-    Ok(view(store.records, &store.policy.rules(user)))
+    let roles = store.policy.roles(user);
+    Ok(view(store.records, &store.policy.rules(roles), &store.policy.names(roles)))
 }
 
 /// `(view)` on lent bytes: the answer's length, or minus the refusal's number. Every other line is refused with 2.

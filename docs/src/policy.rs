@@ -47,12 +47,24 @@ impl Policy {
         roles
     }
 
+    /// The names that `$` passes for a subject, in rules and in commands: those of all that it is, its own included (document 02, card 5).
+    pub fn own_names(&self, subject: usize) -> Vec<Label> {
+        let roles = self.roles(subject);
+        self.subjects.iter().zip(roles).filter(|(_, is)| *is).map(|(name, _)| *name).collect()
+    }
+
     /// A subject's rights on every node of the stored tree: the last applicable rule for a right wins.
     pub fn rights(&self, nodes: &[Node], subject: usize) -> Vec<u8> {
+        let own = self.own_names(subject);
+        self.rights_by(nodes, subject, |rule| select(nodes, &rule.path, &own))
+    }
+
+    /// The rights where each rule selects the nodes given for it.
+    pub fn rights_by(&self, nodes: &[Node], subject: usize, selected: impl Fn(&Rule) -> Vec<bool>) -> Vec<u8> {
         let roles = self.roles(subject);
         let mut rights = vec![0; nodes.len()];
         for rule in self.rules.iter().filter(|rule| roles[rule.subject]) {
-            let selected = select(nodes, &rule.path, &self.subjects[subject]);
+            let selected = selected(rule);
             for number in (0..nodes.len()).filter(|number| selected[*number]) {
                 if rule.accept {
                     rights[number] |= rule.right;
@@ -64,8 +76,8 @@ impl Policy {
         rights
     }
 
-    /// The policy words that these rules bring in.
-    pub fn words_of<'a>(&self, rules: impl Iterator<Item = &'a Rule>, own_names: bool) -> Vec<Label> {
+    /// The policy words that these rules bring in, with these names once one of them uses `$`.
+    pub fn words_of<'a>(&self, rules: impl Iterator<Item = &'a Rule>, names: &[Label]) -> Vec<Label> {
         let mut words = Vec::new();
         let mut uses_own = false;
         for step in rules.flat_map(|rule| rule.path.iter()) {
@@ -75,14 +87,57 @@ impl Policy {
                 Test::Any => {}
             }
         }
-        if uses_own && own_names {
-            words.extend(self.subjects.iter());
+        if uses_own {
+            words.extend(names);
         }
         words
     }
 
     /// The labels named in any rule's path; once any rule uses `$`, every subject's name too.
     pub fn words(&self) -> Vec<Label> {
-        self.words_of(self.rules.iter(), true)
+        self.words_of(self.rules.iter(), &self.subjects)
+    }
+}
+
+#[cfg(test)]
+mod tests {
+    use super::*;
+    use crate::path::read_path;
+    use crate::table::{flatten, Tree};
+    use crate::testing::generate::label;
+
+    /// staff, 10B, 10C; tutors is staff; SHA is tutors and 10B. SHA may read what lies under `$`, by a rule for staff.
+    fn school() -> Policy {
+        let path = read_path(b"//$/*").expect("a path");
+        let subjects = ["staff", "10B", "10C", "tutors", "SHA"].map(label).to_vec();
+        Policy { subjects, isa: vec![(3, 0), (4, 3), (4, 1)], rules: vec![Rule { accept: true, right: READ, subject: 0, path }] }
+    }
+
+    fn names_for_own(name: &str) -> Vec<Label> {
+        let policy = school();
+        policy.own_names(policy.subject(&label(name)).expect("a subject"))
+    }
+
+    #[test]
+    fn own_names_are_those_of_all_that_a_subject_is() {
+        assert_eq!(names_for_own("SHA"), ["staff", "10B", "tutors", "SHA"].map(label)); // a role of a role, and the login name
+        assert_eq!(names_for_own("tutors"), ["staff", "tutors"].map(label)); // not who is a tutor
+        assert_eq!(names_for_own("10B"), ["10B"].map(label));
+    }
+
+    #[test]
+    fn own_in_a_rule_passes_all_that_the_asked_subject_is() {
+        let under = |text: &str| Tree { label: label(text), origin: None, children: vec![Tree { label: label("x"), origin: None, children: Vec::new() }] };
+        let names = ["10B", "10C", "SHA", "staff", "MEI"];
+        let root = Tree { label: label("school"), origin: None, children: names.map(under).to_vec() };
+        let nodes = flatten(&root).0;
+        let policy = school();
+        let read_under = |subject: usize| {
+            let rights = policy.rights(&nodes, subject);
+            names.into_iter().enumerate().filter(|(number, _)| rights[2 + 2 * number] == READ).map(|(_, name)| name).collect::<Vec<&str>>()
+        };
+        assert_eq!(read_under(4), ["10B", "SHA", "staff"]); // 10B too, though it lies not between SHA and the rule's staff
+        assert_eq!(read_under(3), ["staff"]);
+        assert_eq!(read_under(2), [""; 0]); // the rule is not for 10C
     }
 }

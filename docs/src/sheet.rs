@@ -116,7 +116,7 @@ mod tests {
     /// The cell of the one node that a path selects in a view.
     fn cell_of(view: &View, path: &str) -> String {
         let own = generate::label("own");
-        let marks = select(&view.nodes, &read_path(path.as_bytes()).expect("a path"), &own);
+        let marks = select(&view.nodes, &read_path(path.as_bytes()).expect("a path"), &[own]);
         let selected: Vec<usize> = (0..marks.len()).filter(|number| marks[*number]).collect();
         assert!(selected.len() <= 1, "{path}");
         let label = selected.first().map_or(String::new(), |number| generate::text_of(&view.nodes[*number].label));

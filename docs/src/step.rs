@@ -1,8 +1,8 @@
-//! One line on a state and a table (document 01, Lines to Who can be turned down; document 02, cards 1 and 3), and one document of the solver (card 2).
+//! One line on a state and a table (document 01, Lines to Who can be turned down; document 02, cards 1, 3 and 5), and one document of the solver (card 2).
 
 use crate::form::{read_form, Form, Place, LINE_MAXIMUM};
 use crate::label::{Label, RESTRICTED};
-use crate::path::{read_path, select, Step};
+use crate::path::{read_path, Step};
 use crate::policy::{Policy, Rule, DELETE, INSERT, ISA_MAXIMUM, READ, RULES_MAXIMUM, SUBJECTS_MAXIMUM, UPDATE};
 use crate::reading::Reading;
 use crate::sheet::Sheet;
@@ -168,7 +168,7 @@ fn session<'a>(store: &'a Store, path: Option<&[u8]>, reading: Reading) -> Resul
         Some(text) => read_path(text).ok_or(BAD_PATH)?,
     };
     let user = store.state.user.ok_or(NO_USER)?;
-    let rights = store.state.policy.rights(&store.table.nodes, user);
+    let rights = reading.rights(&store.state.policy, &store.table.nodes, user);
     let view = view(&store.table.nodes, &rights);
     Ok((Session { store, user, reading, rights, view }, path))
 }
@@ -178,15 +178,19 @@ impl Session<'_> {
         &self.store.table.nodes
     }
 
+    /// The nodes that a path selects among these for the user.
+    fn select(&self, nodes: &[Node], path: &[Step]) -> Vec<bool> {
+        self.reading.select(&self.store.state.policy, nodes, path, self.user)
+    }
+
     /// The numbers in the view of the nodes that a path selects there.
     fn selected(&self, path: &[Step]) -> Vec<usize> {
-        let own = &self.store.state.policy.subjects[self.user];
         let marks = if self.reading == Reading::StoredLabels {
             let relabelled = |(node, stored): (&Node, &usize)| Node { label: self.nodes()[*stored].label, ..*node };
             let true_labels: Vec<Node> = self.view.nodes.iter().zip(&self.view.stored).map(relabelled).collect();
-            select(&true_labels, path, own)
+            self.select(&true_labels, path)
         } else {
-            select(&self.view.nodes, path, own)
+            self.select(&self.view.nodes, path)
         };
         (0..marks.len()).filter(|number| marks[*number]).collect()
     }
@@ -194,10 +198,11 @@ impl Session<'_> {
     fn words(&self) -> Vec<Label> {
         let policy = &self.store.state.policy;
         match self.reading {
-            Reading::NoOwnNames => policy.words_of(policy.rules.iter(), false),
+            Reading::NoOwnNames => policy.words_of(policy.rules.iter(), &[]),
+            Reading::NamesOfRoles => policy.words_of(policy.rules.iter(), &policy.own_names(self.user)),
             Reading::ReadersWords => {
                 let roles = policy.roles(self.user);
-                policy.words_of(policy.rules.iter().filter(|rule| roles[rule.subject]), true)
+                policy.words_of(policy.rules.iter().filter(|rule| roles[rule.subject]), &policy.subjects)
             }
             _ => policy.words(),
         }
@@ -243,7 +248,7 @@ impl Session<'_> {
 
     /// The node that a path finds in the stored tree, shown or not.
     fn found_stored(&self, path: &[Step]) -> Option<&Node> {
-        let marks = select(self.nodes(), path, &self.store.state.policy.subjects[self.user]);
+        let marks = self.select(self.nodes(), path);
         marks.iter().position(|mark| *mark).map(|number| &self.nodes()[number])
     }
 

@@ -1,7 +1,7 @@
 //! The tester of the view alone (plain_view.rs): `(view)` on random, empty and damaged states and tables, through the straightforward version and through it. The
 //! returned number and every byte of state, table and area must be the same; a refused line must leave all of them as they were.
 //!
-//!     views [--seed N] [--lines N] [--library FILE.so | --wrong first-rule-wins]
+//!     views [--seed N] [--lines N] [--library FILE.so | --wrong NAME]
 
 use std::collections::BTreeMap;
 use std::process::ExitCode;
@@ -54,7 +54,7 @@ fn run(engine: &dyn Engine, seed: u64, lines: usize) -> bool {
 }
 
 fn main() -> ExitCode {
-    let usage = "views [--seed N] [--lines N] [--library FILE.so | --wrong first-rule-wins]";
+    let usage = "views [--seed N] [--lines N] [--library FILE.so | --wrong NAME]";
     let Some(options) = Options::read(usage, DEFAULT_LINES, Box::new(PlainView)) else {
         return ExitCode::from(2);
     };

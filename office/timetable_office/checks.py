@@ -12,7 +12,7 @@ import json
 import textwrap
 from collections import Counter
 from dataclasses import dataclass, field
-from typing import Any, Callable, Iterator, NamedTuple, Sequence
+from typing import Any, Callable, Collection, Iterator, NamedTuple, Sequence
 
 from timetable_office.agreement import LEVELS
 from timetable_office.decisions import RIGHTS, Decider, Decisions, Seen, Selector, Verdict, roles_of, rule_text
@@ -29,7 +29,6 @@ _NAMES_SHOWN = 3
 _STATES_TRIED = 1_000
 _NEAR = 0.7
 _COLUMNS = 110
-_OTHER_LABEL = ""
 
 
 class Finding(NamedTuple):
@@ -91,7 +90,7 @@ def survey(decider: Decider, decisions: Sequence[Decisions]) -> list[Effect]:
                 if decision.rule is not None:
                     effects[decision.rule].decides = True
     for one in decisions:
-        selected = decider.selection(one.reader).selected
+        selected = decider.selection(one.roles).selected
         applicable = decider.applicable(one.roles)
         for place in applicable:
             effects[place].selects |= any(bits & ends[place] for bits in selected)
@@ -186,7 +185,7 @@ def _selects_nothing(decider: Decider, place: int) -> Finding:
         )
         return Finding(SLIP, "selects-nothing", text, place)
     if "$" in rule.path:
-        text += f": no node there has the name of a reader who is {rule.subject}"
+        text += f": no node there has the name of a reader who is {rule.subject}, or of a role of theirs"
     return Finding(HINT, "selects-nothing", text, place)
 
 
@@ -207,13 +206,14 @@ def _overridden(decider: Decider, place: int) -> Iterator[Finding]:
         yield Finding(SLIP, "selects-nothing", f"{rule_text(rule)} {says}", place)
         return
     roles = roles_of(decider.policy, rule.subject)
-    readers = [name for name in decider.policy.subjects if rule.subject in roles_of(decider.policy, name)]
+    every = [roles_of(decider.policy, name) for name in decider.policy.subjects]
+    readers = [own for own in every if rule.subject in own]
     for later in range(len(rules) - 1, place, -1):
         other = rules[later]
         if other.right != rule.right or other.subject not in roles:
             continue
-        names = readers if "$" in rule.path + other.path else [_OTHER_LABEL]
-        if all(is_within(rule.path, other.path, name) for name in names):
+        names: Sequence[Collection[str]] = readers if "$" in rule.path + other.path else [()]
+        if all(is_within(rule.path, other.path, own) for own in names):
             says = "decides nothing for anybody, whatever the tree"
             since = f"{rule_text(other)}, rule {later + 1}, comes after it and applies wherever it does"
             advice = (
@@ -223,15 +223,15 @@ def _overridden(decider: Decider, place: int) -> Iterator[Finding]:
             return
 
 
-def is_within(path: str, other: str, reader: str) -> bool:
-    """Whether the other path selects every node that this one selects, in any tree. `False` also if it is too long to
-    tell."""
+def is_within(path: str, other: str, own: Collection[str]) -> bool:
+    """Whether the other path selects every node that this one selects, in any tree, for a reader with these names.
+    `False` also if it is too long to tell."""
     both = Selector([path, other])
     wanted, enough = both.ends
     # a label that neither path names stands for all such labels
-    labels = {*both.words, reader, RESTRICTED}
-    tests = [both.tests(label, reader) for label in labels]
-    own = wanted | (wanted - 1)
+    labels = {*both.words, *own, RESTRICTED}
+    tests = {both.tests(label, own) for label in labels}
+    steps = wanted | (wanted - 1)
     seen = {(both.below(both.start, both.start), both.start)}
     level = list(seen)
     for _ in range(LEVELS):
@@ -243,7 +243,7 @@ def is_within(path: str, other: str, reader: str) -> bool:
                     return False
                 state = (both.below(bits, above | bits), above | bits)
                 # where the first path can select nothing more there is nothing to look for
-                if state[0] & own and state not in seen:
+                if state[0] & steps and state not in seen:
                     seen.add(state)
                     below.append(state)
         if len(seen) > _STATES_TRIED:
@@ -313,14 +313,18 @@ def some(names: Sequence[str]) -> str:
 def _subjects(decider: Decider) -> Iterator[Finding]:
     """Subjects to whom no rule applies, and roles that nobody has.
 
+    A role that others have may be there for its name alone, such as a form that tutors are, where a rule has `$`.
     A subject that nobody else is may well be a reader itself, such as a website. It is taken for a role where a rule
-    for it speaks of the reader by `$` and no node has its name, or where another subject has no rule.
+    for it speaks of the reader by `$` and no node has its name or that of a role of its own, or where another subject
+    has no rule.
     """
     policy = decider.policy
     ruled = {rule.subject for rule in policy.rules}
     held = {role for _, role in policy.isa}
     without = [name for name in policy.subjects if ruled.isdisjoint(roles_of(policy, name))]
     for name in without:
+        if name in held and decider.selector.names_reader():
+            continue
         says = f"no rule applies to {name}, so {name} is shown nothing"
         yield Finding(HINT, "no-rule", says, subject=name)
     named = {name for pair in policy.isa for name in pair}
@@ -329,8 +333,8 @@ def _subjects(decider: Decider) -> Iterator[Finding]:
     for role in policy.subjects:
         if role not in ruled or role in held:
             continue
-        own = role not in labels and any(rule.subject == role and "$" in rule.path for rule in policy.rules)
-        if own:
+        speaks = any(rule.subject == role and "$" in rule.path for rule in policy.rules)
+        if speaks and labels.isdisjoint(roles_of(policy, role)):
             says = f"a rule for {role} speaks of its reader by $, and nobody is {role}: is an isa line missing?"
         elif strays and role not in named:
             says = f"nobody else is {role}, and no rule applies to {some(strays)}: is an isa line missing?"

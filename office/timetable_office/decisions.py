@@ -2,7 +2,8 @@
 
 Document 01: a rule applies to a subject that is its N, by isa lines or by itself, and to the nodes that its path
 selects in the stored tree; the last applicable rule for a right wins, and with none there is no right. A node is shown
-if read or position is granted on it and its parent is shown.
+if read or position is granted on it and its parent is shown. Document 02, card 5: `$` passes the name of all that the
+reader is, by isa lines or by itself.
 
 The library tells what a reader sees, and never why. Here the rules are matched a second time, and what follows for the
 view and for changes is held against what the library does for the same reader (`agreement`). Where they differ there is
@@ -13,7 +14,7 @@ from __future__ import annotations
 
 import re
 from enum import IntEnum
-from typing import Callable, Mapping, NamedTuple, Sequence
+from typing import Callable, Collection, Mapping, NamedTuple, Sequence
 
 from timetable_office.agreement import LEVELS, Agreement, Expected
 from timetable_office.library import Session
@@ -68,17 +69,17 @@ class Selector:
         """Whether a path has a `$`."""
         return self._own != 0
 
-    def tests(self, label: str, reader: str) -> int:
-        """The bits of the steps that a label passes; `$` is the name of this reader."""
-        return self._any | self.words.get(label, 0) | (self._own if label == reader else 0)
+    def tests(self, label: str, own: Collection[str]) -> int:
+        """The bits of the steps that a label passes; `$` passes these names, of all that a reader is."""
+        return self._any | self.words.get(label, 0) | (self._own if label in own else 0)
 
     def below(self, parent: int, above: int) -> int:
         """The bits that a node below can get: of `parent` by `/`, of `above`, which is any node above it, by `//`."""
         return ((parent & self._child) | (above & self._deep)) << 1
 
-    def select(self, nodes: Sequence[Node], reader: str) -> list[int]:
-        """For each node the end bits of the paths that select it."""
-        tests = {label: self.tests(label, reader) for label in {node.label for node in nodes}}
+    def select(self, nodes: Sequence[Node], own: Collection[str]) -> list[int]:
+        """For each node the end bits of the paths that select it, with these names for `$`."""
+        tests = {label: self.tests(label, own) for label in {node.label for node in nodes}}
         # for each level the bits that a node there can get
         can = [0] * (LEVELS + 1)
         can[0] = self.below(self.start, self.start)
@@ -152,23 +153,23 @@ class Decider:
         self.policy = read_policy(session.state)
         self.nodes = read_table(session.table)
         self.selector = Selector([rule.path for rule in self.policy.rules])
-        self._labels = {node.label for node in self.nodes}
+        self._labels = frozenset(node.label for node in self.nodes)
         # the policy words: labels named in any rule's path; once any rule uses `$`, every subject's name too
         self.words = set(self.selector.words)
         if self.selector.names_reader():
             self.words.update(self.policy.subjects)
         self._agreement = Agreement(session, self.nodes, self.words)
-        self._selections: dict[str, Selection] = {}
+        self._selections: dict[frozenset[str], Selection] = {}
 
-    def selection(self, reader: str) -> Selection:
-        """Which rules select the nodes, with this reader's name for `$`."""
-        # readers whose names no path looks for, or no node has, share one
-        name = reader if self.selector.names_reader() and reader in self._labels else ""
-        if name not in self._selections:
+    def selection(self, roles: Mapping[str, object]) -> Selection:
+        """Which rules select the nodes, with the names of these roles, all that a reader is, for `$`."""
+        # readers share one if no path has a `$`, or if nodes have the same names of theirs
+        own = self._labels.intersection(roles) if self.selector.names_reader() else frozenset[str]()
+        if own not in self._selections:
             numbers: dict[int, int] = {}
-            kinds = [numbers.setdefault(bits, len(numbers)) for bits in self.selector.select(self.nodes, name)]
-            self._selections[name] = Selection(kinds, list(numbers))
-        return self._selections[name]
+            kinds = [numbers.setdefault(bits, len(numbers)) for bits in self.selector.select(self.nodes, own)]
+            self._selections[own] = Selection(kinds, list(numbers))
+        return self._selections[own]
 
     def applicable(self, roles: Mapping[str, object]) -> list[int]:
         """The places of the rules that are for one of these roles."""
@@ -177,7 +178,7 @@ class Decider:
     def decide(self, reader: str) -> Decisions:
         """What decides for this reader, after the library was found to agree."""
         roles = roles_of(self.policy, reader)
-        selection = self.selection(reader)
+        selection = self.selection(roles)
         verdicts = self._verdicts(self.applicable(roles), selection.selected)
         seen = self._seen([seen_by(verdict) for verdict in verdicts], selection.kinds)
         decisions = Decisions(reader, roles, selection.kinds, verdicts, seen)

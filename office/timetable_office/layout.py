@@ -1,4 +1,5 @@
-"""Whether a library's states and tables are laid out as this package reads them (docs/FORMAT.md)."""
+"""Whether a library's states and tables are laid out as this package reads them (docs/FORMAT.md), and whether it shows
+what this package takes a policy to show."""
 
 from __future__ import annotations
 
@@ -14,11 +15,13 @@ _POLICY = [
     b"(subject b)",
     b"(isa b a)",
     b"(rule accept read //* a)",
-    b"(rule deny read //d/*/$ b)",
+    b"(rule deny read /r/*/* b)",
+    b"(rule accept read //c/$ a)",
     b"(rule accept position //d/* a)",
 ]
-_TREE = [b"(root r)", b"(child (c (d (b))))", b"(user b)"]
-_NODES = [Node(0, "r"), Node(1, "c"), Node(2, "d"), Node(3, "b")]
+# b is shown the node `a` by `$`, since b is a
+_TREE = [b"(root r)", b"(child (c (a (b))))", b"(user b)"]
+_NODES = [Node(0, "r"), Node(1, "c"), Node(2, "a"), Node(3, "b")]
 
 
 def load_library(path: str | os.PathLike[str] | None = None) -> Library:
@@ -41,9 +44,11 @@ def load_library(path: str | os.PathLike[str] | None = None) -> Library:
     as_known = (
         read_policy(state).lines() == _POLICY
         and (stage_of(state), user_of(state)) == (Stage.WORK, "b")
-        and read_table(session.table) == view == _NODES
+        and read_table(session.table) == _NODES
         and len(sheet) == SHEET_BYTES
     )
     if not as_known:
         raise LibraryError(f"{library.path} is of another version: its bytes are not laid out as in docs/FORMAT.md")
+    if view != _NODES:
+        raise LibraryError(f"{library.path} is of another version: its views are not those of this one")
     return library

@@ -3,6 +3,7 @@
 from __future__ import annotations
 
 from collections import Counter
+from dataclasses import replace
 from itertools import count
 from typing import Iterator, Sequence
 
@@ -10,6 +11,7 @@ from timetable_office.errors import InputError
 from timetable_office.library import Refused, Session
 from timetable_office.lines import split_lines
 from timetable_office.replace import replace_policy
+from timetable_office.state import Rule, read_policy
 from timetable_office.tree import Node, read_table
 from timetable_office.views import log_in
 
@@ -57,14 +59,16 @@ def select_stored(session: Session, reader: str, path: str) -> list[int]:
     """The places of the nodes that a path selects in the stored tree, as a command of a reader who is shown all of it.
 
     The library selects them: on a copy of the store this reader may read and update every node, and renames those that
-    the path selects to a label that no node has.
+    the path selects to a label that no node has. Subjects and isa lines stay, since `$` goes by them.
     """
     log_in(session, reader)
     nodes = read_table(session.table)
     labels = {node.label for node in nodes}
     mark = next(label for label in _new_labels() if label not in labels)
-    policy = f"(subject {reader})\n(rule accept read //* {reader})\n(rule accept update //* {reader})\n"
-    made = replace_policy(session, split_lines("a policy that shows everything", policy.encode("ascii")))
+    rules = tuple(Rule(True, right, "//*", reader) for right in ("read", "update"))
+    policy = replace(read_policy(session.state), rules=rules)
+    lines = b"".join(line + b"\n" for line in policy.lines())
+    made = replace_policy(session, split_lines("a policy that shows everything", lines))
     copy = log_in(Session(session.library, made.state, made.table), reader)
     try:
         copy.line(b"(rename " + path.encode("utf-8", "surrogateescape") + b" " + mark.encode("ascii") + b")")

@@ -16,7 +16,7 @@ use Rattle.rights.specs.Rights.{stepFor, reaches, ruledSet, decide, rightsBy}
 use Rattle.rights.proofs.LabelLaws.{same-left, folded-like}
 use Rattle.rights.proofs.BoolLaws.{or-left}
 use Rattle.rights.proofs.ListLaws.{byCase}
-use Rattle.rights.proofs.OwnNames.{own-named}
+use Rattle.rights.proofs.OwnNames.{own-names}
 use Rattle.rights.proofs.PolicyWords.{own-same}
 use Rattle.rights.proofs.XPathLists.{or-right}
 
@@ -117,14 +117,15 @@ module _ (P : Policy) (u : ℕ) where
       rw (finds-keys (r .path) c (first (λ y. anyOf (uses false y) (r .path)) (λ y. anyOf (uses true y) (r .path)) _ _ v))
       (decide-keys c rs _ (others (λ y. anyOf (uses false y) (r .path)) (λ y. anyOf (uses true y) (r .path)) _ _ v))
 
-  -- the rules of a policy make policy words of all that they use
+  -- The rules of a policy make policy words of all that they use. Of `$` it is enough that what passes it is some subject's name (`own-names`): once a rule uses
+  -- `$` every subject's name is a policy word, so it does not matter which of them pass, the login name alone or those of all that the subject is.
   rules-cover : CoversRules (P .rules)
   unfolding policyWord
   rules-cover = record {
     by-name = λ x e. or-left _ _ e;
     by-own = λ x e q.
-        let k = own-named P u x q in
-        let z : anyOf (λ (r : Rule). anyOf (uses true x) (r .path)) (P .rules) && anyOf (sameLabel x) (P .names) ≡ true = rw e (some-at (sameLabel x) (P .names) (k .0) (k .1) (k .2)) in
+        let k = own-names P u .only x q in
+        let z : anyOf (λ (r : Rule). anyOf (uses true x) (r .path)) (P .rules) && anyOf (sameLabel x) (P .names) ≡ true = rw e (some-at (sameLabel x) (P .names) (k .0) (k .1) (k .3)) in
         or-right (anyOf (λ (r : Rule). anyOf (uses false x) (r .path)) (P .rules)) _ z;
   }
 

@@ -1,6 +1,6 @@
 -- States that hold the same policy give the same rights, policy words, `$` and subjects: the order of the isa lines decides nothing. Assumes nothing.
 use Prim.Native.Nat.{ℕ, zero, suc}
-use mathlib.Core.Path.{_≡_, refl, ap, sym, _∙_}
+use mathlib.Core.Path.{_≡_, refl, ap, sym, _∙_, fun-ext}
 use mathlib.Core.Bool.{Bool, true, false, _&&_, _||_, false≢true}
 use mathlib.Core.List.{List, [], _∷_, map}
 use lib.Dec.{eqb}
@@ -10,17 +10,12 @@ use Rattle.rights.specs.Labels.{sameLabel}
 use Rattle.rights.specs.Policy.{Policy, Rule, some, uses, policyWord}
 use Rattle.rights.specs.Isa.{isBy, is, standsFor, subjectsWhere, passesOwn}
 use Rattle.rights.specs.Rights.{decide, rightsBy, chains, rightsOn}
-use Rattle.rights.proofs.BoolLaws.{or-left}
+use Rattle.rights.proofs.BoolLaws.{both-ways, or-left}
 use Rattle.rights.proofs.TableLaws.{both}
 use Rattle.rights.proofs.ListLaws.{byCase}
 use Rattle.rights.proofs.XPathLists.{or-right}
 use Rattle.lines.specs.PolicyEdit.{isLine, isaHeld, subjectFrom, subjectNamed}
 use Rattle.guarantee.specs.Alike.{SamePolicy}
-
-equal-tests : (a b : Bool) → (a ≡ true → b ≡ true) → (b ≡ true → a ≡ true) → a ≡ b
-equal-tests true b f g = sym (f refl)
-equal-tests false true f g = g refl
-equal-tests false false f g = refl
 
 -- an isa line that passes a test, and what it gives in a list that holds it
 record Found (g : ℕ × ℕ → Bool) (ps : List (ℕ × ℕ)) : Type 0 where
@@ -55,7 +50,7 @@ is-same : (ps qs : List (ℕ × ℕ)) → ((n r : ℕ) → some (isLine n r) ps 
 unfolding isBy
 is-same ps qs same zero u k = refl
 is-same ps qs same (suc f) u k =
-    ap (λ b. eqb u k || b) (equal-tests _ _
+    ap (λ b. eqb u k || b) (both-ways _ _
     (some-same ps qs same (λ p. eqb (p .0) u && isBy ps f (p .1) k) (λ p. eqb (p .0) u && isBy qs f (p .1) k)
     (λ w. ap (λ b. eqb (w .0) u && b) (is-same ps qs same f (w .1) k)))
     (some-same qs ps (λ n r. sym (same n r)) (λ p. eqb (p .0) u && isBy qs f (p .1) k) (λ p. eqb (p .0) u && isBy ps f (p .1) k)
@@ -68,7 +63,7 @@ module _ (P Q : Policy) (same : SamePolicy P Q) where
 
   same-stands : (u : ℕ) → standsFor P u ≡ standsFor Q u
   unfolding standsFor
-  same-stands u = refl
+  same-stands u = fun-ext (same-is u)
 
   pub same-own : (u : ℕ) → passesOwn P u ≡ passesOwn Q u
   unfolding passesOwn

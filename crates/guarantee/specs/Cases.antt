@@ -337,5 +337,43 @@ doorSheet =
           ∷ [];
     }
 
+-- Card 5: "a tutor sees what lies under the form's name as under their own". SHA is 10B, which is year10, and not 10C; the rule is for staff, which 10B is not.
+abbrev pub formTutor : Case
+formTutor =
+    record {
+      capacity = 10;
+      turns =
+          ok "(subject staff)"
+          ∷ ok "(subject year10)"
+          ∷ ok "(subject 10B)"
+          ∷ ok "(subject 10C)"
+          ∷ ok "(subject SHA)"
+          ∷ ok "(isa 10B year10)"
+          ∷ ok "(isa SHA staff)"
+          ∷ ok "(isa SHA 10B)"
+          ∷ ok "(rule accept read /* staff)"
+          ∷ ok "(rule accept read /*/* staff)"
+          ∷ ok "(rule accept read //$/* staff)"
+          ∷ ok "(root school)"
+          ∷ ok "(child (year10 (trip)))"
+          ∷ ok "(child (10B (Kim)))"
+          ∷ ok "(child (10C (Pat)))"
+          ∷ ok "(child (SHA (key)))"
+          ∷ ok "(user SHA)"
+          ∷ "(view)" prints (
+          "(root school)"
+          ∷ "(child (year10 (trip)))"
+          ∷ "(child (10B (Kim)))"
+          ∷ "(child (10C))"
+          ∷ "(child (SHA (key)))"
+          ∷ "(end 8)"
+          ∷ []
+          )
+          ∷ "(query /school/$[2]/*)" gives "(hit 2 Kim)\n(end 1)\n"
+          ∷ ok "(user 10B)"
+          ∷ "(view)" gives "(end 0)\n"
+          ∷ [];
+    }
+
 abbrev pub CardsAnswered : Type 0
-CardsAnswered = All CaseAnswered (firstRoom ∷ doorSheet ∷ [])
+CardsAnswered = All CaseAnswered (firstRoom ∷ doorSheet ∷ formTutor ∷ [])

@@ -16,6 +16,7 @@ use Rattle.rights.specs.Marks.{bit, marksOf}
 use Rattle.rights.specs.Nodes.{Nodes}
 use Rattle.rights.specs.How.Numbers.{Fits, viewOf}
 use Rattle.rights.specs.Isa.{passesOwn}
+use Rattle.rights.specs.PolicyCheck.{policyOk}
 use Rattle.rights.specs.PolicyBytes.{policyOf, subjectCount}
 use Rattle.rights.specs.How.Roles.{Declared, OwnFirst, Subjects, nameAmong}
 use Rattle.rights.specs.Rights.{rightsBy, chains}
@@ -112,9 +113,10 @@ module _ (s t : List ℕ) (ok : storeOk s t ≡ true) (shown' more : List ℕ) (
   pub shown-view : viewOf t (take (k - 0) (drop 0 shown')) ≡ viewIn s t
   shown-view = ap (viewOf t) shown-part ∙ view-by-numbers t (rightsIn s t) (store-held s t ok .table)
 
--- the subjects for which `$` stands, as the selection asks for them
-pub own-asks : (s t : List ℕ) → storeOk s t ≡ true → (ks : List ℕ) (m : ℕ) → OwnFirst (policyBytes s) (userOf s) ks m → Subjects (take (length s - 8) (drop 8 s)) (take (m - 0) (drop 0 ks))
-own-asks s t ok ks m o = rw (rest-of s 8) (own-sound (own-part o) (policy-sound _ (store-held s t ok .policy)))
+-- the policy, and the subjects for which `$` stands, as the selection asks for them
+pub own-asks : (s t : List ℕ) → storeOk s t ≡ true → (ks : List ℕ) (m : ℕ) → OwnFirst (policyBytes s) (userOf s) ks m
+    → (policyOk (take (length s - 8) (drop 8 s)) ≡ true) × Subjects (take (length s - 8) (drop 8 s)) (take (m - 0) (drop 0 ks))
+own-asks s t ok ks m o = let p = store-held s t ok .policy in rw (rest-of s 8) (p, own-sound (own-part o) (policy-sound _ p))
 
 marks-long : (s t path : List ℕ) → length (marksIn s t path) ≡ length (viewIn s t)
 marks-long s t path = each-length _ 0 (length (viewIn s t))

@@ -37,7 +37,7 @@ abbrev pub notPath : Got Path → Bool
 notPath (got p e) = false
 notPath bad = true
 
--- "Paths of E run on the view": the marks of what a path selects there, `$` being the login name
+-- "Paths of E run on the view": the marks of what a path selects there, `$` passing the names of all that the user is
 abbrev pub marksIn : List ℕ → List ℕ → List ℕ → List Bool
 marksIn s t path = xpathSelection path (passesOwn (policyIn s) (userOf s)) (viewIn s t)
 

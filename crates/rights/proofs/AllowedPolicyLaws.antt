@@ -11,7 +11,7 @@ use lib.ListN.{length, getD, take, drop, replicate, take-append-drop, length-dro
 use lib.Seq.{take-add, take-all, length-take-le, drop-drop}
 use Rattle.rights.specs.Bytes.{every, zeros}
 use Rattle.rights.specs.Marks.{bit, eachFrom}
-use Rattle.rights.specs.Labels.{sameLabel}
+use Rattle.rights.specs.Labels.{sameLabel, restricted}
 use Rattle.rights.specs.Path.{Axis, Test, Child, any}
 use Rattle.rights.specs.Policy.{position, read, insert, update, delete, nameOf}
 use Rattle.rights.specs.PolicyBytes.{subjectCount, isaCount, ruleCount, subjectAt, isaAt, ruleAt, stepsAt, nameAt, isaN, isaR, accepts, rightBit, whose, stepCount, stepOf, storedPath, ruleOf, policyOf}
@@ -20,6 +20,7 @@ use Rattle.rights.specs.Record.{nameRecord}
 use Rattle.rights.specs.Table.{recAt}
 use Rattle.rights.specs.Allowed.{All, LabelOk, AllowedIsa, AllowedRight, AllowedTest, AllowedRule, AllowedPolicy}
 use Rattle.rights.specs.Held.{inPlaces, isaBytes, stepRecord, ruleHead, ruleBytes, policyHead, heldPolicy, HoldsPolicy}
+use Rattle.rights.specs.How.Roles.{Subjects, nameAmong}
 use Rattle.rights.proofs.BoolLaws.{or-split}
 use Rattle.rights.proofs.EveryLaws.{every-at}
 use Rattle.rights.proofs.MarkLaws.{each-length, each-at}
@@ -28,6 +29,8 @@ use Rattle.rights.proofs.PlaceLaws.{Places, places-bytes, zero-replicat
 use Rattle.rights.proofs.PolicyPartLaws.{parts, subjects-have, isas-have, rules-have}
 use Rattle.rights.proofs.HeldRecordLaws.{name-made, record-long}
 use Rattle.rights.proofs.HeldStepLaws.{StepHeld, step-held}
+use Rattle.rights.proofs.LabelLaws.{same-sym}
+use Rattle.rights.proofs.OwnNames.{some-no}
 use Rattle.rights.proofs.PartLaws.{next-byte}
 use Rattle.rights.proofs.TableLaws.{both}
 
@@ -249,3 +252,9 @@ module _ (p : List ℕ) (ok : policyOk p ≡ true) where
 -- 13, for a policy: what passes is what document 01 allows, and nothing else stands in its bytes.
 pub policy-allowed : (p : List ℕ) → policyOk p ≡ true → HoldsPolicy p (policyOf p)
 policy-allowed p ok = subst (HoldsPolicy p) (sym (policy-listed p)) (record { allowed = listed-allowed p ok; bytes = listed-bytes p ok })
+
+-- RESTRICTED is no subject's name, so it passes no `$`.
+pub restricted-no-name : (p : List ℕ) → policyOk p ≡ true → (own : List ℕ) → Subjects p own → nameAmong p own restricted ≡ false
+restricted-no-name p ok own known =
+    some-no (λ k. sameLabel restricted (nameAt p k)) own (λ i h. let k = getD own i 0 in
+    same-sym restricted (nameAt p k) ∙ name-is p ok k (known .at i h .declared) .1 .free)

@@ -18,7 +18,7 @@ use Rattle.rights.specs.Policy.{Right, position, read, insert, update, d
 use Rattle.rights.specs.Rights.{Step, stepFor, reaches, ruledSet}
 use Rattle.rights.specs.How.Automaton.{value, meet, deeps, passedBy, moved, states, stepsFor, rulePath, chainTo, chainOf}
 use Rattle.rights.specs.How.Roles.{nameAmong}
-use Rattle.rights.specs.How.Groups.{bitAt, Ruling, rulingAt, never, cat, rulingSteps, rulingStarts, laid, firsts, endAt, Agrees, ruled, settled, Packed, Grouped, General}
+use Rattle.rights.specs.How.Groups.{bitAt, Ruling, rulingAt, never, cat, rulingSteps, rulingStarts, laid, firsts, endAt, Agrees, ruled, settled, Packed, Noted, Grouped, General}
 use Rattle.rights.specs.PolicyCheck.{bitOk}
 use Rattle.rights.specs.PolicyBytes.{accepts, stepCount, stepsAt, stepOf}
 use Rattle.rights.specs.Table.{recAt, recordAt, level, label}
@@ -27,7 +27,7 @@ use Rattle.rights.proofs.ListLaws.{byCase}
 use Rattle.rights.proofs.StateMaskLaws.{bit-test, length-steps, length-passedBy}
 use Rattle.rights.proofs.ChainLaws.{found}
 use Rattle.rights.proofs.BitLaws.{get-meet, get-union, bitAt-and, bitAt-or, bitAt-one, bitAt-ext, bitAt-value, bitAt-clear}
-use Rattle.rights.proofs.PackedLaws.{step-deep, step-every, or-none, deeps-more, passed-more, deeps-length, packed-none, packed-end}
+use Rattle.rights.proofs.PackedLaws.{step-deep, step-every, or-none, deeps-more, passed-more, deeps-length, packed-none, packed-end, packed-own}
 
 -- How a set of states moves, state by state
 
@@ -297,11 +297,11 @@ fair-more x h b fair y n e hy hn hit a = let d = right-of b fair in rw (d .1) (s
 
 -- A group in numbers
 
-module _ (number : List ℕ → ℕ) (q : ℕ → Ruling) (b : ℕ) (i : ℕ) where
-  pub group-none : (rows : List ℕ) → length rows ≡ 2113 → ((x : List ℕ) → getD rows (number x) 0 ≡ 0) → Grouped number q b i 0 0 0 0 0 0 0 rows
+module _ (number : List ℕ → ℕ) (mine : List ℕ → Bool) (q : ℕ → Ruling) (b : ℕ) (i : ℕ) where
+  pub group-none : (rows : List ℕ) → length rows ≡ 2113 → ((x : List ℕ) → getD rows (number x) 0 ≡ 0) → Grouped number mine q b i 0 0 0 0 0 0 0 0 rows
   unfolding cat ruled value
   group-none rows e z = record {
-    packed = packed-none number rows e z;
+    packed = packed-none number mine rows e z;
     used-is = refl;
     start-is = refl;
     yes-low = lit< tt;
@@ -309,8 +309,19 @@ module _ (number : List ℕ → ℕ) (q : ℕ → Ruling) (b : ℕ) (i : ℕ) wh
     says = λ m x c h g. (let z : bitAnd m 0 ≡ 0 = and-zero-r m in rw z);
   }
 
-  module _ (n deep every start yes noes used : ℕ) (rows : List ℕ) (g : Grouped number q b i n deep every start yes noes used rows) where
-    pub group-skip : q (i + n) .on ≡ false → Grouped number q b i (suc n) deep every start yes noes used rows
+  module _ (n deep every own start yes noes used : ℕ) (rows : List ℕ) (g : Grouped number mine q b i n deep every own start yes noes used rows) where
+    -- the bits of `$` in the rows of the labels that pass it
+    pub group-own : (rows' : List ℕ) → Noted number rows rows' own mine → Grouped number mine q b i n deep every 0 start yes noes used rows'
+    group-own rows' w = record {
+      packed = packed-own number mine (laid q i n) deep every own rows (g .packed) rows' w;
+      used-is = g .used-is;
+      start-is = g .start-is;
+      yes-low = g .yes-low;
+      no-low = g .no-low;
+      says = g .says;
+    }
+
+    pub group-skip : q (i + n) .on ≡ false → Grouped number mine q b i (suc n) deep every own start yes noes used rows
     unfolding ruled
     group-skip o = record {
       packed = rw (cat-off q i rulingSteps n o) (g .packed);
@@ -321,7 +332,8 @@ module _ (number : List ℕ → ℕ) (q : ℕ → Ruling) (b : ℕ) (i : ℕ) wh
       says = λ m x c h a. rw o (g .says m x c h (λ k l. a k (omega arith)));
     }
 
-    module _ (fair : bitOk b ≡ true) (o : q (i + n) .on ≡ true) (deep' every' : ℕ) (rows' : List ℕ) (k : Packed number (laid q i n ++ q (i + n) .path) deep' every' rows') where
+    module _ (fair : bitOk b ≡ true) (o : q (i + n) .on ≡ true) (deep' every' own' : ℕ) (rows' : List ℕ)
+        (k : Packed number mine (laid q i n ++ q (i + n) .path) deep' every' own' rows') where
       first-more : (xs : List Bool) (m j : ℕ) → getD (xs ++ (true ∷ replicate m false)) j false ≡ getD xs j false || eqb j (length xs)
       first-more [] m zero = refl
       first-more [] m (suc j) = none m j ∙ sym (eqb·suc-zero j)
@@ -377,13 +389,13 @@ module _ (number : List ℕ → ℕ) (q : ℕ → Ruling) (b : ℕ) (i : ℕ) wh
           (ap (λ (b : Bool). bitAnd m yes + cond (b && q (i + n) .accept) (2 ^ endAt q i n) 0) (sym (a n (omega arith) o)) ∙ sym (mark-and (q (i + n) .accept) m yes (g .yes-low)))
           (ap (λ (b : Bool). bitAnd m noes + cond (b && not (q (i + n) .accept)) (2 ^ endAt q i n) 0) (sym (a n (omega arith) o)) ∙ sym (mark-and (not (q (i + n) .accept)) m noes (g .no-low))))
 
-      pub group-more : (size : ℕ) → size ≡ length (q (i + n) .path) → Grouped number q b i (suc n) deep' every' (bitOr start (2 ^ used))
+      pub group-more : (size : ℕ) → size ≡ length (q (i + n) .path) → Grouped number mine q b i (suc n) deep' every' own' (bitOr start (2 ^ used))
           (cond (q (i + n) .accept) (bitOr yes (2 ^ (used + size))) yes) (cond (not (q (i + n) .accept)) (bitOr noes (2 ^ (used + size))) noes) (used + size + 1) rows'
       group-more size es =
           let u = g .used-is in
           let f : used + size ≡ endAt q i n = ap₂ _+_ u es in
           record {
-            packed = rw (cat-on q i rulingSteps n o, ← append-assoc) (packed-end number (laid q i n ++ q (i + n) .path) deep' every' rows' k);
+            packed = rw (cat-on q i rulingSteps n o, ← append-assoc) (packed-end number mine (laid q i n ++ q (i + n) .path) deep' every' own' rows' k);
             used-is = omega (arith, f, laid-more q i n o);
             start-is = ap (λ (z : ℕ). bitOr start (2 ^ z)) u ∙ start-more;
             yes-low = rw f (mark-low (q (i + n) .accept) yes (g .yes-low));
@@ -432,23 +444,27 @@ module _ (q : ℕ → Ruling) (i : ℕ) where
 -- One rule of a policy more
 
 module _ (number : List ℕ → ℕ) (p own roles : List ℕ) (b : ℕ) (fair : bitOk b ≡ true) where
+  abbrev mine : List ℕ → Bool
+  mine = nameAmong p own
+
   abbrev ruling : ℕ → Ruling
   ruling = rulingAt p own roles b
 
-  pub ruling-added : (i n k : ℕ) → i + n ≡ k → ruling k .on ≡ true → (deep every start yes noes used deep' every' start' yes' noes' used' : ℕ) (rows rows' : List ℕ)
-      → Grouped number ruling b i n deep every start yes noes used rows
-      → ((ss : List Step) → length ss ≡ used → Packed number ss deep every rows → Packed number (ss ++ rulePath p own k) deep' every' rows')
+  pub ruling-added : (i n k : ℕ) → i + n ≡ k → ruling k .on ≡ true
+      → (deep every own-bits start yes noes used deep' every' own-bits' start' yes' noes' used' : ℕ) (rows rows' : List ℕ)
+      → Grouped number mine ruling b i n deep every own-bits start yes noes used rows
+      → ((ss : List Step) → length ss ≡ used → Packed number mine ss deep every own-bits rows → Packed number mine (ss ++ rulePath p own k) deep' every' own-bits' rows')
       → start' ≡ bitOr start (2 ^ used)
       → yes' ≡ cond (accepts p k) (bitOr yes (2 ^ (used + stepCount p k))) yes
       → noes' ≡ cond (not (accepts p k)) (bitOr noes (2 ^ (used + stepCount p k))) noes
       → used' ≡ used + stepCount p k + 1
-      → Grouped number ruling b i (suc n) deep' every' start' yes' noes' used' rows'
-  ruling-added i n k z o deep every start y0 noes used deep' every' start' y1 noes' used' rows rows' g f es ey en eu =
-      let kp : Packed number (laid ruling i n ++ rulePath p own (i + n)) deep' every' rows' =
-      subst (λ (m : ℕ). Packed number (laid ruling i n ++ rulePath p own m) deep' every' rows') (sym z) (f (laid ruling i n) (sym (g .used-is)) (g .packed)) in
+      → Grouped number mine ruling b i (suc n) deep' every' own-bits' start' yes' noes' used' rows'
+  ruling-added i n k z o deep every o0 start y0 noes used deep' every' o1 start' y1 noes' used' rows rows' g f es ey en eu =
+      let kp : Packed number mine (laid ruling i n ++ rulePath p own (i + n)) deep' every' o1 rows' =
+      subst (λ (m : ℕ). Packed number mine (laid ruling i n ++ rulePath p own m) deep' every' o1 rows') (sym z) (f (laid ruling i n) (sym (g .used-is)) (g .packed)) in
       rw (es, ey, en, eu, ← z)
-      (group-more number ruling b i n deep every start y0 noes used rows g fair (ap (λ (m : ℕ). ruling m .on) z ∙ o) deep' every' rows' kp
-      (stepCount p (i + n)) (sym (length-steps (nameAmong p own) p (stepsAt (i + n)) (stepCount p (i + n)) 0)))
+      (group-more number mine ruling b i n deep every o0 start y0 noes used rows g fair (ap (λ (m : ℕ). ruling m .on) z ∙ o) deep' every' o1 rows' kp
+      (stepCount p (i + n)) (sym (length-steps mine p (stepsAt (i + n)) (stepCount p (i + n)) 0)))
 
 pub not-not : (b : Bool) → not (not b) ≡ b
 not-not true = refl
@@ -511,9 +527,10 @@ one-step mine p b n e = let z : b + 0 * 32 ≡ b = omega arith in rw (e, z)
 pub general-path : (p own : List ℕ) (k : ℕ) → stepCount p k ≡ 1 → (getD p (stepsAt k) 0 ≡ 0 → ⊥) → getD (label (recAt p (stepsAt k))) 0 0 ≡ 42
     → (c : List (List ℕ)) (x : List ℕ) → reaches (rulePath p own k) (c ++ (x ∷ [])) ≡ true
 general-path p own k one far-off any c x =
-    let s = stepFor (nameAmong p own) (stepOf (recAt p (stepsAt k))) in
-    rw (one-step (nameAmong p own) p (stepsAt k) (stepCount p k) one)
-    (all-found s (sym (step-deep p own (stepsAt k) true (rw (ne-eqb _ _ far-off)))) (step-every p own (stepsAt k) any) c x)
+    let mine = nameAmong p own in
+    let s = stepFor mine (stepOf (recAt p (stepsAt k))) in
+    rw (one-step mine p (stepsAt k) (stepCount p k) one)
+    (all-found s (sym (step-deep mine p (stepsAt k) true (rw (ne-eqb _ _ far-off)))) (step-every mine p (stepsAt k) any) c x)
 
 pub above-zero : (k : ℕ) → (k ≡ 0 → ⊥) → 0 < k
 above-zero zero h = absurd (h refl)

@@ -1,22 +1,24 @@
--- The subjects for which `$` stands: they are subjects of the policy, and their names are the labels that pass `$`. Only `own-name` uses for whom it stands. Assumes nothing.
+-- The subjects for which `$` stands: they are subjects of the policy, and their names are the labels that pass `$`. Only `own-names` uses for whom it stands. Assumes nothing.
 use Prim.Native.Nat.{ℕ, zero, suc, _+_, _-_, _≤_, _<_}
 use mathlib.Core.Bool.{Bool, true, false, _||_, or-true, or-false, or-assoc, false≢true}
-use mathlib.Core.Path.{_≡_, refl, sym, ap, ap₂, _∙_, subst}
+use mathlib.Core.Path.{_≡_, refl, sym, ap, ap₂, _∙_, subst, fun-ext}
 use mathlib.Core.List.{List, [], _∷_, _++_}
 use native.Mathlib.Nat.{sub-zero}
 use native.Mathlib.Numerals.{add-one}
 use native.Mathlib.Omega.{arith}
-use borrow.Author.Tests.{ltb-true, ltb-false, eqb-true, eqb-false, ne-eqb}
+use borrow.Author.Tests.{ltb-true, ltb-false, eqb-true, eqb-false, eq-eqb}
 use lib.Dec.{ltb, eqb}
 use lib.ListN.{length, take, drop, getD, length-append, List·getD-append}
 use lib.Seq.{take-suc, take-all, getD-append-seam}
 use Rattle.rights.specs.Labels.{sameLabel}
 use Rattle.rights.specs.Policy.{Policy, nameOf, some}
-use Rattle.rights.specs.Isa.{standsFor, subjectsWhere, passesOwn}
+use Rattle.rights.specs.Isa.{isBy, standsFor, subjectsWhere, passesOwn, NamesOf}
 use Rattle.rights.specs.PolicyBytes.{policyOf, nameAt}
 use Rattle.rights.specs.How.Roles.{Own, OwnFirst, Subjects, nameAmong}
 use Rattle.rights.specs.How.Automaton.{Sound}
 use Rattle.rights.proofs.PolicyBytesLaws.{names-length, name-held}
+use Rattle.rights.proofs.BoolLaws.{both-ways, or-left, or-right, or-split}
+use Rattle.rights.proofs.LabelLaws.{same-self}
 use Rattle.rights.proofs.ListLaws.{byCase}
 
 pub some-more : {A : Type 0} (g : A → Bool) (xs : List A) (x : A) → some g (xs ++ (x ∷ [])) ≡ some g xs || g x
@@ -29,6 +31,11 @@ unfolding some
 some-at g [] i h e = absurd (omega arith)
 some-at g (x ∷ xs) zero h e = rw e
 some-at g (x ∷ xs) (suc i) h e = rw (some-at g xs i (omega arith) e) (or-true (g x))
+
+pub some-no : (g : ℕ → Bool) (xs : List ℕ) → ((i : ℕ) → i < length xs → g (getD xs i 0) ≡ false) → some g xs ≡ false
+unfolding some
+some-no g [] h = refl
+some-no g (x ∷ xs) h = rw (h 0 (omega arith)) (some-no g xs (λ i l. h (suc i) (omega arith)))
 
 module _ (f : ℕ → Bool) where
   pub where-few : (n : ℕ) → length (subjectsWhere f n) ≤ n
@@ -61,16 +68,26 @@ module _ (f : ℕ → Bool) where
       (λ q. rw q (some-more g (subjectsWhere f n) n ∙ ap₂ _||_ ih (e n (omega arith)) ∙ sym (some-more h (subjectsWhere f n) n)))
       (λ q. rw q ih)
 
-  pub where-found : (g : ℕ → Bool) (n : ℕ) → some g (subjectsWhere f n) ≡ true → (k : ℕ) × (k < n) × (g k ≡ true)
+  pub where-found : (g : ℕ → Bool) (n : ℕ) → some g (subjectsWhere f n) ≡ true → (k : ℕ) × (k < n) × (f k ≡ true) × (g k ≡ true)
   unfolding subjectsWhere some
   where-found g zero e = absurd (false≢true e)
   where-found g (suc n) e =
-      byCase (g n)
-      (λ q. (n, omega arith, q))
-      (λ q. let r = where-found g n (byCase (f n)
-      (λ z. sym (or-false (some g (subjectsWhere f n))) ∙ ap (λ (b : Bool). some g (subjectsWhere f n) || b) (sym q) ∙ sym (some-more g (subjectsWhere f n) n) ∙ (rw z at e))
-      (λ z. rw z at e)) in
-      (r .0, omega (arith, r .1), r .2))
+      let below : some g (subjectsWhere f n) ≡ true → (k : ℕ) × (k < suc n) × (f k ≡ true) × (g k ≡ true) =
+      λ q. let r = where-found g n q in (r .0, omega (arith, r .1), r .2, r .3) in
+      byCase (f n)
+      (λ z. or-split (some g (subjectsWhere f n)) (g n) (sym (some-more g (subjectsWhere f n) n) ∙ (rw z at e)) below (λ q. (n, omega arith, z, q)))
+      (λ z. below (rw z at e))
+
+  where-has : (g : ℕ → Bool) (n k : ℕ) → k < n → f k ≡ true → g k ≡ true → some g (subjectsWhere f n) ≡ true
+  unfolding subjectsWhere
+  where-has g zero k h e q = absurd (omega arith)
+  where-has g (suc n) k h e q =
+      byCase (eqb k n)
+      (λ z. let y = eqb-true k n z in rw (← y, e, some-more g (subjectsWhere f k) k) (or-right (some g (subjectsWhere f k)) (g k) q))
+      (λ z. let ih = where-has g n k (omega (arith, eqb-false k n z)) e q in
+      byCase (f n)
+      (λ y. rw (y, some-more g (subjectsWhere f n) n) (or-left (some g (subjectsWhere f n)) (g n) ih))
+      (λ y. rw y ih))
 
 module _ {p ks : List ℕ} {u : ℕ} (own : Own p u ks) where
   pub own-sound : Sound p → Subjects p ks
@@ -92,29 +109,26 @@ module _ {p ks : List ℕ} {u : ℕ} (own : Own p u ks) where
 pub own-part : {p ks : List ℕ} {u m : ℕ} → OwnFirst p u ks m → Own p u (take (m - 0) (drop 0 ks))
 own-part {ks = ks} {m = m} o = record { are = ap (λ (k : ℕ). take k ks) (sub-zero m) ∙ o .own .are }
 
--- a label that passes `$` is a subject's name
-pub own-named : (P : Policy) (u : ℕ) (x : List ℕ) → passesOwn P u x ≡ true → (k : ℕ) × (k < length (P .names)) × (sameLabel x (nameOf P k) ≡ true)
-unfolding passesOwn
-own-named P u x e = where-found (standsFor P u) (λ k. sameLabel x (nameOf P k)) (length (P .names)) e
-
--- of the subjects below n, u itself
-itself-none : (g : ℕ → Bool) (u n : ℕ) → n ≤ u → some g (subjectsWhere (eqb u) n) ≡ false
-unfolding subjectsWhere some
-itself-none g u zero h = refl
-itself-none g u (suc n) h = rw (ne-eqb u n (λ z. omega arith)) (itself-none g u n (omega arith))
-
-itself : (g : ℕ → Bool) (u n : ℕ) → u < n → some g (subjectsWhere (eqb u) n) ≡ g u
-unfolding subjectsWhere
-itself g u zero h = absurd (omega arith)
-itself g u (suc n) h =
-    byCase (eqb u n)
-    (λ e. let z = eqb-true u n e in rw (e, some-more g (subjectsWhere (eqb u) n) n, itself-none g u n (omega arith), z))
-    (λ e. let ne = eqb-false u n e in rw e (itself g u n (omega (arith, ne))))
-
--- "`$` (the label equal to the session's login name)", "for `$`, with that subject's name"
-pub own-name : (P : Policy) (u : ℕ) (x : List ℕ) → u < length (P .names) → passesOwn P u x ≡ sameLabel x (nameOf P u)
+-- `$` passes the names of all that u is, and no others
+pub own-names : (P : Policy) (u : ℕ) → NamesOf P u (passesOwn P u)
 unfolding passesOwn standsFor
-own-name P u x h = itself (λ k. sameLabel x (nameOf P k)) u (length (P .names)) h
+own-names P u = record {
+  only = λ x e. where-found (standsFor P u) (λ k. sameLabel x (nameOf P k)) (length (P .names)) e;
+  each = λ x k h i e. where-has (standsFor P u) (λ j. sameLabel x (nameOf P j)) (length (P .names)) k h i e;
+}
+
+-- "the login name included"
+pub login-passes : (P : Policy) (u : ℕ) → u < length (P .names) → passesOwn P u (nameOf P u) ≡ true
+unfolding isBy
+login-passes P u h = own-names P u .each (nameOf P u) u h (rw (eq-eqb u u refl)) (same-self (nameOf P u))
+
+-- no other set of labels is that one
+pub names-fixed : (P : Policy) (u : ℕ) (mine : List ℕ → Bool) → NamesOf P u mine → passesOwn P u ≡ mine
+names-fixed P u mine names =
+    let own = own-names P u in
+    fun-ext (λ x. both-ways _ _
+    (λ e. let k = own .only x e in names .each x (k .0) (k .1) (k .2) (k .3))
+    (λ e. let k = names .only x e in own .each x (k .0) (k .1) (k .2) (k .3)))
 
 -- a loop over subjects: none, one more, and all
 pub names-none : (p ks x : List ℕ) → nameAmong p (take 0 ks) x ≡ false

@@ -10,10 +10,9 @@ use lib.Dec.{eqb, ltb}
 use lib.ListN.{length, getD, take, length-map, List·getD-map}
 use lib.Seq.{take-nil, take-all, take-append-le, take-take, length-take-le}
 use Rattle.rights.specs.Path.{Test, Axis, isDescendant, passes}
-use Rattle.rights.specs.Isa.{is, passesOwn}
-use Rattle.rights.specs.Labels.{sameLabel}
-use Rattle.rights.specs.Policy.{Right, bitOf, Rule, Policy, nameOf}
-use Rattle.rights.specs.PolicyBytes.{policyOf, subjectCount, ruleCount, stepCount, stepsAt, stepOf, stepsFrom, storedPath}
+use Rattle.rights.specs.Isa.{is, passesOwn, NamesOf}
+use Rattle.rights.specs.Policy.{Right, bitOf, Rule, Policy}
+use Rattle.rights.specs.PolicyBytes.{policyOf, ruleCount, stepCount, stepsAt, stepOf, stepsFrom, storedPath}
 use Rattle.rights.specs.PolicyCheck.{ruleOk, rulesOk, policyOk}
 use Rattle.rights.specs.Table.{recAt, recordAt, recordsFrom, records, level, label, count, recordOk, recordsOk, tableOk}
 use Rattle.rights.specs.Nodes.{node, levelOf, labelOf, levelAt, labelAt, TreeShaped}
@@ -25,9 +24,8 @@ use Rattle.rights.specs.How.Selection.{above, under, keeps, selects, fro
 use Rattle.rights.proofs.ChainLaws.{grown, fit, chains-length}
 use Rattle.rights.proofs.EveryLaws.{every-at}
 use Rattle.rights.proofs.ListLaws.{byCase}
-use Rattle.rights.proofs.OwnNames.{own-name}
+use Rattle.rights.proofs.OwnNames.{names-fixed}
 use Rattle.rights.proofs.PassLaws.{map-at}
-use Rattle.rights.proofs.PolicyBytesLaws.{names-length}
 use Rattle.rights.proofs.RightsLaws.{rights-are}
 use Rattle.rights.proofs.TableLaws.{both, record-levels, table-records}
 use Rattle.rights.proofs.XPathLaws.{path-selects}
@@ -250,26 +248,23 @@ module _ (t : List ℕ) (ok : tableOk t ≡ true) where
       → reaches (pathFor P u r) (getD (chains [] (records t)) i []) ≡ stepsSelected (r .path) (passesOwn P u) (storedNodes t) i
   reaches-xpath P u r i h = rw (chain-is i h) (stored-selected (passesOwn P u) (r .path) i h)
 
-  -- "A rule applies to a subject that is its N, and to the nodes its path selects in the stored tree (for `$`, with that subject's name)."
-  pub applies-xpath : (P : Policy) (u : ℕ) → u < length (P .names) → (r : Rule) (i : ℕ) → i < count t
-      → applies P u (getD (chains [] (records t)) i []) r ≡ is P u (r .who) && stepsSelected (r .path) (λ x. sameLabel x (nameOf P u)) (storedNodes t) i
-  applies-xpath P u d r i h =
+  -- "A rule applies to a subject that is its N, and to the nodes its path selects in the stored tree", for `$` with the names of all that the subject is
+  pub applies-xpath : (P : Policy) (u : ℕ) (mine : List ℕ → Bool) → NamesOf P u mine → (r : Rule) (i : ℕ) → i < count t
+      → applies P u (getD (chains [] (records t)) i []) r ≡ is P u (r .who) && stepsSelected (r .path) mine (storedNodes t) i
+  applies-xpath P u mine names r i h =
       ap (λ (b : Bool). is P u (r .who) && b)
-      (reaches-xpath P u r i h ∙ ap (λ (mine : List ℕ → Bool). stepsSelected (r .path) mine (storedNodes t) i) (fun-ext (λ x. own-name P u x d)))
+      (reaches-xpath P u r i h ∙ ap (λ (own : List ℕ → Bool). stepsSelected (r .path) own (storedNodes t) i) (names-fixed P u mine names))
 
   -- "The last applicable rule for a right wins; with none, no right": every right of every subject on every node of the stored tree
-  pub rights-xpath : (p : List ℕ) → policyOk p ≡ true → (u : ℕ) → u < subjectCount p → (w : Right) (i : ℕ) → i < count t
+  pub rights-xpath : (p : List ℕ) → policyOk p ≡ true → (u : ℕ) (mine : List ℕ → Bool) → NamesOf (policyOf p) u mine → (w : Right) (i : ℕ) → i < count t
       → holds w (getD (rightsOn (policyOf p) u (records t)) i 0)
-      ≡ lastSays
-      (λ r. eqb (r .right) (bitOf w)
-      && (is (policyOf p) u (r .who) && stepsSelected (r .path) (λ x. sameLabel x (nameOf (policyOf p) u)) (storedNodes t) i))
-      false (policyOf p .rules)
+      ≡ lastSays (λ r. eqb (r .right) (bitOf w) && (is (policyOf p) u (r .who) && stepsSelected (r .path) mine (storedNodes t) i)) false (policyOf p .rules)
   unfolding hasRight chainTo
-  rights-xpath p sound u d w i h =
+  rights-xpath p sound u mine names w i h =
       ap (holds w) (map-at (rightsBy (policyOf p) u) (chains [] (records t)) i [] 0 (omega (arith, h, chains-length [] (records t), records-length t (count t) 0)))
       ∙ rights-are p sound u w (getD (chains [] (records t)) i [])
       ∙ ap (λ (f : Rule → Bool). lastSays f false (policyOf p .rules))
-      (fun-ext (λ r. ap (λ (b : Bool). eqb (r .right) (bitOf w) && b) (applies-xpath (policyOf p) u (omega (arith, d, names-length p)) r i h)))
+      (fun-ext (λ r. ap (λ (b : Bool). eqb (r .right) (bitOf w) && b) (applies-xpath (policyOf p) u mine names r i h)))
 
 -- a rule of a policy that passed its check has a step, so `stepsSelected` asks XPath for every one
 pub rule-has-path : (p : List ℕ) → policyOk p ≡ true → (k : ℕ) → k < ruleCount p → (w : Axis × Test) × (ws : List (Axis × Test)) × (storedPath p k ≡ w ∷ ws)

@@ -17,6 +17,7 @@ use Rattle.rights.proofs.TextLaws.{first-at}
 use Rattle.rights.proofs.StateMaskLaws.{bit-test, moved-mask}
 use Rattle.rights.proofs.ChainLaws.{states-more}
 use Rattle.rights.proofs.BitLaws.{get-meet, bitAt-and, bitAt-or, bitAt-value}
+use Rattle.rights.proofs.PackedLaws.{packed-row}
 
 -- the masks of the levels are those of the chain, level by level, from the states s on
 abbrev pub Levels : List Step → List Bool → List ℕ → List (List ℕ) → Type 0
@@ -62,11 +63,11 @@ levels-start ss s m t e zero h = e
 levels-start ss s m t e (suc l) h = absurd (not-suc-le-zero h)
 
 -- the states after a node whose label has this row
-pub next-mask : (number : List ℕ → ℕ) (ss : List Step) (st : List Bool) (deep every row m : ℕ) (rows x : List ℕ) → Packed number ss deep every rows → length ss ≤ 63
-    → row ≡ getD rows (number x) 0 → m ≡ value st → bitOr (bitAnd m deep) (bitAnd m (bitOr every row) * 2 ^ 1 % 2 ^ 64) ≡ value (moved ss st x)
-next-mask number ss st deep every row m rows x k few er em =
+pub next-mask : (number : List ℕ → ℕ) (mine : List ℕ → Bool) (ss : List Step) (st : List Bool) (deep every row m : ℕ) (rows x : List ℕ)
+    → Packed number mine ss deep every 0 rows → length ss ≤ 63 → row ≡ getD rows (number x) 0 → m ≡ value st → bitOr (bitAnd m deep) (bitAnd m (bitOr every row) * 2 ^ 1 % 2 ^ 64) ≡ value (moved ss st x)
+next-mask number mine ss st deep every row m rows x k few er em =
     moved-mask ss st x m deep (bitAnd m (bitOr every row)) few em (bitAt-value deep (deeps ss) (k .deep-bits))
     (bitAt-value (bitAnd m (bitOr every row)) (meet st (passedBy ss x))
     (λ j. bitAt-and m (bitOr every row) j
-    ∙ ap₂ _&&_ (ap (λ (n : ℕ). bitAt n j) em ∙ bit-test st j) (bitAt-or every row j ∙ ap (λ (n : ℕ). bitAt every j || bitAt n j) er ∙ sym (k .row x j))
+    ∙ ap₂ _&&_ (ap (λ (n : ℕ). bitAt n j) em ∙ bit-test st j) (bitAt-or every row j ∙ ap (λ (n : ℕ). bitAt every j || bitAt n j) er ∙ sym (packed-row k x j))
     ∙ sym (get-meet st (passedBy ss x) j)))

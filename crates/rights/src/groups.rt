@@ -1,5 +1,6 @@
 // The rules of one right for all nodes at once: the automata of as many rules as fit stand side by side in one number, one bit a state, so that a
-// node moves all of them by a few operations. Which steps its label passes stands in the row of the label's number.
+// node moves all of them by a few operations. Which steps its label passes stands in the row of the label's number; the rows of the names for which
+// `$` stands get the bits of a group's `$` all at once.
 use crate::bytes::wide;
 use crate::limits::COUNT_BYTES;
 use crate::limits::LABEL_AT;
@@ -24,13 +25,13 @@ ghost use Rattle.rights.specs.Path.{isDescendant};
 ghost use Rattle.rights.specs.Labels.{sameLabel};
 ghost use Rattle.rights.specs.How.Roles.{nameAmong};
 ghost use Rattle.rights.specs.Table.{recAt, label};
-ghost use Rattle.rights.specs.PolicyBytes.{ruleCount, stepCount, stepOf, accepts, axisOf};
+ghost use Rattle.rights.specs.PolicyBytes.{ruleCount, stepCount, stepsAt, stepOf, accepts, axisOf};
 ghost use Rattle.rights.specs.How.Places.{Text};
 ghost use Rattle.rights.specs.PolicyCheck.{bitOk};
 ghost use Rattle.rights.specs.Rights.{Step, stepFor, ruledSet};
-ghost use Rattle.rights.specs.How.Automaton.{value, moved, stepsFor, rulePath, chainOf, Each, Steps, Sound};
+ghost use Rattle.rights.specs.How.Automaton.{value, moved, stepsFor, chainOf, Each, Steps, Sound};
 ghost use Rattle.rights.specs.How.Vocabulary.{listedNumber, Words};
-ghost use Rattle.rights.specs.How.Groups.{counts, rulingAt, laid, ruled, byRight, byFive, settled, Packed, Grouped, Ready, Numbered, Noted, Known, General};
+ghost use Rattle.rights.specs.How.Groups.{counts, rulingAt, laid, ruled, byRight, byFive, settled, Packed, Grouped, Ready, Listed, Numbered, Noted, Known, General};
 
 // The bit at a place.
 fn one_at(j: usize) -> u64
@@ -70,41 +71,44 @@ fn is_deep(policy: &[u8], step: usize) -> bool
     true
 }
 
-// Sets bit j in the row of the label of the record at byte `at`.
-fn note_label(policy: &[u8], words: &[u32], n: usize, at: usize, j: usize, rows: &mut [u64])
+// Sets these bits in the row of the label of the record at byte `at`.
+fn note_label(policy: &[u8], words: &[u32], n: usize, at: usize, bits: u64, rows: &mut [u64])
     requires { ⌜ Words (now policy) (now words) n × Text (now policy) at ×
-        (0 < listedNumber (now policy) (now words) n (label (recAt (now policy) at))) × (j ≤ 63) × (length (now rows) ≡ 2113) ⌝ }
-    ensures { λ _. ⌜ Noted (listedNumber (now (policy .entry)) (now (words .entry)) n) (now (rows .entry)) (now (rows .exit)) j
+        (0 < listedNumber (now policy) (now words) n (label (recAt (now policy) at))) × (length (now rows) ≡ 2113) ⌝ }
+    ensures { λ _. ⌜ Noted (listedNumber (now (policy .entry)) (now (words .entry)) n) (now (rows .entry)) (now (rows .exit)) bits
         (λ (x : List ℕ). sameLabel x (label (recAt (now (policy .entry)) at))) ⌝ }
 {
     let h = number_of(policy, words, n, policy, at);
-    rows[h] = rows[h] | one_at(j);
+    rows[h] = rows[h] | bits;
 }
 
-// Sets bit j in the rows of the names of these subjects.
-fn note_names(policy: &[u8], own: &[u8], words: &[u32], n: usize, j: usize, rows: &mut [u64])
-    requires { ⌜ Ready (now policy) (now own) (now words) n × (j ≤ 63) × (length (now rows) ≡ 2113) ⌝ }
-    ensures { λ _. ⌜ Noted (listedNumber (now (policy .entry)) (now (words .entry)) n) (now (rows .entry)) (now (rows .exit)) j
+// Sets these bits in the rows of the names of these subjects, and looks no name up where there are no bits.
+fn note_names(policy: &[u8], own: &[u8], words: &[u32], n: usize, bits: u64, rows: &mut [u64])
+    requires { ⌜ Ready (now policy) (now own) (now words) n × (length (now rows) ≡ 2113) ⌝ }
+    ensures { λ _. ⌜ Noted (listedNumber (now (policy .entry)) (now (words .entry)) n) (now (rows .entry)) (now (rows .exit)) bits
         (nameAmong (now (policy .entry)) (now (own .entry))) ⌝ }
 {
+    if bits == 0 {
+        return;
+    }
     let mut i = 0;
     while i < own.len() {
         let u = wide(own[i]);
-        note_label(policy, words, n, SUBJECTS_AT + u * RECORD_BYTES, j, rows);
+        note_label(policy, words, n, SUBJECTS_AT + u * RECORD_BYTES, bits, rows);
         i += 1;
     }
 }
 
-// Steps in numbers: those that go to all descendants, and those that all labels pass.
+// Steps in numbers: those that go to all descendants, those that all labels pass, and those that are `$`.
 struct Marks {
     deep: u64,
     every: u64,
+    own: u64,
 }
 
 // The marks with the step at byte `step` as that of bit j.
 fn with_step(
     policy: &[u8],
-    own: &[u8],
     words: &[u32],
     n: usize,
     step: usize,
@@ -112,12 +116,13 @@ fn with_step(
     m: Marks,
     rows: &mut [u64],
 ) -> Marks
-    requires { ⌜ Ready (now policy) (now own) (now words) n × Text (now policy) step × Known (now policy) (now words) n step × (j ≤ 63)
+    requires { ⌜ Words (now policy) (now words) n × Text (now policy) step × Known (now policy) (now words) n step × (j ≤ 63)
         × (length (now rows) ≡ 2113) ⌝ }
-    ensures { λ r. ⌜ ((ss : List Step) → length ss ≡ j → Packed (listedNumber (now (policy .entry)) (now (words .entry)) n) ss (m .deep) (m .every)
-        (now (rows .entry)) → Packed (listedNumber (now (policy .entry)) (now (words .entry)) n)
-        (ss ++ (stepFor (nameAmong (now (policy .entry)) (now (own .entry))) (stepOf (recAt (now (policy .entry)) step)) ∷ [])) (r .deep) (r .every)
-        (now (rows .exit))) × (length (now (rows .exit)) ≡ 2113) ⌝ }
+    ensures { λ r. ⌜ ((mine : List ℕ → Bool) (ss : List Step) → length ss ≡ j
+        → Packed (listedNumber (now (policy .entry)) (now (words .entry)) n) mine ss (m .deep) (m .every) (m .own) (now (rows .entry))
+        → Packed (listedNumber (now (policy .entry)) (now (words .entry)) n) mine
+        (ss ++ (stepFor mine (stepOf (recAt (now (policy .entry)) step)) ∷ [])) (r .deep) (r .every) (r .own) (now (rows .exit)))
+        × (length (now (rows .exit)) ≡ 2113) ⌝ }
 {
     let deep = mark_if(is_deep(policy, step), m.deep, j);
     let first = policy[step + LABEL_AT];
@@ -125,26 +130,27 @@ fn with_step(
         return Marks {
             deep,
             every: m.every | one_at(j),
+            own: m.own,
         };
     }
     if first == b'$' {
-        note_names(policy, own, words, n, j, rows);
         return Marks {
             deep,
             every: m.every,
+            own: m.own | one_at(j),
         };
     }
-    note_label(policy, words, n, step, j, rows);
+    note_label(policy, words, n, step, one_at(j), rows);
     Marks {
         deep,
         every: m.every,
+        own: m.own,
     }
 }
 
 // The marks with the count steps at byte b, from bit `used` on.
 fn with_path(
     policy: &[u8],
-    own: &[u8],
     words: &[u32],
     n: usize,
     b: usize,
@@ -153,26 +159,17 @@ fn with_path(
     before: Marks,
     rows: &mut [u64],
 ) -> Marks
-    requires { ⌜ Ready (now policy) (now own) (now words) n × Steps (now policy) b count
+    requires { ⌜ Words (now policy) (now words) n × Steps (now policy) b count
         × ((j : ℕ) → j < count → Known (now policy) (now words) n (b + j * 32)) × (used + count ≤ 62) × (length (now rows) ≡ 2113) ⌝ }
-    ensures { λ r. ⌜ ((ss : List Step) → length ss ≡ used → Packed (listedNumber (now (policy .entry)) (now (words .entry)) n) ss (before .deep)
-        (before .every) (now (rows .entry)) → Packed (listedNumber (now (policy .entry)) (now (words .entry)) n)
-        (ss ++ stepsFor (nameAmong (now (policy .entry)) (now (own .entry))) (now (policy .entry)) b count 0) (r .deep) (r .every) (now (rows .exit)))
-        × (length (now (rows .exit)) ≡ 2113) ⌝ }
+    ensures { λ r. ⌜ ((mine : List ℕ → Bool) (ss : List Step) → length ss ≡ used
+        → Packed (listedNumber (now (policy .entry)) (now (words .entry)) n) mine ss (before .deep) (before .every) (before .own) (now (rows .entry))
+        → Packed (listedNumber (now (policy .entry)) (now (words .entry)) n) mine (ss ++ stepsFor mine (now (policy .entry)) b count 0) (r .deep)
+        (r .every) (r .own) (now (rows .exit))) × (length (now (rows .exit)) ≡ 2113) ⌝ }
 {
     let mut m = before;
     let mut j = 0;
     while j < count {
-        m = with_step(
-            policy,
-            own,
-            words,
-            n,
-            b + j * RECORD_BYTES,
-            used + j,
-            m,
-            rows,
-        );
+        m = with_step(policy, words, n, b + j * RECORD_BYTES, used + j, m, rows);
         j += 1;
     }
     m
@@ -225,6 +222,7 @@ fn group_end(policy: &[u8], roles: &[u8; 64], right: u8, from: usize, count: usi
 struct Group {
     deep: u64,
     every: u64,
+    own: u64,
     start: u64,
     yes: u64,
     noes: u64,
@@ -232,20 +230,14 @@ struct Group {
 }
 
 // The group with rule k.
-fn with_rule(
-    policy: &[u8],
-    own: &[u8],
-    words: &[u32],
-    n: usize,
-    k: usize,
-    g: Group,
-    rows: &mut [u64],
-) -> Group
-    requires { ⌜ Ready (now policy) (now own) (now words) n × (k < ruleCount (now policy)) × (g .used + stepCount (now policy) k ≤ 62)
+fn with_rule(policy: &[u8], words: &[u32], n: usize, k: usize, g: Group, rows: &mut [u64]) -> Group
+    requires { ⌜ Listed (now policy) (now words) n × (k < ruleCount (now policy)) × (g .used + stepCount (now policy) k ≤ 62)
         × (length (now rows) ≡ 2113) ⌝ }
-    ensures { λ r. ⌜ ((ss : List Step) → length ss ≡ g .used → Packed (listedNumber (now (policy .entry)) (now (words .entry)) n) ss (g .deep)
-        (g .every) (now (rows .entry)) → Packed (listedNumber (now (policy .entry)) (now (words .entry)) n)
-        (ss ++ rulePath (now (policy .entry)) (now (own .entry)) k) (r .deep) (r .every) (now (rows .exit)))
+    ensures { λ r. ⌜ ((mine : List ℕ → Bool) (ss : List Step) → length ss ≡ g .used
+        → Packed (listedNumber (now (policy .entry)) (now (words .entry)) n) mine ss (g .deep) (g .every) (g .own) (now (rows .entry))
+        → Packed (listedNumber (now (policy .entry)) (now (words .entry)) n) mine
+        (ss ++ stepsFor mine (now (policy .entry)) (stepsAt k) (stepCount (now (policy .entry)) k) 0) (r .deep) (r .every) (r .own)
+        (now (rows .exit)))
         × (r .start ≡ bitOr (g .start) (2 ^ g .used)) × (r .yes ≡ cond (accepts (now (policy .entry)) k)
         (bitOr (g .yes) (2 ^ (g .used + stepCount (now (policy .entry)) k))) (g .yes))
         × (r .noes ≡ cond (not (accepts (now (policy .entry)) k)) (bitOr (g .noes) (2 ^ (g .used + stepCount (now (policy .entry)) k))) (g .noes))
@@ -257,18 +249,9 @@ fn with_rule(
     let before = Marks {
         deep: g.deep,
         every: g.every,
+        own: g.own,
     };
-    let m = with_path(
-        policy,
-        own,
-        words,
-        n,
-        a + STEPS_AT,
-        count,
-        used,
-        before,
-        rows,
-    );
+    let m = with_path(policy, words, n, a + STEPS_AT, count, used, before, rows);
     let last = used + count;
     let yes = mark_if(policy[a] != 0, g.yes, last);
     let noes = mark_if(policy[a] == 0, g.noes, last);
@@ -276,6 +259,7 @@ fn with_rule(
     Group {
         deep: m.deep,
         every: m.every,
+        own: m.own,
         start,
         yes,
         noes,
@@ -286,7 +270,6 @@ fn with_rule(
 // The group with rule k, if it counts.
 fn with_ruling(
     policy: &[u8],
-    own: &[u8],
     words: &[u32],
     n: usize,
     roles: &[u8; 64],
@@ -295,21 +278,23 @@ fn with_ruling(
     g: Group,
     rows: &mut [u64],
 ) -> Group
-    requires { ⌜ Ready (now policy) (now own) (now words) n × (k < ruleCount (now policy)) × (bitOk right ≡ true)
+    requires { ⌜ Listed (now policy) (now words) n × (k < ruleCount (now policy)) × (bitOk right ≡ true)
         × (g .used + cond (counts (now policy) (now roles) right k) (suc (stepCount (now policy) k)) 0 ≤ 63) × (length (now rows) ≡ 2113) ⌝ }
-    ensures { λ r. ⌜ ((i size : ℕ) → i + size ≡ k → Grouped (listedNumber (now (policy .entry)) (now (words .entry)) n)
-        (rulingAt (now (policy .entry)) (now (own .entry)) (now (roles .entry)) right) right i size (g .deep) (g .every) (g .start) (g .yes) (g .noes)
-        (g .used) (now (rows .entry)) → Grouped (listedNumber (now (policy .entry)) (now (words .entry)) n)
-        (rulingAt (now (policy .entry)) (now (own .entry)) (now (roles .entry)) right) right i (suc size) (r .deep) (r .every) (r .start) (r .yes)
+    ensures { λ r. ⌜ ((own : List ℕ) (i size : ℕ) → i + size ≡ k
+        → Grouped (listedNumber (now (policy .entry)) (now (words .entry)) n) (nameAmong (now (policy .entry)) own)
+        (rulingAt (now (policy .entry)) own (now (roles .entry)) right) right i size (g .deep) (g .every) (g .own) (g .start) (g .yes) (g .noes)
+        (g .used) (now (rows .entry))
+        → Grouped (listedNumber (now (policy .entry)) (now (words .entry)) n) (nameAmong (now (policy .entry)) own)
+        (rulingAt (now (policy .entry)) own (now (roles .entry)) right) right i (suc size) (r .deep) (r .every) (r .own) (r .start) (r .yes)
         (r .noes) (r .used) (now (rows .exit))) × (length (now (rows .exit)) ≡ 2113) ⌝ }
 {
     if counts(policy, roles, right, k) {
-        return with_rule(policy, own, words, n, k, g, rows);
+        return with_rule(policy, words, n, k, g, rows);
     }
     g
 }
 
-// The rules from `from` to `to` in numbers, with rows that are zero before.
+// The rules from `from` to `to` in numbers, with rows that are zero before; those of the own names get the bits of `$` at the end.
 fn make_group(
     policy: &[u8],
     own: &[u8],
@@ -323,13 +308,14 @@ fn make_group(
 ) -> Group
     requires { ⌜ Ready (now policy) (now own) (now words) n × (from ≤ to) × (to ≤ ruleCount (now policy)) × (bitOk right ≡ true)
         × (length (laid (rulingAt (now policy) (now own) (now roles) right) from (to - from)) ≤ 63) × (now rows ≡ replicate 2113 0) ⌝ }
-    ensures { λ r. ⌜ Grouped (listedNumber (now (policy .entry)) (now (words .entry)) n)
-        (rulingAt (now (policy .entry)) (now (own .entry)) (now (roles .entry)) right) right from (to - from) (r .deep) (r .every) (r .start) (r .yes)
-        (r .noes) (r .used) (now (rows .exit)) ⌝ }
+    ensures { λ r. ⌜ Grouped (listedNumber (now (policy .entry)) (now (words .entry)) n) (nameAmong (now (policy .entry)) (now (own .entry)))
+        (rulingAt (now (policy .entry)) (now (own .entry)) (now (roles .entry)) right) right from (to - from) (r .deep) (r .every) 0 (r .start)
+        (r .yes) (r .noes) (r .used) (now (rows .exit)) ⌝ }
 {
     let mut g = Group {
         deep: 0,
         every: 0,
+        own: 0,
         start: 0,
         yes: 0,
         noes: 0,
@@ -337,16 +323,17 @@ fn make_group(
     };
     let mut k = from;
     while k < to {
-        g = with_ruling(policy, own, words, n, roles, right, k, g, rows);
+        g = with_ruling(policy, words, n, roles, right, k, g, rows);
         k += 1;
     }
+    note_names(policy, own, words, n, g.own, rows);
     g
 }
 
 // The states after a node, where m are those of its parent and `row` the steps that its label passes beside those that all labels pass.
 fn next_states(deep: u64, every: u64, row: u64, m: u64) -> u64
-    ensures { λ r. ⌜ ((number : List ℕ → ℕ) (ss : List Step) (st : List Bool) (rows x : List ℕ) → Packed number ss deep every rows → length ss ≤ 63
-        → row ≡ getD rows (number x) 0 → m ≡ value st → r ≡ value (moved ss st x)) ⌝ }
+    ensures { λ r. ⌜ ((number : List ℕ → ℕ) (mine : List ℕ → Bool) (ss : List Step) (st : List Bool) (rows x : List ℕ)
+        → Packed number mine ss deep every 0 rows → length ss ≤ 63 → row ≡ getD rows (number x) 0 → m ≡ value st → r ≡ value (moved ss st x)) ⌝ }
 {
     (m & deep) | ((m & (every | row)) << 1)
 }

@@ -62,7 +62,7 @@ fn stands_for(roles: &[u8; 64], u: usize, k: usize) -> bool
     requires { ⌜ k < 64 ⌝ }
     ensures { λ r. ⌜ ((p : List ℕ) → Roles p u (now (roles .entry)) → r ≡ standsFor (policyOf p) u k) ⌝ }
 {
-    u == k
+    roles[k] != 0
 }
 
 // Puts subject k behind the first m subjects, if it is to be one of them; how many they are now.

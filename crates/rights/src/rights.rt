@@ -6,12 +6,13 @@ use crate::limits::ALL_RIGHTS;
 use crate::limits::RECORDS_MAX;
 use crate::limits::SUBJECTS_MAX;
 use crate::limits::WORDS_MAX;
+use crate::policy::rules_use_own;
 use crate::table::count_of;
 use crate::vocabulary::number_nodes;
 use crate::vocabulary::sort_words;
 ghost use mathlib.Core.Path.{_≡_};
 ghost use mathlib.Core.List.{_++_};
-ghost use mathlib.Core.Bool.{true};
+ghost use mathlib.Core.Bool.{true, cond};
 ghost use Prim.Native.Nat.{ℕ, _≤_, _<_};
 ghost use lib.ListN.{length, drop};
 ghost use Rattle.rights.specs.Table.{records, count, tableOk};
@@ -21,7 +22,8 @@ ghost use Rattle.rights.specs.PolicyBytes.{policyOf, subjectCount};
 ghost use Rattle.rights.specs.Rights.{rightsOn, holds};
 ghost use Rattle.rights.specs.How.Groups.{askedOn};
 ghost use Rattle.rights.specs.How.Roles.{Roles, Own};
-ghost use Rattle.rights.specs.How.Automaton.{Each};
+ghost use Rattle.rights.specs.How.Automaton.{Each, Sound};
+ghost use Rattle.rights.specs.How.Vocabulary.{usesOwn};
 
 // Sets the first n bytes of out to 0: no rights.
 fn clear_rights(out: &mut [u8], n: usize)
@@ -33,6 +35,17 @@ fn clear_rights(out: &mut [u8], n: usize)
         out[i] = 0;
         i += 1;
     }
+}
+
+// How many of these subjects have names that decide rights: all where a rule uses `$`, and none elsewhere.
+fn names_used(policy: &[u8], own: &[u8]) -> usize
+    requires { ⌜ Sound (now policy) ⌝ }
+    ensures { λ r. ⌜ r ≡ cond (usesOwn (now (policy .entry))) (length (now (own .entry))) 0 ⌝ }
+{
+    if rules_use_own(policy) {
+        return own.len();
+    }
+    0
 }
 
 // Writes the asked ones of the rights that subject u has on each node of a table: one byte a node, one bit a right. `roles` is what u is, and `own` are the
@@ -52,15 +65,17 @@ pub fn asked_on(
         (count (now (table .entry))) (now (out .entry)) ⌝ }
 {
     let n = count_of(table);
+    let m = names_used(policy, own);
+    let used = &own[0..m];
     let mut words = [0u32; WORDS_MAX];
-    let count = sort_words(policy, own, &mut words);
+    let count = sort_words(policy, used, &mut words);
     let mut numbers = [0u16; RECORDS_MAX];
     number_nodes(policy, &words, count, table, n, &mut numbers);
     clear_rights(out, n);
     try_rights(
         asked,
         policy,
-        own,
+        used,
         &words,
         count,
         roles,

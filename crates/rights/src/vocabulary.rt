@@ -177,7 +177,7 @@ pub(crate) fn add_rules(policy: &[u8], words: &mut [u32], n: usize) -> usize
 }
 
 // Adds the names of these subjects.
-fn add_own(policy: &[u8], own: &[u8], words: &mut [u32], n: usize) -> usize
+pub(crate) fn add_own(policy: &[u8], own: &[u8], words: &mut [u32], n: usize) -> usize
     requires { ⌜ Sound (now policy) × Subjects (now policy) (now own) × Words (now policy) (now words) n × (n + 64 ≤ 2112) ⌝ }
     ensures { λ r. ⌜ Added (now (policy .entry)) (now (words .entry)) n (now (words .exit)) r (nameAmong (now (policy .entry)) (now (own .entry)))
         × (r ≤ n + 64) ⌝ }

@@ -84,13 +84,17 @@ pub fn path_text(path: &[Step]) -> String {
     let mut text = String::new();
     for step in path {
         text.push_str(if step.descendants { "//" } else { "/" });
-        match &step.test {
-            Test::Any => text.push('*'),
-            Test::Own => text.push('$'),
-            Test::Label(label) => text.push_str(&text_of(label)),
-        }
+        text.push_str(&test_text(&step.test));
     }
     text
+}
+
+fn test_text(test: &Test) -> String {
+    match test {
+        Test::Any => "*".to_string(),
+        Test::Own => "$".to_string(),
+        Test::Label(label) => text_of(label),
+    }
 }
 
 /// The lines that make a policy.
@@ -198,7 +202,7 @@ pub fn tree_text(tree: &Tree) -> String {
 
 // --- Command paths ---
 
-fn test_text(random: &mut Random) -> String {
+fn any_test(random: &mut Random) -> String {
     match random.below(10) {
         0..=2 => "*".to_string(),
         3 => "$".to_string(),
@@ -212,7 +216,7 @@ fn bracket(random: &mut Random, depth: usize) -> String {
     if random.percent(45) {
         return format!("[{}]", random.within(1, 3));
     }
-    let mut text = format!("[{}", test_text(random));
+    let mut text = format!("[{}", any_test(random));
     loop {
         if depth > 1 && random.percent(25) {
             text.push_str(&bracket(random, depth - 1));
@@ -221,7 +225,7 @@ fn bracket(random: &mut Random, depth: usize) -> String {
             break;
         }
         text.push_str(if random.percent(50) { "/" } else { "//" });
-        text.push_str(&test_text(random));
+        text.push_str(&any_test(random));
     }
     text + "]"
 }
@@ -231,7 +235,7 @@ pub fn any_path(random: &mut Random) -> String {
     let mut text = String::new();
     for number in 0..random.within(1, 3) {
         text.push_str(if random.percent(if number == 0 { 80 } else { 40 }) { "//" } else { "/" });
-        text.push_str(&test_text(random));
+        text.push_str(&any_test(random));
         for _ in 0..random.below(8).saturating_sub(5) {
             text.push_str(&bracket(random, 3));
         }
@@ -239,8 +243,8 @@ pub fn any_path(random: &mut Random) -> String {
     text
 }
 
-/// A path that leads to a node of a view, and perhaps to others.
-pub fn path_to(random: &mut Random, view: &[Node], node: usize) -> String {
+/// A path that leads to a node of a view, and perhaps to others; now and then by `$`, where the node has one of the reader's own names.
+pub fn path_to(random: &mut Random, view: &[Node], own: &[Label], node: usize) -> String {
     let mut chain = vec![node];
     while let Some(parent) = view[chain[chain.len() - 1]].parent {
         chain.push(parent);
@@ -253,12 +257,22 @@ pub fn path_to(random: &mut Random, view: &[Node], node: usize) -> String {
             skipped = true;
             continue;
         }
-        let any = random.percent(if skipped { 10 } else { 30 });
+        let label = view[*number].label;
+        let test = match random.percent(if skipped { 10 } else { 30 }) {
+            true => Test::Any,
+            false if own.contains(&label) && random.percent(50) => Test::Own,
+            false => Test::Label(label),
+        };
         text.push_str(if skipped || random.percent(15) { "//" } else { "/" });
-        text.push_str(&if any { "*".to_string() } else { text_of(&view[*number].label) });
+        text.push_str(&test_text(&test));
         skipped = false;
         if random.percent(25) {
-            let before = (0..*number).filter(|other| view[*other].parent == view[*number].parent && (any || view[*other].label == view[*number].label));
+            let passes = |other: &usize| match test {
+                Test::Any => true,
+                Test::Own => own.contains(&view[*other].label),
+                Test::Label(_) => view[*other].label == label,
+            };
+            let before = (0..*number).filter(|other| view[*other].parent == view[*number].parent && passes(other));
             text.push_str(&format!("[{}]", before.count() + 1));
         }
         let children: Vec<usize> = (0..view.len()).filter(|other| view[*other].parent == Some(*number)).collect();
@@ -269,22 +283,22 @@ pub fn path_to(random: &mut Random, view: &[Node], node: usize) -> String {
     text
 }
 
-fn command_path(random: &mut Random, view: &[Node]) -> String {
+fn command_path(random: &mut Random, view: &[Node], own: &[Label]) -> String {
     if view.is_empty() || random.percent(15) {
         return any_path(random);
     }
     let node = random.below(view.len());
-    path_to(random, view, node)
+    path_to(random, view, own, node)
 }
 
 /// A path to a parent in the view, for `update`.
-fn parent_path(random: &mut Random, view: &[Node]) -> String {
+fn parent_path(random: &mut Random, view: &[Node], own: &[Label]) -> String {
     let parents: Vec<usize> = view.iter().filter_map(|node| node.parent).collect();
     if parents.is_empty() || random.percent(10) {
         return any_path(random);
     }
     let node = *random.pick(&parents);
-    path_to(random, view, node)
+    path_to(random, view, own, node)
 }
 
 // --- Lines ---
@@ -303,8 +317,8 @@ fn small_tree(random: &mut Random, room: usize) -> String {
 }
 
 /// A change at a view; `room` nodes may be added without crowding.
-pub fn change(random: &mut Random, view: &[Node], room: usize) -> String {
-    let path = command_path(random, view);
+pub fn change(random: &mut Random, view: &[Node], own: &[Label], room: usize) -> String {
+    let path = command_path(random, view, own);
     let kind = match view.len() {
         _ if room == 0 => random.pick(&[0, 1, 5, 5, 5]),
         0..=5 => random.pick(&[0, 1, 2, 2, 2, 3, 4]),
@@ -312,7 +326,7 @@ pub fn change(random: &mut Random, view: &[Node], room: usize) -> String {
     };
     match kind {
         0 => format!("(rename {path} {})", new_label(random)),
-        1 => format!("(update {} {})", parent_path(random, view), new_label(random)),
+        1 => format!("(update {} {})", parent_path(random, view, own), new_label(random)),
         2 => format!("(append {path} {})", small_tree(random, room)),
         3 => format!("(before {path} {})", small_tree(random, room)),
         4 => format!("(after {path} {})", small_tree(random, room)),
@@ -342,11 +356,11 @@ pub fn sheet_share(view: &[Node], with_lessons: usize, with_none: usize) -> usiz
     }
 }
 
-pub fn question(random: &mut Random, view: &[Node]) -> String {
+pub fn question(random: &mut Random, view: &[Node], own: &[Label]) -> String {
     match random.below(6 + sheet_share(view, 3, 1)) {
         0 => "(view)".to_string(),
-        1..=3 => format!("(query {})", command_path(random, view)),
-        4..=5 => format!("(find {})", command_path(random, view)),
+        1..=3 => format!("(query {})", command_path(random, view, own)),
+        4..=5 => format!("(find {})", command_path(random, view, own)),
         _ => format!("(sheet {})", room(random, view)),
     }
 }

@@ -124,14 +124,14 @@ pub fn disturb(random: &mut Random, text: &mut Vec<u8>, bytes: &[u8]) {
     }
 }
 
-fn command_path(random: &mut Random, seen: &[Node]) -> String {
+fn command_path(random: &mut Random, seen: &[Node], own: &[Label]) -> String {
     let text = match random.below(20) {
         0 => return random.pick(&ODD_PATHS).to_string(),
         1..=3 => generate::any_path(random),
         _ if seen.is_empty() => generate::any_path(random),
         _ => {
             let node = random.below(seen.len());
-            generate::path_to(random, seen, node)
+            generate::path_to(random, seen, own, node)
         }
     };
     if random.percent(4) {
@@ -263,7 +263,7 @@ fn declared_name(random: &mut Random, store: Option<&Store>) -> String {
 
 fn rule_line(random: &mut Random, store: Option<&Store>) -> String {
     let path = match random.below(20) {
-        0..=1 => command_path(random, &[]),
+        0..=1 => command_path(random, &[], &[]),
         2..=11 => "//*".to_string(),
         _ => path_text(&rule_path(random, 4)),
     };
@@ -274,11 +274,11 @@ fn rule_line(random: &mut Random, store: Option<&Store>) -> String {
 
 fn session_line(random: &mut Random, store: Option<&Store>) -> String {
     let Some(store) = store else {
-        return generate::question(random, &[]);
+        return generate::question(random, &[], &[]);
     };
     let Some(user) = store.state.user else {
         return match random.below(4) {
-            0 => generate::question(random, &[]),
+            0 => generate::question(random, &[], &[]),
             _ => format!("(user {})", declared_name(random, Some(store))),
         };
     };
@@ -287,17 +287,18 @@ fn session_line(random: &mut Random, store: Option<&Store>) -> String {
     if seen.is_empty() && random.percent(30) {
         return format!("(user {})", declared_name(random, Some(store)));
     }
-    let line = user_line(random, store, &seen);
+    let own = store.state.policy.own_names(user);
+    let line = user_line(random, store, &seen, &own);
     let idle = step(store, line.as_bytes(), AREA_BYTES, Reading::Right).is_ok_and(|accepted| accepted.answer.ends_with(b" 0)\n"));
     if idle {
-        user_line(random, store, &seen) // a second try to find something to do
+        user_line(random, store, &seen, &own) // a second try to find something to do
     } else {
         line
     }
 }
 
-fn user_line(random: &mut Random, store: &Store, seen: &[Node]) -> String {
-    let path = command_path(random, seen);
+fn user_line(random: &mut Random, store: &Store, seen: &[Node], own: &[Label]) -> String {
+    let path = command_path(random, seen, own);
     match random.below(24 + generate::sheet_share(seen, 8, 1)) {
         0 => format!("(user {})", declared_name(random, Some(store))),
         1..=3 => "(view)".to_string(),
@@ -442,7 +443,7 @@ fn rootless_start(random: &mut Random, kind: &'static str, records: usize) -> St
 /// Few labels, and paths of up to 12 steps over them, so that many paths fit or nearly fit, in a session of stage E that shows most nodes.
 pub fn tight_start(random: &mut Random) -> Start {
     let labels = [label("a"), label("b"), label("c")];
-    let mut policy = Policy { subjects: labels[..2].to_vec(), isa: vec![(1, 0)], rules: Vec::new() };
+    let mut policy = Policy { subjects: labels.to_vec(), isa: vec![(1, 0), (2, 1)], rules: Vec::new() };
     let all = vec![Step { descendants: true, test: Test::Any, brackets: Vec::new() }];
     policy.rules.push(Rule { accept: true, right: READ, subject: 0, path: all });
     for _ in 0..random.within(0, 12) {
@@ -458,7 +459,7 @@ pub fn tight_start(random: &mut Random) -> Start {
         nodes.push(Node { level, label, parent: None });
     }
     let mut bytes = vec![0; STATE_BYTES];
-    state::encode(&State { stage: Stage::E, user: Some(random.below(2)), policy }, &mut bytes);
+    state::encode(&State { stage: Stage::E, user: Some(random.below(3)), policy }, &mut bytes);
     let free = random.below(3);
     Start { kind: "tight", state: bytes, table: table_bytes(&nodes, free, 0) }
 }

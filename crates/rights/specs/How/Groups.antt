@@ -8,22 +8,22 @@ use lib.Bits.{bitAnd}
 use lib.Dec.{eqb, ltb}
 use lib.ListN.{length, getD, replicate}
 use Rattle.rights.specs.Limits.{recordsMax}
-use Rattle.rights.specs.PolicyBytes.{ruleCount, rightBit, whose, accepts}
+use Rattle.rights.specs.PolicyBytes.{ruleCount, stepCount, stepsAt, rightBit, whose, accepts}
 use Rattle.rights.specs.How.Roles.{Subjects}
 use Rattle.rights.specs.Policy.{Right, position, read, insert, update, delete, bitOf, Policy}
 use Rattle.rights.specs.Rights.{Step, ruledSet, tried, reaches, holds, rightsBy, chains}
 use Rattle.rights.specs.How.Automaton.{value, deeps, passedBy, rulePath, Sound}
 use Rattle.rights.specs.Table.{recAt, recordAt, recordsFrom, recordsOk, label}
-use Rattle.rights.specs.How.Vocabulary.{listedNumber, Sorted}
+use Rattle.rights.specs.How.Vocabulary.{listedNumber, Words, Sorted}
 
 -- bit j of a number
 abbrev pub bitAt : ℕ → ℕ → Bool
 bitAt m j = eqb (m / 2 ^ j % 2) 1
 
--- bit j is set in the rows of the labels that f passes; nothing else is changed
-pub record Noted (number : List ℕ → ℕ) (rows rows' : List ℕ) (j : ℕ) (f : List ℕ → Bool) : Type 0 where
+-- these bits are set in the rows of the labels that f passes; nothing else is changed
+pub record Noted (number : List ℕ → ℕ) (rows rows' : List ℕ) (bits : ℕ) (f : List ℕ → Bool) : Type 0 where
   pub long : length rows' ≡ length rows
-  pub row : (x : List ℕ) (i : ℕ) → bitAt (getD rows' (number x) 0) i ≡ bitAt (getD rows (number x) 0) i || (f x && eqb i j)
+  pub row : (x : List ℕ) (i : ℕ) → bitAt (getD rows' (number x) 0) i ≡ bitAt (getD rows (number x) 0) i || (f x && bitAt bits i)
 
 -- a rule: whether it counts, its path, and what it says
 pub record Ruling : Type 0 where
@@ -104,15 +104,16 @@ byFirst p own roles c asked (suc k) x =
 abbrev pub settled : ℕ → ℕ → ℕ → ℕ → ℕ
 settled b y n x = cond (ltb n y) (ruledSet x b true) (cond (ltb y n) (ruledSet x b false) x)
 
--- The steps ss in numbers: the deep ones, those that all labels pass, and a row for each number of a label, with the steps that such a label passes.
-pub record Packed (number : List ℕ → ℕ) (ss : List Step) (deep every : ℕ) (rows : List ℕ) : Type 0 where
+-- The steps ss in numbers: the deep ones, those that all labels pass, those that are `$` and not yet in the rows, and a row for each number of a label, with the other
+-- steps that such a label passes; mine are the labels that pass `$`.
+pub record Packed (number : List ℕ → ℕ) (mine : List ℕ → Bool) (ss : List Step) (deep every own : ℕ) (rows : List ℕ) : Type 0 where
   pub long : length rows ≡ 2113
   pub deep-bits : (j : ℕ) → bitAt deep j ≡ getD (deeps ss) j false
-  pub row : (x : List ℕ) (j : ℕ) → getD (passedBy ss x) j false ≡ bitAt every j || bitAt (getD rows (number x) 0) j
+  pub row : (x : List ℕ) (j : ℕ) → getD (passedBy ss x) j false ≡ bitAt every j || (bitAt (getD rows (number x) 0) j || (mine x && bitAt own j))
 
 -- n rules from rule i on in numbers
-pub record Grouped (number : List ℕ → ℕ) (q : ℕ → Ruling) (b i n : ℕ) (deep every start yes noes used : ℕ) (rows : List ℕ) : Type 0 where
-  pub packed : Packed number (laid q i n) deep every rows
+pub record Grouped (number : List ℕ → ℕ) (mine : List ℕ → Bool) (q : ℕ → Ruling) (b i n : ℕ) (deep every own start yes noes used : ℕ) (rows : List ℕ) : Type 0 where
+  pub packed : Packed number mine (laid q i n) deep every own rows
   pub used-is : used ≡ length (laid q i n)
   pub start-is : start ≡ value (firsts q i n)
   pub yes-low : yes < 2 ^ length (laid q i n)
@@ -123,6 +124,12 @@ pub record Grouped (number : List ℕ → ℕ) (q : ℕ → Ruling) (b i n : ℕ
 abbrev pub Known : List ℕ → List ℕ → ℕ → ℕ → Type 0
 Known p ws n at =
     (getD (label (recAt p at)) 0 0 ≡ 42 → ⊥) → (getD (label (recAt p at)) 0 0 ≡ 36 → ⊥) → 0 < listedNumber p ws n (label (recAt p at))
+
+-- what a rule asks: a sound policy, and words that have the label of each step that names one
+pub record Listed (p ws : List ℕ) (n : ℕ) : Type 0 where
+  pub sound : Sound p
+  pub words : Words p ws n
+  pub known : (r j : ℕ) → r < ruleCount p → j < stepCount p r → Known p ws n (stepsAt r + j * 32)
 
 -- what the work on a policy's groups asks: a sound policy, the subjects of it for which `$` stands, and the words
 pub record Ready (p own ws : List ℕ) (n : ℕ) : Type 0 where

@@ -1,7 +1,7 @@
 -- How a label is found among the words of a policy: the words sorted, each once, and a label's number its word's place among them. proofs/VocabularyLaws.antt shows that
 -- a label has a word's number exactly if it is that word.
 use Prim.Native.Nat.{ℕ, zero, suc, _+_, _≤_, _<_}
-use mathlib.Core.Bool.{Bool, false, cond, _||_}
+use mathlib.Core.Bool.{Bool, true, false, cond, _||_}
 use mathlib.Core.Path.{_≡_}
 use mathlib.Core.List.{List, [], _∷_}
 use lib.Dec.{ltb}
@@ -70,6 +70,10 @@ pub record Added (p ws : List ℕ) (n : ℕ) (ws' : List ℕ) (n' : ℕ) (f : Li
 -- the label is named by some rule's path
 abbrev pub named : List ℕ → List ℕ → Bool
 named p x = some (λ (r : Rule). some (uses false x) (r .path)) (rulesFrom p (ruleCount p) 0)
+
+-- a rule uses `$`
+abbrev pub usesOwn : List ℕ → Bool
+usesOwn p = some (λ (r : Rule). some (uses true []) (r .path)) (rulesFrom p (ruleCount p) 0)
 
 -- The words for a subject's rights: the names of the subjects for which `$` stands, and the labels that the rules name.
 pub record Sorted (p own ws : List ℕ) (n : ℕ) : Type 0 where

@@ -35,6 +35,7 @@ select-requires c κs =
     let at-if1 = at-check-path .before in let at-may-select = at-if1 .before in let start = at-may-select .before .before .before .before .before .before in
     let e = sym (at-may-select .may-select .ensures) ∙ at-if1 .if1 .taken in
     let g = nodes-gives _ _ _ _ _ e in (
+      asks-subject _ _ _ (g .0) .policy,
       own-sound (own-part (at-own-subjects .own-subjects .ensures .0)) (policy-sound _ (asks-subject _ _ _ (g .0) .policy)),
       nodes-fit _ _ _ _ _ e,
       is-path (pathOf (start .args .path .now)) _ (sym (at-check-path .check-path .ensures) ∙ at-enum-told .enum-told .given .1),

@@ -38,7 +38,8 @@ select-requires c κs =
     let a = start .args in
     let r = at-show-user .show-user .ensures in
     let f = shown-fits (a .state .now) (a .table .now) (g .0) _ _ _ (r .1) (r .2) in
-    (own-asks (a .state .now) (a .table .now) (g .0) _ _ (r .0), f, path-read (pathOf (a .path .now)) (g .1 .0), omega (arith, f .few, g .5))
+    let own = own-asks (a .state .now) (a .table .now) (g .0) _ _ (r .0) in
+    (own .0, own .1, f, path-read (pathOf (a .path .now)) (g .1 .0), omega (arith, f .few, g .5))
 
 returns : tie.Need-returns
 returns c =

@@ -5,7 +5,7 @@ use Rattle.rights.proofs.groups.next_states.Tie as tie
 returns : tie.Need-returns
 returns c =
     let a = c .args in
-    λ number ss st rows x k few er em. next-mask number ss st (a .deep) (a .every) (a .row) (a .m) rows x k few er em
+    λ number mine ss st rows x k few er em. next-mask number mine ss st (a .deep) (a .every) (a .row) (a .m) rows x k few er em
 
 pub next-states-spec : {M : Type 1} → statement M
 next-states-spec = tie.close (tie.spec returns)

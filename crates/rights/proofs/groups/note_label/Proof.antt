@@ -15,19 +15,18 @@ mul-rows c = omega (arith, c .number-of .ensures .1, to-start c .pre .0 .few)
 slice-read-rows : tie.Need-slice-read-rows
 slice-read-rows c =
     let at-number-of = c .before in let start = to-start at-number-of in
-    omega (arith, at-number-of .number-of .ensures .1, start .pre .0 .few, start .pre .4)
+    omega (arith, at-number-of .number-of .ensures .1, start .pre .0 .few, start .pre .3)
 
 returns : tie.Need-returns
 returns c =
-    let at-number-of = c .before .before in let start = to-start at-number-of in
+    let at-number-of = c .before in let start = to-start at-number-of in
     let a = start .args in
     let g = start .pre in
-    let h = at-number-of .number-of .result in
-    rw (c .one-at .ensures)
-    (noted-label (a .policy .now) (a .words .now) (a .n) (label (recAt (a .policy .now) (a .at))) (a .rows .now) h (a .j)
-    (omega (arith, at-number-of .number-of .ensures .1, g .0 .few, g .4)) (at-number-of .number-of .ensures .0) (g .2))
+    let r = at-number-of .number-of in
+    noted-label (a .policy .now) (a .words .now) (a .n) (label (recAt (a .policy .now) (a .at))) (a .rows .now) (r .result) (a .bits)
+    (omega (arith, r .ensures .1, g .0 .few, g .3)) (r .ensures .0) (g .2)
 
 pub note-label-spec : {M : Type 1} → statement M
 note-label-spec =
     tie.close
-    (tie.spec (λ c κs. search needs) mul-rows slice-read-rows (λ c κs. search needs) (λ c. search needs) (λ c. search needs) (λ c. search needs) returns)
+    (tie.spec (λ c κs. search needs) mul-rows slice-read-rows (λ c. search needs) (λ c. search needs) (λ c. search needs) returns)

@@ -4,6 +4,7 @@ use mathlib.Core.Path.{_≡_, refl, sym, _∙_}
 use native.Mathlib.Numerals.{add-one}
 use native.Mathlib.Omega.{arith}
 use lib.ListN.{length, drop, getD, length-set}
+use Rattle.rights.specs.How.Roles.{nameAmong}
 use Rattle.rights.specs.How.Vocabulary.{listedWord, listedNumber}
 use Rattle.rights.specs.How.Groups.{rulingAt, laid, firsts, ruled}
 use Rattle.rights.specs.How.Automaton.{chainOf, chainTo}
@@ -177,7 +178,7 @@ loop-again c =
     let m = at-next-states .next-states .result in
     let x = label (recordAt t (l .i)) in
     let w = chain-step ss s t (l .i) (at-wide .wide .result) m (l .st) (at-wide .wide .ensures) (fit t (a .n) (l .i) (g .5 .records) h) (low-level t (a .n) (l .i) (g .5 .records) h) (l .inv .4) (l .inv .5)
-    (λ b e. at-next-states .next-states .ensures (listedNumber p (a .words .now) (a .count)) ss b _ x (made .packed) (g .4) (row-at (made .packed) (at-wide-number .wide-number .result) x (at-wide-number .wide-number .ensures ∙ g .5 .at (l .i) h)) e) in
+    (λ b e. at-next-states .next-states .ensures (listedNumber p (a .words .now) (a .count)) (nameAmong p (a .own .now)) ss b _ x (made .packed) (g .4) (row-at (made .packed) (at-wide-number .wide-number .result) x (at-wide-number .wide-number .ensures ∙ g .5 .at (l .i) h)) e) in
     let v = c .settle .ensures .0 ∙ sym (made .says m (getD (l .out) (l .i) 0) (chainOf t (l .i)) (c .settle .ensures .1) (agree q (a .from) (a .to - a .from) m (chainOf t (l .i)) (w .0))) in (
       omega arith,
       simp length-set (l .inv .1),

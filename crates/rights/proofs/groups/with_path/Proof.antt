@@ -1,10 +1,10 @@
 -- The steps before j stand in the marks and rows, one bit each.
-use Prim.Native.Nat.{_-_, _≤_}
+use Prim.Native.Nat.{ℕ, _-_, _≤_}
+use mathlib.Core.Bool.{Bool}
 use mathlib.Core.Path.{_≡_, sym, _∙_}
 use mathlib.Core.List.{List, _++_, append-nil}
 use native.Mathlib.Omega.{arith}
 use lib.ListN.{length}
-use Rattle.rights.specs.How.Roles.{nameAmong}
 use Rattle.rights.specs.Rights.{Step}
 use Rattle.rights.specs.How.Automaton.{stepsFor}
 use Rattle.rights.specs.How.Vocabulary.{listedNumber}
@@ -14,20 +14,21 @@ use Rattle.rights.proofs.groups.with_path.Statement.{statement}
 use Rattle.rights.proofs.groups.with_path.Tie as tie
 
 abbrev Inv-loop : tie.InvT-loop
-Inv-loop policy own words n b count used rows₀ m₀ j₀ rows m j =
+Inv-loop policy words n b count used rows₀ m₀ j₀ rows m j =
     (j ≤ count)
     × (length rows ≡ 2113)
-    × ((ss : List Step) → length ss ≡ used → Packed (listedNumber policy words n) ss (m₀ .deep) (m₀ .every) rows₀ → Packed (listedNumber policy words n) (ss ++ stepsFor (nameAmong policy own) policy b j 0) (m .deep) (m .every) rows)
+    × ((mine : List ℕ → Bool) (ss : List Step) → length ss ≡ used → Packed (listedNumber policy words n) mine ss (m₀ .deep) (m₀ .every) (m₀ .own) rows₀
+    → Packed (listedNumber policy words n) mine (ss ++ stepsFor mine policy b j 0) (m .deep) (m .every) (m .own) rows)
 
 abbrev μ-loop : tie.MeasureT-loop
-μ-loop policy own words n b count used rows₀ m₀ j₀ rows m j = count - j
+μ-loop policy words n b count used rows₀ m₀ j₀ rows m j = count - j
 
 -- the places further back that answers read
 abbrev to-start : tie.After-slice-known Inv-loop μ-loop → tie.Start Inv-loop μ-loop
-to-start c = c .before .before .before .before
+to-start c = c .before .before .before
 
 loop-holds : tie.Need-loop-holds Inv-loop μ-loop
-loop-holds c = (omega arith, to-start c .pre .4, λ ss e k. unfold stepsFor in rw (append-nil ss) k)
+loop-holds c = (omega arith, to-start c .pre .4, λ mine ss e k. unfold stepsFor in rw (append-nil ss) k)
 
 mul-with-step : tie.Need-mul-with-step Inv-loop μ-loop
 mul-with-step c =
@@ -54,11 +55,11 @@ loop-again c =
     let a = start .args in
     let l = at-loop .loop in
     let r = at-with-step .with-step .ensures in
-    let p = a .policy .now in
-    let mine = nameAmong p (a .own .now) in (
+    let p = a .policy .now in (
       omega arith,
       r .1,
-      (λ ss e k. rw (path-more mine p (a .b) (l .j) ss) at (r .0 (ss ++ stepsFor mine p (a .b) (l .j) 0) (path-length mine p (a .b) (l .j) ss (a .used) e) (l .inv .2 ss e k))),
+      (λ mine ss e k. rw (path-more mine p (a .b) (l .j) ss) at
+          (r .0 mine (ss ++ stepsFor mine p (a .b) (l .j) 0) (path-length mine p (a .b) (l .j) ss (a .used) e) (l .inv .2 mine ss e k))),
     )
 
 same-length : tie.Need-same-length Inv-loop μ-loop
@@ -71,7 +72,7 @@ returns c =
     let at-loop = c .before in let start = to-start (at-loop .before) in
     let l = at-loop .loop in
     let z : l .j ≡ start .args .count = omega arith in
-    ((λ ss e k. rw z at (l .inv .2 ss e k)), l .inv .1)
+    ((λ mine ss e k. rw z at (l .inv .2 mine ss e k)), l .inv .1)
 
 pub with-path-spec : {M : Type 1} → statement M
 with-path-spec =

@@ -7,21 +7,20 @@ use lib.ListN.{getD}
 use lib.Dec.{eqb}
 use lib.Bits.{bitOr}
 use Rattle.rights.specs.PolicyBytes.{accepts, ruleAt}
-use Rattle.rights.proofs.PackedLaws.{sorted-step}
 use Rattle.rights.proofs.GroupLaws.{not-not}
 use Rattle.rights.proofs.groups.with_rule.Statement.{statement}
 use Rattle.rights.proofs.groups.with_rule.Tie as tie
 
 -- the places further back that answers read
 abbrev to-start : tie.After-wide → tie.Start
-to-start c = c .before .before .before .before .before .before
+to-start c = c .before .before .before .before .before
 
 with-path-requires : tie.Need-with-path-requires
 with-path-requires c κs =
     let at-wide = c .before in let start-2 = to-start at-wide in
     let a = start-2 .args in
     let g = start-2 .pre in
-    rw (at-wide .wide .ensures) (g .0, g .0 .sound .paths (a .k) (g .1), (λ j h. sorted-step (a .policy .now) (a .own .now) (a .words .now) (a .n) (g .0 .sorted) (a .k) j (g .1) h), g .2, g .3)
+    rw (at-wide .wide .ensures) (g .0 .words, g .0 .sound .paths (a .k) (g .1), (λ j h. g .0 .known (a .k) j (g .1) h), g .2, g .3)
 
 returns : tie.Need-returns
 returns c =
@@ -33,7 +32,7 @@ returns c =
     let p = a .policy .now in
     let w = at-wide .wide .ensures in
     let r = at-with-path .with-path .ensures in (
-      (λ ss e k. rw w at (r .0 ss e k)),
+      (λ mine ss e k. rw w at (r .0 mine ss e k)),
       ap (bitOr (g .start)) (at-one-at .one-at .ensures),
       at-mark-if .mark-if .ensures ∙ ap (λ (z : ℕ). cond (accepts p (a .k)) (bitOr (g .yes) (2 ^ (g .used + z))) (g .yes)) w,
       at-mark-if2 .mark-if2 .ensures ∙ ap₂ (λ (b : Bool) (z : ℕ). cond b (bitOr (g .noes) (2 ^ (g .used + z))) (g .noes)) (sym (not-not (eqb (getD p (ruleAt (a .k)) 0) 0))) w,

@@ -2,6 +2,7 @@ use Prim.Native.Nat.{ℕ}
 use mathlib.Core.Path.{sym, _∙_, ap}
 use native.Mathlib.Omega.{arith}
 use borrow.Author.Needs.{needs}
+use Rattle.rights.specs.How.Roles.{nameAmong}
 use Rattle.rights.specs.How.Vocabulary.{listedNumber}
 use Rattle.rights.specs.How.Groups.{rulingAt}
 use Rattle.rights.proofs.GroupLaws.{ruling-added, group-skip}
@@ -10,7 +11,7 @@ use Rattle.rights.proofs.groups.with_ruling.Tie as tie
 
 -- the places further back that answers read
 abbrev to-start : tie.After-counts → tie.Start
-to-start c = c .before .before .before .before .before
+to-start c = c .before .before .before .before
 
 counts-requires : tie.Need-counts-requires
 counts-requires c κs = search needs
@@ -30,16 +31,16 @@ returns c =
     let start = to-start at-counts in
     let a = start .args in
     let r = at-with-rule .with-rule .ensures in (
-      (λ i size z g. ruling-added (listedNumber (a .policy .now) (a .words .now) (a .n)) (a .policy .now) (a .own .now) (a .roles .now) (a .right) (start .pre .2) i size (a .k) z (sym (at-counts .counts .ensures) ∙ at-if1 .if1 .taken) _ _ _ _ _ _ _ _ _ _ _ _ _ _ g (r .0) (r .1) (r .2) (r .3) (r .4)),
+      (λ own i size z g. ruling-added (listedNumber (a .policy .now) (a .words .now) (a .n)) (a .policy .now) own (a .roles .now) (a .right) (start .pre .2) i size (a .k) z (sym (at-counts .counts .ensures) ∙ at-if1 .if1 .taken) _ _ _ _ _ _ _ _ _ _ _ _ _ _ _ _ g (r .0 (nameAmong (a .policy .now) own)) (r .1) (r .2) (r .3) (r .4)),
       r .5,
     )
 
 returns-2 : tie.Need-returns-2
 returns-2 c =
     let at-counts = c .before in let start = to-start at-counts in
-    let a = start .args in
-    let q = rulingAt (a .policy .now) (a .own .now) (a .roles .now) (a .right) in (
-      (λ i size z g. group-skip (listedNumber (a .policy .now) (a .words .now) (a .n)) q (a .right) i size _ _ _ _ _ _ _ g (ap (λ (m : ℕ). q m .on) z ∙ sym (at-counts .counts .ensures) ∙ c .if1 .left)),
+    let a = start .args in (
+      (λ own i size z g. let q = rulingAt (a .policy .now) own (a .roles .now) (a .right) in
+          group-skip (listedNumber (a .policy .now) (a .words .now) (a .n)) (nameAmong (a .policy .now) own) q (a .right) i size _ _ _ _ _ _ _ _ g (ap (λ (m : ℕ). q m .on) z ∙ sym (at-counts .counts .ensures) ∙ c .if1 .left)),
       start .pre .4,
     )
 
