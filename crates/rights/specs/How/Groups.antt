@@ -1,6 +1,6 @@
 -- How the rules of one right are worked out together: their automata side by side in one number, and the steps that a label passes by its number. proofs/GroupLaws.antt
 -- shows that each rule's last state is there where its path finds the node, proofs/FiveRights.antt that the five rights make the set that `byRules` says.
-use Prim.Native.Nat.{ℕ, zero, suc, _+_, _*_, _/_, _%_, _^_, _≤_, _<_, _-_}
+use Prim.Native.Nat.{ℕ, zero, suc, _+_, _*_, _/_, _%_, _^_, _≤_, _<_}
 use mathlib.Core.Bool.{Bool, true, false, cond, not, _&&_, _||_}
 use mathlib.Core.Path.{_≡_}
 use mathlib.Core.List.{List, [], _∷_, _++_, map}
