@@ -4,7 +4,7 @@
 Builds all of them optimised, runs each case through both libraries in one process, turn by turn, and both programs turn by turn; writes docs/BENCHMARK.md and
 docs/benchmark.svg. A time is the median of CPU times; instructions are counted by callgrind, which no other load disturbs. Both versions must leave the same bytes
 in every case. --quick measures times of lines and programs alone and writes no file. Fails where a bound does not hold: 100,000 lines of the example's stage E
-within 10 s, a ratio of CPU times above 1.5 at 16,384 nodes, a growth of instructions above 20 from 1,024 to 16,384 nodes, and those of views.py, own.py and loads.py.
+within 10 s, a ratio of CPU times above 1.5 at 16,384 nodes, a growth of instructions above 20 from 1,024 to 16,384 nodes, and those of views.py, own.py, either_case.py and loads.py.
 Needs rt, gcc, cargo and valgrind.
 """
 import argparse
@@ -17,6 +17,7 @@ import sys
 import tempfile
 import time
 from pathlib import Path
+from either_case import either_case
 from loads import loads
 from measure import ROOT, Bounds, build, collected, count, hot, millions, run, spread, times, wrapped
 from own import own
@@ -198,7 +199,8 @@ def main():
                 above.append(("the program", hot(work)))
             text = HEAD + about + lines_text(rows, spreads) + program_text(cpu, wall, counts) + above_text(above)
             views_text, view_rows = views(work, [rattle, view_alone], bounds)
-            text += views_text + own(work, rattle, bounds) + where(work, rattle) + loads(work, [rattle, rust], bounds) + "\n![CPU times and growth](benchmark.svg)\n"
+            text += views_text + own(work, rattle, bounds) + either_case(work, rattle, bounds) + where(work, rattle)
+            text += loads(work, [rattle, rust], bounds) + "\n![CPU times and growth](benchmark.svg)\n"
             (ROOT / "docs/BENCHMARK.md").write_text(wrapped(text))
             (ROOT / "docs/benchmark.svg").write_text(plot(rows, FEW, MOST, view_rows))
     sys.exit(bounds.failed)

@@ -213,25 +213,29 @@ POLICIES = [
 
 # --- Made to hurt: 128 rules, of read and position in turn, after one that shows every node ---
 
-# 64 bytes of labels in their order
-BYTES = sorted(set("ABCDEFGHIJKLMNOPQRSTUVWXYZabcdefghijklmnopqrstuvwxyz0123456789-_"))
+# 39 bytes of labels in their order, no two of them one letter in both cases
+BYTES = sorted("abcdefghijklmnopqrstuvwxyz0123456789-_.")
 WORDS_MAX = (RULES_MAX - 1) * STEPS_MAX
 LONG = "L" * LABEL_MAX
 NEXT = LONG[:-1] + "K"  # differs from it in the last byte
 LONG_NAMES = ["N" * (LABEL_MAX - 2) + f"{k:02}" for k in range(SUBJECTS_MAX)]
 
 
-def labels_at(first, second, beside=False):
-    """2,032 labels of 24 bytes in their order that differ in two bytes; `beside`: as many that stand each just before one of them."""
+def labels_at(first, second, third, beside=False):
+    """2,032 labels of 24 bytes in their order that differ in three bytes; `beside`: as many that stand each just before one of them."""
     found = []
     for i in range(WORDS_MAX):
-        label = ["M"] * LABEL_MAX
-        label[first], label[second] = BYTES[i // 32], BYTES[i % 32 * 2 + (not beside)]
+        label = ["m"] * LABEL_MAX
+        label[first], label[second], label[third] = BYTES[i // 512], BYTES[i // 16 % 32], BYTES[i % 16 * 2 + (not beside)]
         found.append("".join(label))
     return found
 
 
-TAIL, BESIDE, HEAD, INNER = labels_at(22, 23), labels_at(22, 23, beside=True), labels_at(0, 1), labels_at(6, 17)
+def capitals(labels):
+    return [label.upper() for label in labels]
+
+
+TAIL, BESIDE, HEAD, INNER = labels_at(21, 22, 23), labels_at(21, 22, 23, beside=True), labels_at(0, 1, 2), labels_at(6, 11, 17)
 SHUFFLED = [TAIL[i * 1365 % WORDS_MAX] for i in range(WORDS_MAX)]
 
 
@@ -258,10 +262,14 @@ HURTING = [
     ("`//K/L/L/L/L/L//L`, every node L, K but for the last byte", [f"//{NEXT}{('/' + LONG) * 5}//{LONG}"], [LONG]),
     ("`//L`, every node L", ["//" + LONG], [LONG]),
     ("`//L`, every node L but for the last byte", ["//" + LONG], [NEXT]),
-    ("2,032 words alike in 22 bytes, nodes among them", paths_of(TAIL), TAIL),
+    ("`//l//l..`, 16 steps, every node L, of small letters and of capitals", [f"//{LONG.lower()}" * 16], [LONG]),
+    ("2,032 words alike in 21 bytes, nodes among them", paths_of(TAIL), TAIL),
     ("the same words, nodes just beside them", paths_of(TAIL), BESIDE),
     ("the same words in falling order, nodes beside", paths_of(TAIL[::-1]), BESIDE),
     ("the same words shuffled, nodes beside", paths_of(SHUFFLED), BESIDE),
+    ("the same words, nodes among them in capitals", paths_of(TAIL), capitals(TAIL)),
+    ("the same words, nodes beside them in capitals", paths_of(TAIL), capitals(BESIDE)),
+    ("the same words in falling order, nodes beside in capitals", paths_of(TAIL[::-1]), capitals(BESIDE)),
     ("the same words, every node the last of them", paths_of(TAIL), TAIL[-1:]),
     ("the same words with `/`, nodes among them", paths_of(TAIL, "/"), TAIL),
     ("2,032 words that differ in the first bytes", paths_of(HEAD), HEAD),

@@ -31,13 +31,13 @@ extern "C" {
 /* The version of this header: as text, and as a number for #if (1,000,000 for the first part, 1,000 for the second).
  *
  * The library tells no version when it runs. A library that does not fit is found in three ways:
- * - The name that a program asks the system's loader for has the first two parts (liblouvretansy.so.0.4). They change
+ * - The name that a program asks the system's loader for has the first two parts (liblouvretansy.so.0.5). They change
  *   whenever a call, a form, an answer or a byte of state or table is added or changes its meaning.
  * - timetable_library_fits() is 0 if the library's state is of another size.
  * - A state of TIMETABLE_STATE_BYTES that such a library is lent is refused with 13, whatever the line.
  */
-#define TIMETABLE_VERSION "0.4.0"
-#define TIMETABLE_VERSION_NUMBER 4000
+#define TIMETABLE_VERSION "0.5.0"
+#define TIMETABLE_VERSION_NUMBER 5000
 
 /* The most bytes of a line, without its line feed. */
 #define TIMETABLE_MAX_LINE_BYTES 1024

@@ -110,7 +110,7 @@ class Reading:
         """The number with which a table of this capacity refuses the document; 0 if it is taken."""
         if self.error or self.reasons:
             return NO_DOCUMENT
-        if any(label == "RESTRICTED" for _, label in self.nodes):
+        if any(label.upper() == "RESTRICTED" for _, label in self.nodes):
             return BANNED_LABEL
         if any(level > LEVEL_MAX for level, _ in self.nodes):
             return TOO_DEEP
@@ -118,13 +118,13 @@ class Reading:
 
 
 # Random documents. A document is made as a list of its tags and of the texts and blanks between them.
-NAMES = ["a", "b", "A", "mon", "p1", "R12", "lesson", "class", "note", "_", "_-.", "x.y", "a-b", "xml", "XMLa", "xmlns", "N" * 24, "restricted"]
-TEXTS = NAMES + ["10B", "7", "-", ".", "..", "-a", "10B-maths", "0" * 24, "RESTRICTEd"]
+NAMES = ["a", "b", "A", "mon", "p1", "R12", "lesson", "class", "note", "_", "_-.", "x.y", "a-b", "xml", "XMLa", "xmlns", "N" * 24, "restricte"]
+TEXTS = NAMES + ["10B", "7", "-", ".", "..", "-a", "10B-maths", "0" * 24, "RESTRICTED."]
 FILLERS = ["", "", "", "", " ", "\n", "\t", "\r\n", "\r", " \r\n\t ", "\n    "]
 
 
 def random_label(rand, labels):
-    return "RESTRICTED" if rand.random() < 0.004 else rand.choice(labels)
+    return rand.choice(["RESTRICTED", "restricted", "Restricted"]) if rand.random() < 0.004 else rand.choice(labels)
 
 
 def random_element(rand, level, deepest, left):
@@ -349,6 +349,7 @@ def occupied(room):
 def deep_documents(tester):
     levels, open_tags = 100_000, b"<a>" * 100_000
     documents = [(nested(levels), TOO_DEEP), (open_tags, NO_DOCUMENT), (open_tags + b"RESTRICTED" + b"</a>" * levels, BANNED_LABEL)]
+    documents += [(open_tags + b"restricteD" + b"</a>" * levels, BANNED_LABEL), (b"<A>" + nested(levels - 1) + b"</a>", NO_DOCUMENT)]
     for wrong in (0, LEVEL_MAX, LEVEL_MAX + 1, 16383, 16384, 16385, 65536, levels - 1):
         documents.append((nested(levels, wrong), NO_DOCUMENT))
     for document, refusal in documents:

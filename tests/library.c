@@ -194,6 +194,8 @@ static const struct example EXAMPLE[] = {
     {"(rename //note/* cold)", "(done 1 0)\n"},
     {"(find //room/R14)", "(hit 4 R14)\n"},
     {"(find //R12)", "(none)\n"},
+    {"(find //ROOM/r14)", "(hit 4 R14)\n"},
+    {"(user sha)", "(ok)\n"},
     {"(sheet room)", "  mon          |             |             |             |             |\n"
                      "1 R14          |             |             |             |             |\n"
                      "2              |             |             |             |             |\n"
@@ -351,13 +353,19 @@ static void damaged_policies(void) {
     struct store store = copy_store(sound);
     write_label(store.state.bytes + SUBJECTS + RECORD_BYTES, "staff");
     expect_damaged(store, "a name declared twice");
+    write_label(store.state.bytes + SUBJECTS + RECORD_BYTES, "Staff");
+    expect_damaged(store, "a name declared twice in another case");
     write_label(store.state.bytes + SUBJECTS + RECORD_BYTES, "RESTRICTED");
     expect_damaged(store, "RESTRICTED as a name");
+    write_label(store.state.bytes + SUBJECTS + RECORD_BYTES, "restricted");
+    expect_damaged(store, "RESTRICTED as a name in another case");
     give_back_store(store);
 
     store = copy_store(sound);
     write_label(store.state.bytes + RULES + RULE_BYTES + STEPS, "RESTRICTED");
     expect_damaged(store, "RESTRICTED in a rule");
+    write_label(store.state.bytes + RULES + RULE_BYTES + STEPS, "Restricted");
+    expect_damaged(store, "RESTRICTED in a rule in another case");
     give_back_store(store);
 
     store = copy_store(sound);
@@ -395,6 +403,8 @@ static void damaged_tables(void) {
     struct store store = copy_store(sound);
     write_label(store.table.bytes + mon, "RESTRICTED");
     expect_damaged(store, "RESTRICTED as a label");
+    write_label(store.table.bytes + mon, "restrictED");
+    expect_damaged(store, "RESTRICTED as a label in another case");
     give_back_store(store);
 
     store = school(LOGGED_IN, TIMETABLE_TABLE_BYTES(SCHOOL_NODES));
@@ -544,6 +554,8 @@ static void documents(void) {
         int number;
     } refused[] = {
         {"<a><RESTRICTED></a>", TIMETABLE_REFUSED_NO_DOCUMENT},
+        {"<a></A>", TIMETABLE_REFUSED_NO_DOCUMENT},
+        {"<a>restricted</a>", TIMETABLE_REFUSED_BAD_LABEL},
         {"<a><b><c/>RESTRICTED</b></a><d/>", TIMETABLE_REFUSED_NO_DOCUMENT},
         {"<a><b><c><d><e><f><g><h><i><j><k><l><m/>RESTRICTED</l></k></j></i></h></g></f></e></d></c></b></a>",
          TIMETABLE_REFUSED_BAD_LABEL},

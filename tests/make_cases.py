@@ -148,10 +148,16 @@ TABLES = [
     # "label padded with zeros (24), 6 zero bytes"
     (poked(SMALL, RECORD_1 + 3, b"x"), False),
     (poked(SMALL, RECORD_1 + 31, [1]), False),
-    # "RESTRICTED as a label included"; "Case counts."
+    # "RESTRICTED as a label included"; document 02, card 6: "Label equality now ignores the case of A to Z everywhere that two labels are compared: .. the ban
+    # on RESTRICTED"
     (table_of([(0, "RESTRICTED")]), False),
-    (table_of([(0, "restricted")]), True),
+    (table_of([(0, "restricted")]), False),
+    (table_of([(0, "r"), (1, "Restricted")]), False),
+    (table_of([(0, "r"), (1, "rESTRICTEd")]), False),
     (table_of([(0, "RESTRICTED1")]), True),
+    (table_of([(0, "restricte")]), True),
+    (table_of([(0, "restr_cted")]), True),
+    (table_of([(0, "R12"), (1, "r12"), (1, "r12"), (1, "R12")]), True),
     # "All bytes after the last used record are zero", to the very end of the lent bytes
     (poked(SMALL, len(SMALL) - 1, [1]), False),
     (SMALL + b"\1", False),
@@ -216,14 +222,22 @@ POLICIES = [
     ([(RULE_0 + 4, [1])], False),
     ([(STEP_0 + RECORD_BYTES, [1])], False),
     ([(POLICY_BYTES - 1, [1])], False),
-    # a name is a label, not RESTRICTED
+    # a name is a label, not RESTRICTED, in whatever case (document 02, card 6)
     ([(SUBJECTS_AT, record(0, "RESTRICTED"))], False),
+    ([(SUBJECTS_AT, record(0, "restricted"))], False),
+    ([(SUBJECTS_AT, record(0, "Restricted"))], False),
     ([(SUBJECTS_AT, record(0, "s t"))], False),
     ([(SUBJECTS_AT + 1, [0])], False),
     ([(SUBJECTS_AT, [1])], False),
     ([(SUBJECTS_AT + 31, [1])], False),
     # "5 a name unknown, declared twice, an isa line repeated, or R not before N"
     ([(SUBJECTS_AT, record(0, "SHA"))], False),
+    # Document 02, card 6: "Two subjects whose names differ only in case count as declared twice."
+    ([(SUBJECTS_AT, record(0, "sha"))], False),
+    ([(SUBJECTS_AT, record(0, "Sha"))], False),
+    ([(SUBJECTS_AT + 3 * RECORD_BYTES, record(0, "HEAD"))], False),
+    ([(SUBJECTS_AT, record(0, "STAFF"))], True),
+    ([(SUBJECTS_AT, record(0, "S-HA"))], True),
     ([(ISA_AT, [2, 1])], False),
     ([(ISA_AT, [1, 1])], False),
     ([(ISA_AT, [0, 1])], False),
@@ -243,6 +257,7 @@ POLICIES = [
     # a step is `*`, `$` or a label, after `/` or `//`, and not RESTRICTED
     ([(STEP_0, [2])], False),
     ([(STEP_0, record(1, "RESTRICTED"))], False),
+    ([(STEP_0, record(1, "restricteD"))], False),
     ([(STEP_0, record(1, "a[1]"))], False),
     ([(STEP_0, record(1, "**"))], False),
     ([(STEP_0, record(1, "$"))], True),
@@ -253,10 +268,17 @@ for changes, good in POLICIES:
 case("k", "yes")
 
 # "A policy word is a label named in any rule's path; once any rule uses `$`, every subject's name is one too."
-for word, good in [("school", True), ("note", True), ("read", False), ("staff", True), ("x", True), ("X", False), ("$", False), ("*", False), ("", False)]:
+for word, good in [("school", True), ("note", True), ("read", False), ("staff", True), ("x", True), ("y", False), ("$", False), ("*", False), ("", False)]:
     case("w " + word, yes_no(good))
 put_policy(policy_of(NAMES, [], [(True, "read", "/school", "staff")]))
 for word, good in [("school", True), ("staff", False), ("schoo", False), ("schooll", False)]:
+    case("w " + word, yes_no(good))
+# Document 02, card 6: "Label equality now ignores the case of A to Z everywhere that two labels are compared: .. policy words"
+put_policy(policy_of(["Sha", "R12"], [], [(True, "read", "/School/a-Z_az.AZ", "R12")]))
+for word, good in [("school", True), ("SCHOOL", True), ("sCHOOl", True), ("A-z_AZ.az", True), ("a-y_az.az", False), ("b-z_az.az", False), ("a_z_az.az", False), ("sha", False), ("RESTRICTED", False)]:
+    case("w " + word, yes_no(good))
+put_policy(policy_of(["Sha", "R12"], [], [(True, "read", "//$", "R12")]))
+for word, good in [("SHA", True), ("sha", True), ("r12", True), ("R12", True), ("R1", False), ("rq2", False)]:
     case("w " + word, yes_no(good))
 
 # ---- Rights: position 1, read 2, insert 4, update 8, delete 16
@@ -311,6 +333,12 @@ rights(["r", "a"], [("a", "r")], [(True, "read", "//$/*", "r")], [(0, "000200000
 rights(["b", "r", "a"], [("r", "b"), ("a", "r")], [(True, "read", "//$", "b")], [(0, "0000000202"), (1, "0200000202"), (2, "0202020202")])
 rights(["r", "b", "a"], [("a", "r"), ("a", "b")], [(True, "read", "//$", "r")], [(0, "0200000000"), (1, "0000000000"), (2, "0202020202")])
 rights(["r", "a", "b"], [("b", "r")], [(True, "read", "//$/$", "r")], [(0, "0000000000"), (1, "0000000000"), (2, "0000000002")])
+# Document 02, card 6, "R12 and r12 are one room": steps and `$` pass labels in either case. Nodes R A(a(B)) b
+put_table(("R", [("A", [("a", [("B", [])])]), ("b", [])]))
+rights(["u"], [], [(True, "read", "//a", "u"), (True, "position", "/r/A", "u"), (True, "insert", "//A/b", "u")], [(0, "0003020400")])
+rights(["u"], [], [(True, "read", "//*", "u"), (False, "read", "//B", "u")], [(0, "0202020000")])
+rights(["r", "A"], [("A", "r")], [(True, "read", "//$", "r")], [(0, "0200000000"), (1, "0202020000")])
+rights(["r", "A"], [("A", "r")], [(True, "read", "//$/b", "r")], [(0, "0000000002"), (1, "0000000202")])
 
 # ---- Selections
 
@@ -411,6 +439,30 @@ for user, path, marks in OWN:
 # a hidden label is found under no name
 lines.append("h " + NODES(0, 9 + HIDDEN, 10))
 case("s 03 //$", "000001")
+# Document 02, card 6: labels in a command's path, in its brackets and for `$` are found in either case. Nodes School R12(x) r12 Room(X(y)) SHA r-12
+put_policy(policy_of(["staff", "Sha"], [("Sha", "staff")]))
+CASES = [
+    #           SRxrRXySr
+    ("//r12", "010100000"),
+    ("//R12", "010100000"),
+    ("/SCHOOL/r12[2]", "000100000"),
+    ("//R12[X]", "010000000"),
+    ("//X", "001001000"),
+    ("//*[x]", "010010000"),
+    ("//ROOM/x/Y", "000000100"),
+    ("//R-12", "000000001"),
+    ("//$", "000000010"),
+    ("//r_12", "000000000"),
+    ("//rq2", "000000000"),
+]
+put_table(("School", [("R12", [("x", [])]), ("r12", []), ("Room", [("X", [("y", [])])]), ("SHA", []), ("r-12", [])]))
+lines.append("h " + NODES(*range(9)))
+for path, marks in CASES:
+    case("s 01 " + path, "".join("0" + m for m in marks))
+# "where RESTRICTED may be named": in either case, and a hidden label in no case
+lines.append("h " + NODES(0, 1 + HIDDEN, 2, 3, 7 + HIDDEN))
+for path, marks in [("//restricted", "01001"), ("//Restricted/X", "00100"), ("//*[resTRicted]", "10000"), ("//R12", "00010"), ("//$", "00000")]:
+    case("s 01 " + path, "".join("0" + m for m in marks))
 
 text = "".join(line + "\n" for line in lines)
 if 65536 <= len(text):

@@ -709,6 +709,8 @@ class RunLines(Office):
                 (b"(root r)\n(subject a)\n", 2, 3, "the policy is fixed once the root is there"),
                 (b"(subject a)\n(subject a)\n", 2, 5, "a is declared already)"),
                 (b"(root r)\n(child (RESTRICTED))\n", 2, 9, "RESTRICTED stands for hidden labels"),
+                (b"(root r)\n(child (a (restricted)))\n", 2, 9, "RESTRICTED stands for hidden labels"),
+                (b"(subject SHA)\n(subject sha)\n", 2, 5, "sha is declared already, as SHA: names have no case"),
                 (b"(subject a)\n(root r)\n(user a)\n(child (b))\n", 4, 3, "child lines come before the first user"),
             ):
                 says = f"standard input:{line}: refused {number}: {refusals.reason(number)} ({advice}"
@@ -801,6 +803,7 @@ class Load(Office):
             (b"", "1:1", "there is no element"),
             (b"\n \n", "3:1", "there is no element"),
             (b"<a>\n  <b>\n</a>\n", "3:3", "mismatched tag: <b> of line 2 is still open"),
+            (b"<b>\n</B>", "2:3", "mismatched tag: <b> of line 1 is still open; a closing tag has the same capitals"),
             (b"<a>\n  <b/>\n", "3:1", "the document ends, and <a> of line 1 is still open"),
             (b"<a/>\n<b/>", "2:1", "junk after document element"),
             (b"<a>\n <10B/></a>", "2:3", "a name does not begin with a digit, hyphen or full stop"),
@@ -838,8 +841,9 @@ class Load(Office):
 
     def test_a_name_or_a_level_that_is_not_taken(self):
         self.rules()
-        words = "RESTRICTED stands for hidden labels and cannot be given"
+        words = "RESTRICTED stands for hidden labels and cannot be given, in whatever case"
         self.refused(b"<a>\n  <b/> RESTRICTED</a>", 9, place="2:8", words=words)
+        self.refused(b"<a>\n  <b/> Restricted</a>", 9, place="2:8", words=words)
         self.refused(b"<a><RESTRICTED/></a>", 9, place="1:5", words=words)
         for depth in (12, 100_000):
             deep = b"<a>\n" * depth + b"x" + b"</a>" * depth
@@ -914,7 +918,7 @@ class Load(Office):
 
 def random_document(rand):
     """A document, often with something that is not taken, or a row of pieces."""
-    taken = ["<a>", "</a>", "<b>", "</b>", "<c/>", "x", " ", "\n", "RESTRICTED", "10B", "\r\n", "L" * 24]
+    taken = ["<a>", "</a>", "<b>", "</b>", "<c/>", "x", " ", "\n", "RESTRICTED", "10B", "\r\n", "L" * 24, "<A>", "</A>"]
     not_taken = ["<!--c-->", "<?p q?>", "<![CDATA[x]]>", "&amp;", "&#65;", "<a b='c'>", "<a >", "</a >", "<c />"]
     not_taken += ["<10B/>", "M" * 25, "<!DOCTYPE a>", "<?xml version='1.0'?>", "\ufeff", "\u00e9", "<x:y/>", "</>"]
     not_taken += ["<", ">", "&"]
@@ -971,13 +975,22 @@ class Show(Office):
         self.school(["(user SHA)", "(view)"])
         with self.unchanged():
             for name, says in (
-                ("sha", "did you mean SHA?"),
+                ("SAH", "did you mean SHA?"),
                 ("MEI", "no subject is declared as MEI"),
                 ("", "cannot be a name"),
                 ("SHA) (x", "cannot be a name"),
                 ("a\n(view)", "cannot be a name"),
             ):
                 self.assertEqual(self.office("show", "store", f"--as={name}", status=1, says=says), "")
+
+    def test_a_reader_in_either_case(self):
+        """The name as it was declared is told, whatever the case in which it is typed."""
+        self.school()
+        with self.unchanged():
+            for form in VIEW_FORMATS:
+                shown = [self.office("show", "store", "--as", name, "--format", form) for name in ("SHA", "sha", "Sha")]
+                self.assertEqual(shown, shown[:1] * 3)
+            self.assertEqual(json.loads(self.office("show", "store", "--as", "sha", "--json"))["reader"], "SHA")
 
     def test_nothing_to_show(self):
         self.office("new", "store", says="an empty store")
@@ -1024,7 +1037,8 @@ def expected_sheet(nodes, room):
 
     def lesson(day, period):
         periods = children(day)
-        rooms = [k for k in children(periods[period]) if nodes[k].label == room] if period < len(periods) else []
+        beside = children(periods[period]) if period < len(periods) else []
+        rooms = [k for k in beside if nodes[k].label.lower() == room.lower()]
         return nodes[children(rooms[0])[0]].label if rooms and children(rooms[0]) else ""
 
     def row(begin, labels):
@@ -1115,11 +1129,23 @@ class Sheets(Office):
         self.assertIn("doors: note: the sheet of R21 is blank\n", self.errors)
         self.assertNotIn("hall is blank", self.errors)
         self.assertEqual(set(self.files()), {"sheet-hall.txt", "sheet-R21~4.txt"})
-        names = [".", "..", "-x", "con", "r12", "R12", "sheet", "A" * 24]
+        names = [".", "..", "-x", "con", "sheet", "A" * 24, "R-12", "R12"]
         self.sheets("--as", "door", *(f"--room={name}" for name in names), says="8 sheets of store")
         files = list(self.files())
         self.assertEqual(len({file.lower() for file in files}), len(names))
         self.assertTrue(all(re.fullmatch(r"sheet-[A-Za-z0-9,_~-]+\.txt", file) for file in files), files)
+
+    def test_a_room_in_either_case(self):
+        """R12 and r12 are one room: one sheet, called what the reader is shown first."""
+        self.doors(changed=("(p2 (R12", "(p2 (r12"))
+        told = json.loads(self.sheets("--as", "DOOR", "--json"))
+        self.assertEqual(told["reader"], "door")
+        self.assertEqual([sheet["room"] for sheet in told["sheets"]], ["R12", "hall", "R20"])
+        files = self.files()
+        self.assertEqual(files["sheet-R12~4.txt"], expected_sheet(self.nodes("door"), "r12"))
+        self.sheets("--as", "door", "--room", "r12", "--room", "R12", "--room", "Restricted", says="2 sheets of store")
+        self.assertEqual(set(self.files()), {"sheet-R12~4.txt", "sheet-RESTRICTED~3ff.txt"})
+        self.assertEqual(self.files()["sheet-R12~4.txt"], files["sheet-R12~4.txt"])
 
     def test_the_root_is_hidden(self):
         self.doors("(rule deny read /school door)\n")
@@ -1133,7 +1159,7 @@ class Sheets(Office):
         self.sheets("--as", "door")
         before = self.files()
         for words, says in (
-            (["--as", "Door"], "did you mean door?"),
+            (["--as", "Doro"], "did you mean door?"),
             (["--as", "door", "--room", "R12", "--room", "*"], "'*' cannot be a room: refused 2"),
             (["--as", "door", "--room", "$"], "'$' cannot be a room: refused 2"),
             (["--as", "door", "--room", "R12)(view"], "cannot be a room: refused 2"),
@@ -1175,11 +1201,12 @@ class Sheets(Office):
         self.assertNotEqual(self.files(), before)
 
     def test_an_older_library(self):
-        """One that refuses sheets with 2, or to which `$` is the login name alone, and is this one in all else, is told
-        before anything is done."""
+        """One that refuses sheets with 2, that finds no name in another case, or to which `$` is the login name alone,
+        and is this one in all else, is told before anything is done."""
         self.doors()
         for begins, answers, tells in (
             ("(sheet", "", "it does not take the usual lines"),
+            ("(user B", "", "it does not take the usual lines"),
             ("(view)", "(root r)\n(child (c))\n(end 2)\n", "its views are not those of this one"),
         ):
             self.make_other(OLDER % tuple(map(json.dumps, (library_file, begins, answers))))

@@ -54,17 +54,21 @@ def random_tree(rand, words, level, room):
 
 
 def random_store(rand):
-    """A policy with roles of roles, rules that meet often, and a small tree; some nodes have names of subjects."""
+    """A policy with roles of roles, rules that meet often, and a small tree; some nodes have names of subjects, and
+    labels and names stand in both cases."""
+    def typed(name):
+        return rand.choice([name, name, name.lower()])
+
     names = [f"S{number}" for number in range(rand.randrange(1, 7))]
-    words = ["a", "b", "c", *names[:2]]
+    words = ["a", "b", "c", *names[:2], "A", "B", *map(str.lower, names[:2])]
     lines = [f"(subject {name})" for name in names]
     pairs = [(name, role) for place, name in enumerate(names) for role in names[:place]]
-    lines += [f"(isa {name} {role})" for name, role in rand.sample(pairs, rand.randrange(len(pairs) + 1))]
+    lines += [f"(isa {typed(name)} {typed(role)})" for name, role in rand.sample(pairs, rand.randrange(len(pairs) + 1))]
     for _ in range(rand.randrange(1, 25)):
         says = rand.choice(["accept", "accept", "deny"])
         right = rand.choice(["read", "position", *RIGHTS])
         path = "//*" if rand.random() < 0.2 else random_path(rand, words)
-        lines.append(f"(rule {says} {right} {path} {rand.choice(names)})")
+        lines.append(f"(rule {says} {right} {path} {typed(rand.choice(names))})")
     lines.append(f"(root {rand.choice(words)})")
     return lines + [f"(child {random_tree(rand, words, 1, rand.choice([3, 5, 11]))})" for _ in range(rand.randrange(5))]
 
@@ -208,6 +212,18 @@ class Places(office.Office):
 class Why(office.Office):
     FIELDS = ["/school/mon/lesson/class", "/school/mon/lesson/room", "/school/mon/lesson/note"]
 
+    def test_in_either_case(self):
+        """The reader as declared, nodes as stored; siblings that share a label in either case have numbers."""
+        lines = ["(subject staff)", "(subject SHA)", "(isa sha Staff)", "(rule accept read //ROOM/* STAFF)"]
+        lines += ["(rule accept position /* staff)", "(root school)", "(child (room (R12) (r12)))"]
+        self.office("new", "store", says="an empty store")
+        self.office("run", "-q", "store", given=lines)
+        told = self.office("why", "store", "--as", "sha", "//r12")
+        self.assertEqual(told, self.office("why", "store", "--as", "SHA", "/School/Room/R12"))
+        self.assertIn("/school/room/R12[1] is hidden from SHA\n", told)
+        self.assertIn("/school/room/r12[2] is hidden from SHA\n", told)
+        self.assertIn("rule 1: (rule accept read //ROOM/* staff), since SHA isa staff\n", told)
+
     def test_the_example(self):
         self.school()
         self.assertEqual(
@@ -297,7 +313,9 @@ class Check(office.Office):
     def test_a_word_that_no_node_has(self):
         says = "selects no node: no node is called notes; did you mean note?"
         self.finds([*STAFF, "(rule deny read //notes staff)", *SCHOOL], ("slip", "unknown-word", 3), says=says)
-        self.finds([*STAFF, "(rule deny read //Note staff)", *SCHOOL], ("slip", "unknown-word", 3), says="note?")
+        self.finds([*STAFF, "(rule deny read //NOTES staff)", *SCHOOL], ("slip", "unknown-word", 3), says="NOTES; did")
+        # in either case
+        self.finds([*STAFF, "(rule deny read //NOTE/* staff)", "(rule deny read /School/MON/lesson staff)", *SCHOOL])
         says = "no node is called gym"
         self.finds([*STAFF, "(rule deny read //gym/* staff)", *SCHOOL], ("hint", "unknown-word", 3), says=says)
 
@@ -398,7 +416,7 @@ class Check(office.Office):
             if not checked.decider.policy.rules:
                 continue
             before = checked.decider.decide_all()
-            words = [node.label in checked.decider.words for node in checked.decider.nodes]
+            words = [checked.decider.is_word(node.label) for node in checked.decider.nodes]
             for _, kind, number in found:
                 if kind in told:
                     told[kind] += 1
@@ -438,7 +456,7 @@ class Check(office.Office):
             found, checked = self.findings(random_store(rand))
             decider = checked.decider
             behind = any(
-                seen is Seen.RESTRICTED and node.label in decider.words
+                seen is Seen.RESTRICTED and decider.is_word(node.label)
                 for one in decider.decide_all()
                 for node, seen in zip(decider.nodes, one.seen)
             )
@@ -479,6 +497,8 @@ class Check(office.Office):
             ("//$", "//me", True),
             ("//you", "//$", False),
             ("/a/b/c", "/*//c", True),
+            ("//A/b", "//a/B", True),
+            ("//ME", "//$", True),
         ):
             self.assertEqual(is_within(path, other, ["me"]), within, (path, other))
         for path, other, within in (
@@ -493,7 +513,7 @@ class Check(office.Office):
     def test_random_rules_within_others(self):
         """What is said to be within is so in random trees; what is not is mostly seen not to be."""
         rand = random.Random(11)
-        words, own = ["a", "b", "role"], ["me", "role"]
+        words, own = ["a", "b", "role", "A", "Role"], ["me", "role"]
         trees = []
         for _ in range(60):
             text = f"(x {random_tree(rand, [*words, 'c', 'me'], 0, 6)})"

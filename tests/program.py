@@ -131,6 +131,8 @@ def limits_of_the_policy():
     expect("a 65th subject, declared twice", subjects + b"(subject s0)\n", OK * 64 + refused(5))
     expect("a 65th subject, RESTRICTED", subjects + b"(subject RESTRICTED)\n", OK * 64 + refused(7))
     expect("RESTRICTED as a subject", b"(subject RESTRICTED)\n(subject a)\n", refused(9) + OK)
+    expect("RESTRICTED as a subject in another case", b"(subject restricted)\n(subject Restricted)\n(subject a)\n", refused(9) * 2 + OK)
+    expect("a name declared twice in another case", b"(subject a)\n(subject A)\n(subject B)\n(isa b A)\n(isa B a)\n", OK + refused(5) + OK * 2 + refused(5))
 
     pairs = [(n, r) for n in range(64) for r in range(n)]
     isa = [b"(isa s%d s%d)\n" % pair for pair in pairs]
@@ -194,6 +196,18 @@ def the_longest_answers():
     )
 
 
+def every_letter():
+    """A to Z in both cases, and the bytes beside them: letters alone have a case."""
+    letters, beside = b"abcdefghijklmnopqrstuvwxyz", b"-._0123456789"
+    nodes = bytes(sorted(letters + letters.upper() + beside))
+    tree = b"(child (x " + b" ".join(b"(n%c)" % byte for byte in nodes) + b"))\n"
+    begin = b"(subject s)\n(rule accept read //* S)\n(root r)\n" + tree + b"(user S)\n"
+    for byte in nodes:
+        hits = sorted({byte} | set(bytes([byte]).swapcase()) if chr(byte).isalpha() else {byte})
+        wanted = b"".join(b"(hit 2 n%c)\n" % hit for hit in hits) + b"(end %d)\n" % len(hits)
+        expect(f"the node n{byte:c} in either case", begin + b"(query //N%c)\n" % byte, OK * 5 + wanted)
+
+
 def the_example():
     expect("the example's view", EXAMPLE, OK * 10 + EXAMPLE_VIEW)
     expect("the whole example", EXAMPLE + EXAMPLE_CHANGES, OK * 10 + EXAMPLE_VIEW + EXAMPLE_DONE)
@@ -228,7 +242,7 @@ def sheet(view, room):
     for n in range(1, 9):
         row = [str(n)]
         for _, periods in days:
-            rooms = [lessons for _, children in periods[n - 1 : n] for label, lessons in children if label == room]
+            rooms = [lessons for _, children in periods[n - 1 : n] for label, lessons in children if label.lower() == room.lower()]
             row.append(next((label for lessons in rooms[:1] for label, _ in lessons[:1]), ""))
         rows.append(row)
     return "".join(f"{first} " + "".join(f"{label:13.13}|" for label in cells) + "\n" for first, *cells in rows).encode()
@@ -246,7 +260,7 @@ def a_school_week():
 def sheets_for_the_doors():
     root, days = tree = a_school_week()
     school = [*policy_of_readers(), f"(root {root})", *(f"(child {week.tree_text(day)})" for day in days)]
-    rooms = sorted({room for _, periods in days for _, rooms in periods for room, _ in rooms}) + ["RESTRICTED", "R99", LONG_LABEL]
+    rooms = sorted({room for _, periods in days for _, rooms in periods for room, _ in rooms}) + ["RESTRICTED", "restricted", "R99", LONG_LABEL, LONG_LABEL.upper()]
     lines = [line for name in READERS for line in (f"(user {name})", *(f"(sheet {room})" for room in rooms))]
     sheets = {name: [sheet(shown(tree, *how), room) for room in rooms] for name, how in READERS.items()}
     # what is expected tells readers and rooms apart
@@ -349,7 +363,7 @@ def the_limit_of_the_input():
 
 
 def main():
-    tests = [lines_and_their_ends, long_lines, bytes_0_to_255, limits_of_the_policy, labels_of_24_and_25_bytes, levels_and_records, the_longest_answers, the_example]
+    tests = [lines_and_their_ends, long_lines, bytes_0_to_255, limits_of_the_policy, labels_of_24_and_25_bytes, levels_and_records, the_longest_answers, every_letter, the_example]
     tests += [sheets_for_the_doors, refused_sheets, pieces_of_any_size, answers_come_at_once, closed_and_failing_streams, the_limit_of_the_input]
     for test in tests:
         test()

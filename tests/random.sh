@@ -30,13 +30,16 @@ else
     run 'the straightforward version and itself as a library' "$bin/compare" --library "$bin/examples/libshared.so"
     for wrong in rename-into-word rename-of-word no-own-names update-hidden stored-labels count-freed spare-hidden readers-words place-by-place \
         stored-hits last-hit none-for-one-hit room-for-all-hits names-of-roles login-in-commands login-in-rules direct-roles rules-name names-between \
-        every-name name-by-name stored-sheet stored-days stored-periods stored-lessons true-labels true-rooms second-room room-with-lesson \
+        every-name name-by-name exact-steps exact-own exact-words exact-names exact-ban exact-ban-in-13 exact-names-in-13 exact-rooms isa-by-text \
+        a-not-folded z-not-folded low-bits shown-folded stored-folded case-not-renamed forms-in-any-case \
+        stored-sheet stored-days stored-periods stored-lessons true-labels true-rooms second-room room-with-lesson \
         sixth-for-fifth six-days labels-uncut no-blank-cells no-rows-for-hidden-root no-restricted-room \
-        any-closing-tag text-dropped text-not-trimmed texts-joined second-root labels-before-document root-not-counted root-alone-at-d; do
+        any-closing-tag closing-tag-in-any-case text-dropped text-not-trimmed texts-joined second-root labels-before-document root-not-counted root-alone-at-d; do
         run "$wrong is found by the comparer" fails "$bin/compare" --wrong "$wrong"
     done
     run 'the view alone and the straightforward version' "$bin/views"
-    for wrong in first-rule-wins login-in-rules direct-roles rules-name names-between every-name name-by-name; do
+    for wrong in first-rule-wins login-in-rules direct-roles rules-name names-between every-name name-by-name \
+        exact-steps exact-own exact-ban-in-13 exact-names-in-13 a-not-folded low-bits shown-folded; do
         run "$wrong is found by the tester of views" fails "$bin/views" --wrong "$wrong"
     done
 fi

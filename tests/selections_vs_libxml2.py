@@ -1,9 +1,9 @@
 #!/usr/bin/env python3
 """Selections against libxml2, by xmllint (Debian's package libxml2-utils), on random pairs of path and tree.
 
-The same path runs on a table through crate `trials`, and on the view written as XML through xmllint. There `$` is any element whose name is one of those
-that the subject is (document 02, card 5), `*[self::SHA or self::div ..]`; all else is read alike. Every node has its number as an attribute, and the root one
-attribute more, so that no answer is empty.
+The same path runs on a table through crate `trials`, and on the view written as XML through xmllint. There a label is any element whose name is equal to it
+whatever the case of A to Z (document 02, card 6), `*[translate(name(), "ABC..", "abc..") = ..]`, and `$` any whose name is equal to one of those that the
+subject is (card 5); all else is read alike. Every node has its number as an attribute, and the root one attribute more, so that no answer is empty.
 Fails where a pair differs, where fewer than a third of the pairs select some nodes and not all, or where an element of the grammar is in fewer than
 100 pairs. The seed is fixed: every run tries the same pairs.
 """
@@ -13,6 +13,7 @@ import concurrent.futures
 import os
 import random
 import re
+import string
 import subprocess
 import sys
 import tempfile
@@ -21,13 +22,13 @@ sys.path.insert(0, os.path.dirname(os.path.abspath(__file__)))
 import trials  # noqa: E402
 
 SEED, TREES, PATHS_EACH = 20240501, 125, 20
-LABELS = ["a", "b", "c", "or", "div", "_x", "SHA", "a-b", "x.y"]
-NAMES = ["a", "div", "or", "SHA"]
-ISA = [("or", "div"), ("SHA", "or")]
-USER, IS = "SHA", ["SHA", "or", "div"]
-OWN = "*[" + " or ".join(f"self::{name}" for name in IS) + "]"
+LABELS = ["a", "b", "c", "or", "div", "_x", "SHA", "a-b", "x.y", "A", "B", "Or", "DIV", "_X", "sha", "A-b", "X.Y", "AZ", "az"]
+NAMES = ["a", "Div", "or", "SHA"]
+ISA = [("or", "Div"), ("SHA", "or")]
+USER, IS = "SHA", ["SHA", "or", "Div"]
+FOLDED = f'translate(name(), "{string.ascii_uppercase}", "{string.ascii_lowercase}")'
 LEVEL_MAX = 11
-ELEMENTS = ["child step", "descendant step", "label", "`*`", "position bracket", "path bracket", "nested bracket", "two brackets on a step", "`$`", "a position after `$`", "several steps", "RESTRICTED by name"]
+ELEMENTS = ["label in another case", "child step", "descendant step", "label", "`*`", "position bracket", "path bracket", "nested bracket", "two brackets on a step", "`$`", "a position after `$`", "several steps", "RESTRICTED by name"]
 
 
 def random_tree(rand, level, left):
@@ -64,6 +65,11 @@ def random_test(rand, used, labels):
     label = rand.choice(labels)
     if label == "RESTRICTED":
         used["RESTRICTED by name"] += 1
+    if rand.random() < 0.3:
+        typed = "".join(rand.choice([byte.lower(), byte.upper()]) for byte in label)
+        if typed != label:
+            used["label in another case"] += 1
+        return typed
     return label
 
 
@@ -107,9 +113,20 @@ def xml_of(view):
     return "".join(text)
 
 
+def equal_to(labels):
+    """The elements whose name is equal to one of these."""
+    return "*[" + " or ".join(f'{FOLDED} = "{label.lower()}"' for label in labels) + "]"
+
+
+def xpath_of(path):
+    """A path as XPath reads it: its labels and `$` by what is equal to them."""
+    test = re.compile(r"(?:(?<=[/\[])|^)(?:\$|(?![0-9]+\])[A-Za-z0-9_.-]+)")
+    return test.sub(lambda found: equal_to(IS if found[0] == "$" else [found[0]]), path)
+
+
 def ask_xmllint(xmllint, file, path, count):
     """The marks that libxml2 gives."""
-    query = path.replace("$", OWN) + "/@n | /*/@z"
+    query = xpath_of(path) + "/@n | /*/@z"
     run = subprocess.run([xmllint, "--xpath", query, file], capture_output=True, text=True)
     if run.returncode != 0 or 'z="z"' not in run.stdout:
         sys.exit(f"FAILED: xmllint on {path}: {run.stdout}{run.stderr}")
@@ -132,7 +149,7 @@ def main():
             table = trials.table_of(nodes, len(nodes) + rand.randrange(3))
             shown = random_view(rand, nodes)
             view = [(nodes[x % trials.HIDDEN][0], "RESTRICTED" if trials.HIDDEN <= x else nodes[x][1]) for x in shown]
-            labels = sorted({label for _, label in view}) * 3 + LABELS
+            labels = sorted({label for _, label in view}) * 3 + LABELS + ["RESTRICTED"]
             file = os.path.join(folder, f"{number}.xml")
             with open(file, "w", encoding="ascii") as out:
                 out.write(xml_of(view))

@@ -8,7 +8,7 @@
 //! Without a library it tests the straightforward version. --self-test puts each false reading into that version, and each must be found.
 
 use std::process::ExitCode;
-use timetable::label::{Label, RESTRICTED};
+use timetable::label::{listed, Label, RESTRICTED};
 use timetable::policy::Policy;
 use timetable::reading::{Reading, FALSE_READINGS};
 use timetable::sheet::{DAYS, SHEET_BYTES};
@@ -31,7 +31,8 @@ const CROWDED: usize = 40;
 
 // --- The two suppositions ---
 
-/// Why two trees are not alike to a reader, if they are not.
+/// Why two trees are not alike to a reader, if they are not. What is shown is compared as bytes, true labels behind RESTRICTED whatever their case (document 02,
+/// card 6).
 fn difference(policy: &Policy, reader: usize, trees: [&[Node]; 2]) -> Option<&'static str> {
     let views = trees.map(|nodes| view(nodes, &policy.rights(nodes, reader)));
     if look(&views[0]) != look(&views[1]) {
@@ -41,12 +42,22 @@ fn difference(policy: &Policy, reader: usize, trees: [&[Node]; 2]) -> Option<&'s
     for place in 0..views[0].nodes.len() {
         if views[0].nodes[place].label == RESTRICTED {
             let labels = [0, 1].map(|run| trees[run][views[run].stored[place]].label);
-            if labels[0] != labels[1] && labels.iter().any(|label| words.contains(label)) {
+            if !labels[0].same(&labels[1]) && labels.iter().any(|label| listed(&words, label, Label::same)) {
                 return Some("behind RESTRICTED in the same place the true labels differ, and one is a policy word");
             }
         }
     }
     None
+}
+
+/// Whether somewhere behind RESTRICTED the two trees have a policy word in two cases.
+fn words_in_two_cases(policy: &Policy, reader: usize, trees: [&[Node]; 2]) -> bool {
+    let views = trees.map(|nodes| view(nodes, &policy.rights(nodes, reader)));
+    let words = policy.words();
+    views[0].nodes.iter().enumerate().filter(|(_, node)| node.label == RESTRICTED).any(|(place, _)| {
+        let labels = [0, 1].map(|run| trees[run][views[run].stored[place]].label);
+        labels[0] != labels[1] && listed(&words, &labels[0], Label::same)
+    })
 }
 
 // --- Pairs ---
@@ -65,6 +76,7 @@ struct Pair {
     reader: usize,
     runs: [Run; 2],
     login: bool,
+    two_cases: bool, // behind RESTRICTED, of a policy word
 }
 
 fn all_rights(policy: &Policy, nodes: &[Node]) -> Vec<Vec<u8>> {
@@ -82,14 +94,15 @@ fn edit_node(tree: &mut Tree, number: &mut usize, edit: &mut dyn FnMut(&mut Tree
     }
 }
 
-/// The tree with one label, one child or one new child changed somewhere.
+/// The tree with one label, its case, one child or one new child changed somewhere.
 fn mutated(random: &mut Random, tree: &Tree) -> Tree {
     let mut tree = tree.clone();
     let mut number = random.below(tree.size());
-    let kind = random.below(3);
+    let kind = random.below(4);
     edit_node(&mut tree, &mut number, &mut |node| match kind {
         0 => node.label = generate::some_label(random),
-        1 if !node.children.is_empty() => {
+        1 => node.label = generate::other_case(random, &node.label),
+        2 if !node.children.is_empty() => {
             let child = random.below(node.children.len());
             node.children.remove(child);
         }
@@ -179,11 +192,16 @@ fn make_pair(engine: &dyn Engine, random: &mut Random) -> Result<Pair, String> {
         };
         let users = [user(), user()];
         let runs = [make_run(engine, random, &policy, users[0], &first, tight)?, make_run(engine, random, &policy, users[1], &second, tight)?];
-        return Ok(Pair { policy, reader, runs, login });
+        let two_cases = words_in_two_cases(&policy, reader, [&runs[0].store.table.nodes, &runs[1].store.table.nodes]);
+        return Ok(Pair { policy, reader, runs, login, two_cases });
     }
 }
 
 // --- Lines ---
+
+fn login_line(random: &mut Random, pair: &Pair) -> String {
+    format!("(user {})", generate::typed(random, &pair.policy.subjects[pair.reader]))
+}
 
 fn next_line(random: &mut Random, pair: &Pair) -> String {
     let nodes = &pair.runs[0].store.table.nodes;
@@ -201,7 +219,7 @@ fn next_line(random: &mut Random, pair: &Pair) -> String {
             }
         }
         70..=89 => generate::question(random, &view, &own),
-        90..=92 => format!("(user {})", generate::text_of(&pair.policy.subjects[pair.reader])),
+        90..=92 => login_line(random, pair),
         _ => generate::refused(random),
     }
 }
@@ -209,6 +227,7 @@ fn next_line(random: &mut Random, pair: &Pair) -> String {
 #[derive(Default)]
 struct Counts {
     pairs: usize,
+    two_cases: usize,
     loaded: usize,
     lines: usize,
     compared: usize,
@@ -268,8 +287,7 @@ fn run_pair(engine: &dyn Engine, random: &mut Random, pair: &mut Pair, counts: &
     let mut left = random.within(20, 60);
     while left > 0 {
         left -= 1;
-        let line =
-            if pair.login && lines.is_empty() { format!("(user {})", generate::text_of(&pair.policy.subjects[pair.reader])) } else { next_line(random, pair) };
+        let line = if pair.login && lines.is_empty() { login_line(random, pair) } else { next_line(random, pair) };
         let area_length = match random.below(100) {
             0..=5 if line.starts_with("(sheet ") => random.within(SHEET_BYTES - 1, SHEET_BYTES),
             0..=5 if !lines.is_empty() => random.below(60),
@@ -364,6 +382,7 @@ fn run(engine: &dyn Engine, seed: u64, lines: usize) -> (Counts, Option<Finding>
                 return (counts, Some(finding));
             }
         };
+        counts.two_cases += usize::from(pair.two_cases);
         counts.loaded += pair.runs.iter().filter(|run| run.loaded).count();
         let starts = [0, 1].map(|run| nest(&pair.runs[run].store.table.nodes));
         let capacities = [0, 1].map(|run| pair.runs[run].store.table.capacity);
@@ -379,6 +398,7 @@ fn run(engine: &dyn Engine, seed: u64, lines: usize) -> (Counts, Option<Finding>
 
 fn print_counts(counts: &Counts) {
     println!("{} pairs, {} of their trees loaded from a document", counts.pairs, counts.loaded);
+    println!("{} pairs with a policy word in two cases behind RESTRICTED", counts.two_cases);
     println!("{} lines, {} of them before the first 11 and compared", counts.lines, counts.compared);
     let percent = |part: usize| 100 * part / counts.lines.max(1);
     println!(
@@ -395,7 +415,8 @@ fn print_counts(counts: &Counts) {
     println!("rights compared on {} kept nodes", counts.kept_nodes);
 }
 
-/// One run; true if nothing is found, at least 30 of 100 lines are changes that do something, trees were loaded, and sheets of each kind seen.
+/// One run; true if nothing is found, at least 30 of 100 lines are changes that do something, trees were loaded, a policy word stood in two cases behind
+/// RESTRICTED, and sheets of each kind were seen.
 fn test(engine: &dyn Engine, seed: u64, lines: usize) -> bool {
     let (counts, finding) = run(engine, seed, lines);
     print_counts(&counts);
@@ -409,7 +430,7 @@ fn test(engine: &dyn Engine, seed: u64, lines: usize) -> bool {
             if !unseen.is_empty() {
                 println!("FAILED: not seen: {}", unseen.join(", "));
             }
-            100 * counts.effective_changes >= 30 * counts.lines && counts.loaded > 0 && unseen.is_empty()
+            100 * counts.effective_changes >= 30 * counts.lines && counts.loaded > 0 && counts.two_cases > 0 && unseen.is_empty()
         }
     }
 }
@@ -439,5 +460,39 @@ fn main() -> ExitCode {
         ExitCode::SUCCESS
     } else {
         ExitCode::FAILURE
+    }
+}
+
+#[cfg(test)]
+mod tests {
+    use super::*;
+    use timetable::path::read_path;
+    use timetable::policy::{Rule, POSITION, READ};
+
+    /// What tells two trees apart to one who reads all but what is labelled key or lies in a room, and sees that it is there.
+    fn told(children: [Tree; 2]) -> Option<&'static str> {
+        let rule = |accept, right, path: &str| Rule { accept, right, subject: 0, path: read_path(path.as_bytes()).expect("a path") };
+        let rules = vec![rule(true, READ, "//*"), rule(true, POSITION, "//*"), rule(false, READ, "//key"), rule(false, READ, "//room/*")];
+        let policy = Policy { subjects: vec![generate::label("ann")], isa: Vec::new(), rules };
+        let [one, other] = children.map(|child| flatten(&tree("school", vec![child])).0);
+        difference(&policy, 0, [&one, &other])
+    }
+
+    fn tree(label: &str, children: Vec<Tree>) -> Tree {
+        Tree { label: generate::label(label), origin: None, children }
+    }
+
+    #[test]
+    fn shown_labels_are_compared_as_bytes_and_hidden_ones_in_either_case() {
+        let leaf = |label: &str| tree(label, Vec::new());
+        let room = |label: &str| tree("room", vec![leaf(label)]);
+        assert_eq!(told([leaf("hall"), leaf("hall")]), None);
+        assert!(told([leaf("hall"), leaf("Hall")]).is_some());
+        assert!(told([room("x"), tree("Room", vec![leaf("x")])]).is_some());
+        assert_eq!(told([leaf("key"), leaf("KEY")]), None); // a policy word
+        assert_eq!(told([room("exam"), room("Exam")]), None);
+        assert_eq!(told([room("exam"), room("film")]), None); // neither is one
+        assert!(told([room("exam"), room("Key")]).is_some());
+        assert!(told([room("ROOM"), room("key")]).is_some());
     }
 }

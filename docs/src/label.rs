@@ -3,7 +3,8 @@
 pub const LABEL_MAXIMUM: usize = 24;
 pub const RECORD_BYTES: usize = 32;
 
-/// 1 to 24 letters, digits, hyphens, underscores and full stops; zeros behind.
+/// 1 to 24 letters, digits, hyphens, underscores and full stops; zeros behind. `==` compares bytes, as what is shown or stored is compared; labels are equal by
+/// `same`.
 #[derive(Clone, Copy, PartialEq, Eq, Hash, Debug)]
 pub struct Label {
     length: u8,
@@ -30,6 +31,19 @@ impl Label {
     pub fn text(&self) -> &[u8] {
         &self.bytes[..self.length as usize]
     }
+
+    /// Whether two labels are equal: "Label equality now ignores the case of A to Z everywhere that two labels are compared" (document 02, card 6).
+    pub fn same(&self, other: &Label) -> bool {
+        self.length == other.length && self.bytes.eq_ignore_ascii_case(&other.bytes)
+    }
+}
+
+/// How two labels are compared: by `Label::same`, or as a false reading has it.
+pub type Equality = fn(&Label, &Label) -> bool;
+
+/// Whether a label is equal to one of these.
+pub fn listed(labels: &[Label], label: &Label, equal: Equality) -> bool {
+    labels.iter().any(|other| equal(other, label))
 }
 
 pub fn all_zero(bytes: &[u8]) -> bool {
@@ -50,4 +64,23 @@ pub fn write_record(record: &mut [u8], first: u8, text: &[u8]) {
     record[0] = first;
     record[1] = text.len() as u8;
     record[2..2 + text.len()].copy_from_slice(text);
+}
+
+#[cfg(test)]
+mod tests {
+    use super::*;
+
+    #[test]
+    fn letters_alone_have_a_case() {
+        let bytes: Vec<u8> = (0..=255).filter(|byte| is_label_byte(*byte)).collect();
+        assert_eq!(bytes.len(), 2 * 26 + 10 + 3);
+        for one in &bytes {
+            for other in &bytes {
+                let wanted = one == other || (one.is_ascii_alphabetic() && one ^ other == b'a' ^ b'A');
+                let label = |byte: &u8| Label::new(&[b'x', *byte]).expect("a label");
+                assert_eq!(label(one).same(&label(other)), wanted, "{one} {other}");
+            }
+        }
+        assert!(!Label::new(b"ab").expect("a label").same(&Label::new(b"abc").expect("a label")));
+    }
 }

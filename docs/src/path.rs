@@ -1,6 +1,6 @@
 //! Paths (document 01, Paths): reading one, and the nodes it selects.
 
-use crate::label::{is_label_byte, Label};
+use crate::label::{is_label_byte, listed, Equality, Label};
 use crate::table::Node;
 
 pub const STEPS_MAXIMUM: usize = 16;
@@ -13,6 +13,22 @@ pub enum Test {
     Label(Label),
     Any,
     Own,
+}
+
+impl Test {
+    /// Whether a node with this label passes; `own` are the names that `$` passes.
+    pub fn passes(&self, label: &Label, own: &[Label]) -> bool {
+        match self {
+            Test::Any => true,
+            Test::Own => listed(own, label, Label::same),
+            Test::Label(wanted) => wanted.same(label),
+        }
+    }
+
+    /// Whether the test is for a label equal to this.
+    pub fn is_label(&self, label: &Label, equal: Equality) -> bool {
+        matches!(self, Test::Label(wanted) if equal(wanted, label))
+    }
 }
 
 #[derive(Clone, PartialEq, Eq, Debug)]
@@ -124,12 +140,8 @@ pub fn read_path(text: &[u8]) -> Option<Vec<Step>> {
 // --- Selecting ---
 
 /// Which nodes pass a step: its test, then its brackets from left to right.
-fn passing(nodes: &[Node], step: &Step, own: &[Label]) -> Vec<bool> {
-    let mut passes: Vec<bool> = match &step.test {
-        Test::Any => vec![true; nodes.len()],
-        Test::Own => nodes.iter().map(|node| own.contains(&node.label)).collect(),
-        Test::Label(label) => nodes.iter().map(|node| node.label == *label).collect(),
-    };
+fn passing(nodes: &[Node], step: &Step, test: &impl Fn(&Test, &Label) -> bool) -> Vec<bool> {
+    let mut passes: Vec<bool> = nodes.iter().map(|node| test(&step.test, &node.label)).collect();
     for bracket in &step.brackets {
         match bracket {
             Bracket::Position(position) => {
@@ -143,7 +155,7 @@ fn passing(nodes: &[Node], step: &Step, own: &[Label]) -> Vec<bool> {
                 }
             }
             Bracket::Path(path) => {
-                let finds = finding(nodes, path, own);
+                let finds = finding(nodes, path, test);
                 for number in 0..nodes.len() {
                     passes[number] &= finds[number];
                 }
@@ -154,10 +166,10 @@ fn passing(nodes: &[Node], step: &Step, own: &[Label]) -> Vec<bool> {
 }
 
 /// The nodes from which a path finds something.
-fn finding(nodes: &[Node], path: &[Step], own: &[Label]) -> Vec<bool> {
+fn finding(nodes: &[Node], path: &[Step], test: &impl Fn(&Test, &Label) -> bool) -> Vec<bool> {
     let mut finds = vec![true; nodes.len()]; // nothing is left to find
     for step in path.iter().rev() {
-        let passes = passing(nodes, step, own);
+        let passes = passing(nodes, step, test);
         let mut before = vec![false; nodes.len()];
         for number in (0..nodes.len()).rev() {
             let found = passes[number] && finds[number];
@@ -172,12 +184,17 @@ fn finding(nodes: &[Node], path: &[Step], own: &[Label]) -> Vec<bool> {
     finds
 }
 
-/// The nodes that a path selects from the document node; `own` are the labels that pass `$`.
+/// The nodes that a path selects from the document node; `own` are the names that `$` passes.
 pub fn select(nodes: &[Node], path: &[Step], own: &[Label]) -> Vec<bool> {
+    select_by(nodes, path, &|test, label| test.passes(label, own))
+}
+
+/// The nodes that a path selects; `test` says whether a label passes a test.
+pub fn select_by(nodes: &[Node], path: &[Step], test: &impl Fn(&Test, &Label) -> bool) -> Vec<bool> {
     let mut from = vec![false; nodes.len()];
     let mut from_document = true;
     for step in path {
-        let passes = passing(nodes, step, own);
+        let passes = passing(nodes, step, test);
         let mut next = vec![false; nodes.len()];
         let mut reached = vec![false; nodes.len()]; // below a node that the step starts from
         for (number, node) in nodes.iter().enumerate() {
@@ -220,10 +237,11 @@ mod tests {
         let mut found = Vec::new();
         for parent in parents {
             let mut list = children(nodes, parent);
+            let small = |label: &Label| label.text().to_ascii_lowercase();
             list.retain(|number| match &step.test {
                 Test::Any => true,
-                Test::Own => own.contains(&nodes[*number].label),
-                Test::Label(label) => nodes[*number].label == *label,
+                Test::Own => own.iter().any(|name| small(name) == small(&nodes[*number].label)),
+                Test::Label(label) => small(label) == small(&nodes[*number].label),
             });
             for bracket in &step.brackets {
                 list = match bracket {
@@ -241,7 +259,7 @@ mod tests {
     #[test]
     fn selections_are_those_of_xpath() {
         let mut random = Random::new(1);
-        let own = ["ann", "staff"].map(generate::label);
+        let own = ["Ann", "staff"].map(generate::label);
         let mut hits = 0;
         for _ in 0..20_000 {
             let size = random.within(1, 14);
@@ -281,5 +299,22 @@ mod tests {
         assert_eq!(selected("/r/$[4]"), []);
         assert_eq!(selected("//$/$"), [4]); // two names in one path
         assert_eq!(selected("//*[$][$[2]]"), [0]);
+    }
+
+    #[test]
+    fn a_step_passes_in_either_case() {
+        let leaf = |text: &str| Tree { label: generate::label(text), origin: None, children: Vec::new() };
+        let nodes = flatten(&Tree { children: ["r12", "R12", "R-12", "ANN", "Room", "AZaz"].map(leaf).to_vec(), ..leaf("school") }).0;
+        let own = ["ann"].map(generate::label);
+        let selected = |text: &str| {
+            let marks = select(&nodes, &read_path(text.as_bytes()).expect("a path"), &own);
+            (0..marks.len()).filter(|number| marks[*number]).collect::<Vec<usize>>()
+        };
+        assert_eq!(selected("/SCHOOL/R12"), [1, 2]);
+        assert_eq!(selected("//r12[2]"), [2]); // counted together
+        assert_eq!(selected("//r-12"), [3]);
+        assert_eq!(selected("//$"), [4]);
+        assert_eq!(selected("/*[rOOM]"), [0]);
+        assert_eq!(selected("//azAZ"), [6]);
     }
 }

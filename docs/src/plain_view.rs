@@ -12,12 +12,13 @@ use crate::step::{AREA_SHORT, BAD_STORE, NO_FORM, NO_USER, WRONG_STAGE};
 use crate::table::{CAPACITY_MAXIMUM, COUNT_BYTES, LEVEL_MAXIMUM};
 use std::io::Write;
 
-/// A label with the zeros behind it: two are equal where the labels are.
-type Padded = [u8; LABEL_MAXIMUM];
+/// A label in small letters with the zeros behind it: two are the same bytes where the labels are equal (document 02, card 6).
+type Folded = [u8; LABEL_MAXIMUM];
 const LABEL_AT: usize = 2;
 
-fn padded(record: &[u8]) -> &Padded {
-    record[LABEL_AT..].first_chunk().expect("a record")
+fn folded(record: &[u8]) -> Folded {
+    let label: &Folded = record[LABEL_AT..].first_chunk().expect("a record");
+    label.map(|byte| byte.to_ascii_lowercase())
 }
 
 fn text(record: &[u8]) -> &[u8] {
@@ -28,7 +29,7 @@ fn text(record: &[u8]) -> &[u8] {
 
 /// A label that is not RESTRICTED, and zeros behind it.
 fn label_ok(record: &[u8]) -> bool {
-    read_record(record).is_some_and(|(_, text)| text.iter().all(|&byte| is_label_byte(byte)) && text != RESTRICTED.text())
+    read_record(record).is_some_and(|(_, text)| text.iter().all(|&byte| is_label_byte(byte)) && !text.eq_ignore_ascii_case(RESTRICTED.text()))
 }
 
 fn records_ok(records: &[u8]) -> bool {
@@ -55,8 +56,9 @@ fn records(table: &[u8]) -> Option<&[u8]> {
 }
 
 fn subjects_ok(subjects: &[u8]) -> bool {
-    let names = || subjects.chunks_exact(RECORD_BYTES);
-    names().enumerate().all(|(number, name)| name[0] == 0 && label_ok(name) && names().take(number).all(|earlier| padded(earlier) != padded(name)))
+    let sound = subjects.chunks_exact(RECORD_BYTES).all(|name| name[0] == 0 && label_ok(name));
+    let names: Vec<Folded> = subjects.chunks_exact(RECORD_BYTES).map(folded).collect();
+    sound && (0..names.len()).all(|number| !names[..number].contains(&names[number]))
 }
 
 fn isa_ok(isa: &[u8], subjects: usize) -> bool {
@@ -135,52 +137,52 @@ fn store<'a>(state: &'a [u8], table: &'a [u8]) -> Option<Store<'a>> {
 // --- Rules and paths ---
 
 /// What a step lets pass: any label, one label, or for `$` the user's names (document 02, card 5).
-enum Test<'a> {
+enum Test {
     Any,
-    Label(&'a Padded),
+    Label(Folded),
     Own,
 }
 
 /// A node of a chain: its label, and whether that is one of the user's names.
 #[derive(Clone, Copy)]
-struct Link<'a> {
-    label: &'a Padded,
+struct Link {
+    label: Folded,
     own: bool,
 }
 
 /// A step of a rule's path.
-struct Step<'a> {
+struct Step {
     descendants: bool,
-    test: Test<'a>,
+    test: Test,
 }
 
-impl<'a> Step<'a> {
-    fn new(step: &'a [u8]) -> Step<'a> {
+impl Step {
+    fn new(step: &[u8]) -> Step {
         let test = match text(step) {
             b"*" => Test::Any,
             b"$" => Test::Own,
-            _ => Test::Label(padded(step)),
+            _ => Test::Label(folded(step)),
         };
         Step { descendants: step[0] == 1, test }
     }
 
-    fn passes(&self, node: Link) -> bool {
-        match self.test {
+    fn passes(&self, node: &Link) -> bool {
+        match &self.test {
             Test::Any => true,
-            Test::Label(wanted) => wanted == node.label,
+            Test::Label(wanted) => *wanted == node.label,
             Test::Own => node.own,
         }
     }
 }
 
-struct Rule<'a> {
+struct Rule {
     accept: bool,
     right: u8,
-    path: Vec<Step<'a>>,
+    path: Vec<Step>,
 }
 
-impl<'a> Rule<'a> {
-    fn new(rule: &'a [u8]) -> Rule<'a> {
+impl Rule {
+    fn new(rule: &[u8]) -> Rule {
         let steps = &rule[RULE_STEPS_AT..][..rule[3] as usize * RECORD_BYTES];
         Rule { accept: rule[0] == 1, right: rule[1], path: steps.chunks_exact(RECORD_BYTES).map(Step::new).collect() }
     }
@@ -201,12 +203,12 @@ impl Policy<'_> {
     }
 
     /// The names of these subjects.
-    fn names(&self, roles: u64) -> Vec<&Padded> {
-        self.subjects.chunks_exact(RECORD_BYTES).enumerate().filter(|(subject, _)| roles >> subject & 1 == 1).map(|(_, name)| padded(name)).collect()
+    fn names(&self, roles: u64) -> Vec<Folded> {
+        self.subjects.chunks_exact(RECORD_BYTES).enumerate().filter(|(subject, _)| roles >> subject & 1 == 1).map(|(_, name)| folded(name)).collect()
     }
 
     /// The rules of read and position that apply to a user with these roles, the last one first.
-    fn rules(&self, roles: u64) -> Vec<Rule<'_>> {
+    fn rules(&self, roles: u64) -> Vec<Rule> {
         let applies = |rule: &&[u8]| rule[1] & (READ | POSITION) != 0 && roles >> rule[2] & 1 == 1;
         self.rules.chunks_exact(RULE_BYTES).rev().filter(applies).map(Rule::new).collect()
     }
@@ -218,7 +220,7 @@ fn selects(path: &[Step], chain: &[Link]) -> bool {
     let (mut step, mut level) = (path.len() - 1, chain.len() - 1);
     let mut next = None; // the last step before the `//` passed last, and the next level to put it on
     loop {
-        if step <= level && path[step].passes(chain[level]) {
+        if step <= level && path[step].passes(&chain[level]) {
             if step == 0 && (level == 0 || path[0].descendants) {
                 return true;
             }
@@ -297,9 +299,9 @@ impl Answer {
     }
 }
 
-/// The view of a user with these names: one pass over the records, each compared with the names once, if a rule uses `$`.
-fn view(records: &[u8], rules: &[Rule], names: &[&Padded]) -> Vec<u8> {
-    let mut chain = [Link { label: &[0; LABEL_MAXIMUM], own: false }; LEVEL_MAXIMUM + 1]; // from the root to the node
+/// The view of a user with these names: one pass over the records, each label folded once, and compared with the names once, if a rule uses `$`.
+fn view(records: &[u8], rules: &[Rule], names: &[Folded]) -> Vec<u8> {
+    let mut chain = [Link { label: [0; LABEL_MAXIMUM], own: false }; LEVEL_MAXIMUM + 1]; // from the root to the node
     let uses_own = rules.iter().flat_map(|rule| &rule.path).any(|step| matches!(step.test, Test::Own));
     let mut hidden = LEVEL_MAXIMUM + 1; // the level of the highest node on the way that is not shown
     let mut answer = Answer { bytes: Vec::new(), level: 0, nodes: 0 };
@@ -309,7 +311,7 @@ fn view(records: &[u8], rules: &[Rule], names: &[&Padded]) -> Vec<u8> {
             continue;
         }
         hidden = LEVEL_MAXIMUM + 1;
-        let label = padded(record);
+        let label = folded(record);
         chain[level] = Link { label, own: uses_own && names.contains(&label) };
         match rights(rules, &chain[..=level]) {
             0 => hidden = level,

@@ -1,6 +1,6 @@
 //! Policies and rights (document 01, Rights).
 
-use crate::label::Label;
+use crate::label::{Equality, Label};
 use crate::path::{select, Step, Test};
 use crate::table::Node;
 
@@ -30,8 +30,9 @@ pub struct Policy {
 }
 
 impl Policy {
-    pub fn subject(&self, name: &Label) -> Option<usize> {
-        self.subjects.iter().position(|subject| subject == name)
+    /// The subject with a name equal to this.
+    pub fn subject(&self, name: &Label, equal: Equality) -> Option<usize> {
+        self.subjects.iter().position(|subject| equal(subject, name))
     }
 
     /// Which subjects a subject is: itself, and all that the isa lines lead to.
@@ -115,20 +116,20 @@ mod tests {
 
     fn names_for_own(name: &str) -> Vec<Label> {
         let policy = school();
-        policy.own_names(policy.subject(&label(name)).expect("a subject"))
+        policy.own_names(policy.subject(&label(name), Label::same).expect("a subject"))
     }
 
     #[test]
     fn own_names_are_those_of_all_that_a_subject_is() {
         assert_eq!(names_for_own("SHA"), ["staff", "10B", "tutors", "SHA"].map(label)); // a role of a role, and the login name
         assert_eq!(names_for_own("tutors"), ["staff", "tutors"].map(label)); // not who is a tutor
-        assert_eq!(names_for_own("10B"), ["10B"].map(label));
+        assert_eq!(names_for_own("10b"), ["10B"].map(label)); // found in either case, and as declared
     }
 
     #[test]
     fn own_in_a_rule_passes_all_that_the_asked_subject_is() {
         let under = |text: &str| Tree { label: label(text), origin: None, children: vec![Tree { label: label("x"), origin: None, children: Vec::new() }] };
-        let names = ["10B", "10C", "SHA", "staff", "MEI"];
+        let names = ["10B", "10C", "sha", "Staff", "MEI"];
         let root = Tree { label: label("school"), origin: None, children: names.map(under).to_vec() };
         let nodes = flatten(&root).0;
         let policy = school();
@@ -136,8 +137,8 @@ mod tests {
             let rights = policy.rights(&nodes, subject);
             names.into_iter().enumerate().filter(|(number, _)| rights[2 + 2 * number] == READ).map(|(_, name)| name).collect::<Vec<&str>>()
         };
-        assert_eq!(read_under(4), ["10B", "SHA", "staff"]); // 10B too, though it lies not between SHA and the rule's staff
-        assert_eq!(read_under(3), ["staff"]);
+        assert_eq!(read_under(4), ["10B", "sha", "Staff"]); // 10B too, though it lies not between SHA and the rule's staff
+        assert_eq!(read_under(3), ["Staff"]);
         assert_eq!(read_under(2), [""; 0]); // the rule is not for 10C
     }
 }

@@ -1,9 +1,12 @@
 //! The readings of documents 01 and 02: the right one, and false ones, which the tests of the testers put in.
 
-use crate::label::Label;
-use crate::path::{select, Step};
+use crate::form::Form;
+use crate::label::{listed, Equality, Label, RESTRICTED};
+use crate::path::{select, select_by, Step, Test};
 use crate::policy::Policy;
-use crate::table::Node;
+use crate::state::Checks;
+use crate::table::{Node, Tree};
+use crate::view::View;
 
 /// How document 01 and the cards are read. All but the first are false, and stand here for the tests of the testers alone.
 #[derive(Clone, Copy, PartialEq, Eq, Debug)]
@@ -30,6 +33,22 @@ pub enum Reading {
     NamesBetween,
     EveryName,
     NameByName,
+    ExactSteps,
+    ExactOwn,
+    ExactWords,
+    ExactNames,
+    ExactBan,
+    ExactBanIn13,
+    ExactNamesIn13,
+    ExactRooms,
+    IsaByText,
+    ANotFolded,
+    ZNotFolded,
+    LowBits,
+    ShownFolded,
+    StoredFolded,
+    CaseNotRenamed,
+    FormsInAnyCase,
     StoredSheet,
     StoredDays,
     StoredPeriods,
@@ -45,6 +64,7 @@ pub enum Reading {
     NoRowsForHiddenRoot,
     NoRestrictedRoom,
     AnyClosingTag,
+    ClosingTagInAnyCase,
     TextDropped,
     TextNotTrimmed,
     TextsJoined,
@@ -55,7 +75,7 @@ pub enum Reading {
 }
 
 /// Those that make demand 3 false
-pub const FALSE_READINGS: [(&str, Reading); 17] = [
+pub const FALSE_READINGS: [(&str, Reading); 20] = [
     ("rename-into-word", Reading::RenameIntoWord),
     ("rename-of-word", Reading::RenameOfWord),
     ("no-own-names", Reading::NoOwnNames),
@@ -67,6 +87,9 @@ pub const FALSE_READINGS: [(&str, Reading); 17] = [
     ("readers-words", Reading::ReadersWords),
     ("place-by-place", Reading::PlaceByPlace),
     ("stored-hits", Reading::StoredHits),
+    ("exact-steps", Reading::ExactSteps),
+    ("exact-own", Reading::ExactOwn),
+    ("exact-words", Reading::ExactWords),
     ("stored-sheet", Reading::StoredSheet),
     ("stored-days", Reading::StoredDays),
     ("stored-periods", Reading::StoredPeriods),
@@ -76,7 +99,7 @@ pub const FALSE_READINGS: [(&str, Reading); 17] = [
 ];
 
 /// Those that give two trees that look alike the same answers, though not the right ones
-pub const OTHER_ANSWERS: [(&str, Reading); 18] = [
+pub const OTHER_ANSWERS: [(&str, Reading); 31] = [
     ("last-hit", Reading::LastHit),
     ("none-for-one-hit", Reading::NoneForOneHit),
     ("room-for-all-hits", Reading::RoomForAllHits),
@@ -87,6 +110,19 @@ pub const OTHER_ANSWERS: [(&str, Reading); 18] = [
     ("names-between", Reading::NamesBetween),
     ("every-name", Reading::EveryName),
     ("name-by-name", Reading::NameByName),
+    ("exact-names", Reading::ExactNames),
+    ("exact-ban", Reading::ExactBan),
+    ("exact-ban-in-13", Reading::ExactBanIn13),
+    ("exact-names-in-13", Reading::ExactNamesIn13),
+    ("exact-rooms", Reading::ExactRooms),
+    ("isa-by-text", Reading::IsaByText),
+    ("a-not-folded", Reading::ANotFolded),
+    ("z-not-folded", Reading::ZNotFolded),
+    ("low-bits", Reading::LowBits),
+    ("shown-folded", Reading::ShownFolded),
+    ("stored-folded", Reading::StoredFolded),
+    ("case-not-renamed", Reading::CaseNotRenamed),
+    ("forms-in-any-case", Reading::FormsInAnyCase),
     ("second-room", Reading::SecondRoom),
     ("room-with-lesson", Reading::RoomWithLesson),
     ("sixth-for-fifth", Reading::SixthForFifth),
@@ -98,8 +134,9 @@ pub const OTHER_ANSWERS: [(&str, Reading); 18] = [
 ];
 
 /// Those of the solver's file
-pub const OTHER_TREES: [(&str, Reading); 8] = [
+pub const OTHER_TREES: [(&str, Reading); 9] = [
     ("any-closing-tag", Reading::AnyClosingTag),
+    ("closing-tag-in-any-case", Reading::ClosingTagInAnyCase),
     ("text-dropped", Reading::TextDropped),
     ("text-not-trimmed", Reading::TextNotTrimmed),
     ("texts-joined", Reading::TextsJoined),
@@ -114,17 +151,18 @@ pub const OTHER_TREES: [(&str, Reading); 8] = [
 impl Reading {
     /// A user's rights, with `$` in rules as it is read.
     pub fn rights(self, policy: &Policy, nodes: &[Node], user: usize) -> Vec<u8> {
-        match self {
-            Reading::LoginInRules | Reading::DirectRoles | Reading::RulesName | Reading::NamesBetween | Reading::EveryName | Reading::NameByName => {
-                policy.rights_by(nodes, user, |rule| selected_by_any(nodes, &rule.path, &self.names(policy, user, Some(rule.subject))))
-            }
-            _ => policy.rights(nodes, user),
+        if self == Reading::Right {
+            return policy.rights(nodes, user);
         }
+        policy.rights_by(nodes, user, |rule| self.selected_by_any(nodes, &rule.path, &self.names(policy, user, Some(rule.subject))))
     }
 
     /// The nodes that a path of a command selects for a user, with `$` as it is read.
     pub fn select(self, policy: &Policy, nodes: &[Node], path: &[Step], user: usize) -> Vec<bool> {
-        selected_by_any(nodes, path, &self.names(policy, user, None))
+        if self == Reading::Right {
+            return select(nodes, path, &policy.own_names(user));
+        }
+        self.selected_by_any(nodes, path, &self.names(policy, user, None))
     }
 
     /// The names that `$` passes for a user, in a rule for the subject given or in a command; several lists where a false reading takes one name at a time.
@@ -141,15 +179,118 @@ impl Reading {
             _ => vec![policy.own_names(user)],
         }
     }
+
+    /// The nodes that a path selects with one of these lists of names for `$`.
+    fn selected_by_any(self, nodes: &[Node], path: &[Step], names: &[Vec<Label>]) -> Vec<bool> {
+        let (steps, own) = (self.equality(Compared::Steps), self.equality(Compared::Own));
+        let mut marks = vec![false; nodes.len()];
+        for names in names {
+            let passes = |test: &Test, label: &Label| match test {
+                Test::Own => listed(names, label, own),
+                test => *test == Test::Any || test.is_label(label, steps),
+            };
+            for (mark, selected) in marks.iter_mut().zip(select_by(nodes, path, &passes)) {
+                *mark |= selected;
+            }
+        }
+        marks
+    }
 }
 
-/// The nodes that a path selects with one of these lists of names for `$`.
-fn selected_by_any(nodes: &[Node], path: &[Step], names: &[Vec<Label>]) -> Vec<bool> {
-    let mut marks = vec![false; nodes.len()];
-    for own in names {
-        for (mark, selected) in marks.iter_mut().zip(select(nodes, path, own)) {
-            *mark |= selected;
+// --- Which labels are equal (document 02, card 6) ---
+
+/// Where labels are compared.
+#[derive(Clone, Copy, PartialEq, Eq, Debug)]
+pub enum Compared {
+    Steps,
+    Own,
+    Words,
+    Names,
+    Ban,
+    BanIn13,
+    NamesIn13,
+    Rooms,
+}
+
+fn same_by(one: &Label, other: &Label, fold: fn(u8) -> u8) -> bool {
+    one.text().len() == other.text().len() && one.text().iter().zip(other.text()).all(|(one, other)| fold(*one) == fold(*other))
+}
+
+fn same_but_a(one: &Label, other: &Label) -> bool {
+    same_by(one, other, |byte| if byte == b'A' { byte } else { byte.to_ascii_lowercase() })
+}
+
+fn same_but_z(one: &Label, other: &Label) -> bool {
+    same_by(one, other, |byte| if byte == b'Z' { byte } else { byte.to_ascii_lowercase() })
+}
+
+/// `-` is `m`, and `0` is `p`.
+fn same_low_bits(one: &Label, other: &Label) -> bool {
+    same_by(one, other, |byte| byte & 31)
+}
+
+fn small(label: &Label) -> Label {
+    Label::new(&label.text().to_ascii_lowercase()).expect("a label")
+}
+
+fn small_tree(tree: &Tree) -> Tree {
+    Tree { label: small(&tree.label), origin: tree.origin, children: tree.children.iter().map(small_tree).collect() }
+}
+
+impl Reading {
+    /// When two labels are equal, compared there.
+    pub fn equality(self, compared: Compared) -> Equality {
+        match (self, compared) {
+            (Reading::ExactSteps, Compared::Steps)
+            | (Reading::ExactOwn, Compared::Own)
+            | (Reading::ExactWords, Compared::Words)
+            | (Reading::ExactNames, Compared::Names)
+            | (Reading::ExactBan, Compared::Ban)
+            | (Reading::ExactBanIn13, Compared::BanIn13)
+            | (Reading::ExactNamesIn13, Compared::NamesIn13)
+            | (Reading::ExactRooms, Compared::Rooms) => Label::eq,
+            (Reading::ANotFolded, _) => same_but_a,
+            (Reading::ZNotFolded, _) => same_but_z,
+            (Reading::LowBits, _) => same_low_bits,
+            _ => Label::same,
         }
     }
-    marks
+
+    pub fn checks(self) -> Checks {
+        Checks { ban: self.equality(Compared::BanIn13), names: self.equality(Compared::NamesIn13) }
+    }
+
+    /// The view with the labels that are shown.
+    pub fn shown(self, mut view: View) -> View {
+        if self == Reading::ShownFolded {
+            for node in view.nodes.iter_mut().filter(|node| node.label != RESTRICTED) {
+                node.label = small(&node.label);
+            }
+        }
+        view
+    }
+
+    /// The line with its words as they are read.
+    pub fn line(self, line: &[u8]) -> Vec<u8> {
+        let mut line = line.to_vec();
+        if self == Reading::FormsInAnyCase {
+            let words = if line.get(1..5).is_some_and(|word| word.eq_ignore_ascii_case(b"rule")) { 3 } else { 1 };
+            let end = (0..line.len()).filter(|at| line[*at] == b' ').nth(words - 1).unwrap_or(line.len());
+            line[..end].make_ascii_lowercase();
+        }
+        line
+    }
+
+    /// The form with its labels as they are stored.
+    pub fn form(self, form: Form) -> Form {
+        match form {
+            form if self != Reading::StoredFolded => form,
+            Form::Root(label) => Form::Root(small(&label)),
+            Form::Child(tree) => Form::Child(small_tree(&tree)),
+            Form::Rename(path, label) => Form::Rename(path, small(&label)),
+            Form::Update(path, label) => Form::Update(path, small(&label)),
+            Form::Insert(place, path, tree) => Form::Insert(place, path, small_tree(&tree)),
+            form => form,
+        }
+    }
 }

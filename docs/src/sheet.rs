@@ -1,7 +1,7 @@
 //! The sheet for a room's door (document 02, card 3).
 
 use crate::label::Label;
-use crate::reading::Reading;
+use crate::reading::{Compared, Reading};
 use crate::table::Node;
 use crate::view::View;
 
@@ -55,7 +55,8 @@ impl Sheet<'_> {
 
     /// A period's first child labelled ROOM.
     fn room(&self, period: usize) -> Option<usize> {
-        let mut rooms = children(&self.view.nodes, period).filter(|child| self.label(*child, Reading::TrueRooms) == self.room);
+        let equal = self.reading.equality(Compared::Rooms);
+        let mut rooms = children(&self.view.nodes, period).filter(|child| equal(&self.label(*child, Reading::TrueRooms), &self.room));
         match self.reading {
             Reading::SecondRoom => rooms.take(2).last(),
             Reading::RoomWithLesson => rooms.find(|room| children(&self.view.nodes, *room).next().is_some()),
@@ -162,6 +163,7 @@ mod tests {
             format!("  mon          |tue          |wed          |thu          |a-label-of-24|\n1 {}{one}\n{blank}", "             |".repeat(4))
         };
         assert_eq!(sheet(generate::label("x")), rows("RESTRICTED   |"));
+        assert_eq!(sheet(generate::label("X")), rows("RESTRICTED   |"));
         assert_eq!(sheet(RESTRICTED), rows("             |"));
     }
 }

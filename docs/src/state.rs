@@ -1,6 +1,6 @@
 //! A state's bytes (docs/FORMAT.md): the session, then the policy.
 
-use crate::label::{all_zero, read_record, write_record, Label, RECORD_BYTES, RESTRICTED};
+use crate::label::{all_zero, read_record, write_record, Equality, Label, RECORD_BYTES, RESTRICTED};
 use crate::path::{Step, Test, STEPS_MAXIMUM};
 use crate::policy::{Policy, Rule, DELETE, INSERT, ISA_MAXIMUM, POSITION, READ, RULES_MAXIMUM, SUBJECTS_MAXIMUM, UPDATE};
 
@@ -33,20 +33,27 @@ pub struct State {
 
 // --- Reading ---
 
-fn decode_step(record: &[u8]) -> Option<Step> {
+/// How 13 compares labels: with RESTRICTED, and names with one another.
+#[derive(Clone, Copy)]
+pub struct Checks {
+    pub ban: Equality,
+    pub names: Equality,
+}
+
+fn decode_step(record: &[u8], ban: Equality) -> Option<Step> {
     let (axis, text) = read_record(record)?;
     let test = match text {
         b"*" => Test::Any,
         b"$" => Test::Own,
         _ => Test::Label(Label::new(text)?),
     };
-    if axis > 1 || test == Test::Label(RESTRICTED) {
+    if axis > 1 || test.is_label(&RESTRICTED, ban) {
         return None;
     }
     Some(Step { descendants: axis == 1, test, brackets: Vec::new() })
 }
 
-fn decode_rule(bytes: &[u8], subjects: usize) -> Option<Rule> {
+fn decode_rule(bytes: &[u8], subjects: usize, ban: Equality) -> Option<Rule> {
     let (right, subject, steps) = (bytes[1], bytes[2] as usize, bytes[3] as usize);
     let right_known = [POSITION, READ, INSERT, UPDATE, DELETE].contains(&right);
     if bytes[0] > 1 || !right_known || subject >= subjects || !(1..=STEPS_MAXIMUM).contains(&steps) || !all_zero(&bytes[4..RULE_STEPS_AT]) {
@@ -54,7 +61,7 @@ fn decode_rule(bytes: &[u8], subjects: usize) -> Option<Rule> {
     }
     let mut path = Vec::with_capacity(steps);
     for number in 0..steps {
-        path.push(decode_step(&bytes[RULE_STEPS_AT + RECORD_BYTES * number..][..RECORD_BYTES])?);
+        path.push(decode_step(&bytes[RULE_STEPS_AT + RECORD_BYTES * number..][..RECORD_BYTES], ban)?);
     }
     if !all_zero(&bytes[RULE_STEPS_AT + RECORD_BYTES * steps..RULE_BYTES]) {
         return None;
@@ -62,7 +69,7 @@ fn decode_rule(bytes: &[u8], subjects: usize) -> Option<Rule> {
     Some(Rule { accept: bytes[0] == 1, right, subject, path })
 }
 
-fn decode_policy(bytes: &[u8]) -> Option<Policy> {
+fn decode_policy(bytes: &[u8], checks: Checks) -> Option<Policy> {
     let (subjects, isa_lines, rules) = (bytes[0] as usize, bytes[1] as usize, bytes[2] as usize);
     if subjects > SUBJECTS_MAXIMUM || isa_lines > ISA_MAXIMUM || rules > RULES_MAXIMUM || !all_zero(&bytes[3..SUBJECTS_AT]) {
         return None;
@@ -71,7 +78,7 @@ fn decode_policy(bytes: &[u8]) -> Option<Policy> {
     for number in 0..subjects {
         let (first, text) = read_record(&bytes[SUBJECTS_AT + RECORD_BYTES * number..][..RECORD_BYTES])?;
         let name = Label::new(text)?;
-        if first != 0 || name == RESTRICTED || policy.subject(&name).is_some() {
+        if first != 0 || (checks.ban)(&name, &RESTRICTED) || policy.subject(&name, checks.names).is_some() {
             return None;
         }
         policy.subjects.push(name);
@@ -84,7 +91,7 @@ fn decode_policy(bytes: &[u8]) -> Option<Policy> {
         policy.isa.push(line);
     }
     for number in 0..rules {
-        policy.rules.push(decode_rule(&bytes[RULES_AT + RULE_BYTES * number..][..RULE_BYTES], subjects)?);
+        policy.rules.push(decode_rule(&bytes[RULES_AT + RULE_BYTES * number..][..RULE_BYTES], subjects, checks.ban)?);
     }
     let unused = all_zero(&bytes[SUBJECTS_AT + RECORD_BYTES * subjects..ISA_AT])
         && all_zero(&bytes[ISA_AT + 2 * isa_lines..RULES_AT])
@@ -97,13 +104,13 @@ fn decode_policy(bytes: &[u8]) -> Option<Policy> {
 }
 
 /// The state that lent bytes hold, if they hold one.
-pub fn decode(bytes: &[u8]) -> Option<State> {
+pub fn decode(bytes: &[u8], checks: Checks) -> Option<State> {
     if bytes.len() != STATE_BYTES || !all_zero(&bytes[2..SESSION_BYTES]) {
         return None;
     }
     let stage = *STAGES.get(bytes[0] as usize)?;
     let user = (bytes[1] as usize).checked_sub(1);
-    let policy = decode_policy(&bytes[SESSION_BYTES..])?;
+    let policy = decode_policy(&bytes[SESSION_BYTES..], checks)?;
     let user_known = match user {
         None => true,
         Some(subject) => subject < policy.subjects.len(),

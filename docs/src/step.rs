@@ -1,10 +1,10 @@
-//! One line on a state and a table (document 01, Lines to Who can be turned down; document 02, cards 1, 3 and 5), and one document of the solver (card 2).
+//! One line on a state and a table (document 01, Lines to Who can be turned down; document 02, cards 1, 3, 5 and 6), and one document of the solver (card 2).
 
 use crate::form::{read_form, Form, Place, LINE_MAXIMUM};
-use crate::label::{Label, RESTRICTED};
+use crate::label::{listed, Label, RESTRICTED};
 use crate::path::{read_path, Step};
 use crate::policy::{Policy, Rule, DELETE, INSERT, ISA_MAXIMUM, READ, RULES_MAXIMUM, SUBJECTS_MAXIMUM, UPDATE};
-use crate::reading::Reading;
+use crate::reading::{Compared, Reading};
 use crate::sheet::Sheet;
 use crate::state::{self, Stage, State};
 use crate::table::{self, flatten, nest, nest_inserted, Node, Table, Tree, LEVEL_MAXIMUM};
@@ -34,8 +34,12 @@ pub struct Store {
 }
 
 pub fn read_store(state: &[u8], table: &[u8]) -> Option<Store> {
-    let state = state::decode(state)?;
-    let table = table::decode(table)?;
+    read_store_by(state, table, Reading::Right)
+}
+
+fn read_store_by(state: &[u8], table: &[u8], reading: Reading) -> Option<Store> {
+    let state = state::decode(state, reading.checks())?;
+    let table = table::decode(table, reading.checks().ban)?;
     if (state.stage >= Stage::C) != table.nodes.is_empty() {
         Some(Store { state, table })
     } else {
@@ -80,38 +84,48 @@ fn policy_edited(store: &Store, stage: Stage, edit: impl FnOnce(&mut Policy)) ->
     ok(Some(state), None)
 }
 
-fn subject_line(store: &Store, name: Label) -> Result<Accepted, u8> {
+/// The subject with a name.
+fn named(policy: &Policy, name: &Label, reading: Reading) -> Result<usize, u8> {
+    policy.subject(name, reading.equality(Compared::Names)).ok_or(BAD_NAME)
+}
+
+fn is_restricted(label: &Label, reading: Reading) -> bool {
+    reading.equality(Compared::Ban)(label, &RESTRICTED)
+}
+
+fn subject_line(store: &Store, name: Label, reading: Reading) -> Result<Accepted, u8> {
     let policy = &store.state.policy;
     refuse_if(store.state.stage > Stage::A, WRONG_STAGE)?;
-    refuse_if(policy.subject(&name).is_some(), BAD_NAME)?;
+    refuse_if(named(policy, &name, reading).is_ok(), BAD_NAME)?;
     refuse_if(policy.subjects.len() == SUBJECTS_MAXIMUM, POLICY_FULL)?;
-    refuse_if(name == RESTRICTED, BAD_LABEL)?;
+    refuse_if(is_restricted(&name, reading), BAD_LABEL)?;
     Ok(policy_edited(store, Stage::A, |policy| policy.subjects.push(name)))
 }
 
-fn isa_line(store: &Store, name: Label, role: Label) -> Result<Accepted, u8> {
+fn isa_line(store: &Store, name: Label, role: Label, reading: Reading) -> Result<Accepted, u8> {
     let policy = &store.state.policy;
     refuse_if(store.state.stage > Stage::A, WRONG_STAGE)?;
-    let line = (policy.subject(&name).ok_or(BAD_NAME)?, policy.subject(&role).ok_or(BAD_NAME)?);
-    refuse_if(line.1 >= line.0 || policy.isa.contains(&line), BAD_NAME)?;
+    let line = (named(policy, &name, reading)?, named(policy, &role, reading)?);
+    let as_declared = (name, role) == (policy.subjects[line.0], policy.subjects[line.1]) || reading != Reading::IsaByText;
+    refuse_if(line.1 >= line.0 || (policy.isa.contains(&line) && as_declared), BAD_NAME)?;
     refuse_if(policy.isa.len() == ISA_MAXIMUM, POLICY_FULL)?;
     Ok(policy_edited(store, Stage::A, |policy| policy.isa.push(line)))
 }
 
-fn rule_line(store: &Store, accept: bool, right: u8, path: &[u8], name: Label) -> Result<Accepted, u8> {
+fn rule_line(store: &Store, accept: bool, right: u8, path: &[u8], name: Label, reading: Reading) -> Result<Accepted, u8> {
     let policy = &store.state.policy;
     refuse_if(store.state.stage > Stage::B, WRONG_STAGE)?;
     let path = read_path(path).ok_or(BAD_PATH)?;
-    let subject = policy.subject(&name).ok_or(BAD_NAME)?;
+    let subject = named(policy, &name, reading)?;
     refuse_if(path.iter().any(|step| !step.brackets.is_empty()), RULE_BRACKET)?;
     refuse_if(policy.rules.len() == RULES_MAXIMUM, POLICY_FULL)?;
-    refuse_if(path.iter().any(|step| step.test == crate::path::Test::Label(RESTRICTED)), BAD_LABEL)?;
+    refuse_if(path.iter().any(|step| step.test.is_label(&RESTRICTED, reading.equality(Compared::Ban))), BAD_LABEL)?;
     Ok(policy_edited(store, Stage::B, |policy| policy.rules.push(Rule { accept, right, subject, path })))
 }
 
 /// 9, 10 and 11 for the nodes that root, children or a document bring, so many levels below the root and with so many records free.
-fn refuse_nodes(nodes: &[Node], below: usize, free: usize) -> Result<(), u8> {
-    refuse_if(nodes.iter().any(|node| node.label == RESTRICTED), BAD_LABEL)?;
+fn refuse_nodes(nodes: &[Node], below: usize, free: usize, reading: Reading) -> Result<(), u8> {
+    refuse_if(nodes.iter().any(|node| is_restricted(&node.label, reading)), BAD_LABEL)?;
     refuse_if(nodes.iter().any(|node| below + node.level > LEVEL_MAXIMUM), TOO_DEEP)?;
     refuse_if(nodes.len() > free, TABLE_FULL)
 }
@@ -128,23 +142,23 @@ fn with_child((mut state, mut root): (State, Tree), child: Tree) -> (State, Tree
     (state, root)
 }
 
-fn root_line(store: &Store, label: Label) -> Result<Accepted, u8> {
+fn root_line(store: &Store, label: Label, reading: Reading) -> Result<Accepted, u8> {
     refuse_if(store.state.stage >= Stage::C, WRONG_STAGE)?;
     let (state, root) = rooted(&store.state, label);
-    refuse_nodes(&flatten(&root).0, 0, store.table.capacity)?;
+    refuse_nodes(&flatten(&root).0, 0, store.table.capacity, reading)?;
     Ok(ok(Some(state), Some(root)))
 }
 
-fn child_line(store: &Store, tree: Tree) -> Result<Accepted, u8> {
+fn child_line(store: &Store, tree: Tree, reading: Reading) -> Result<Accepted, u8> {
     refuse_if(store.state.stage != Stage::C && store.state.stage != Stage::D, WRONG_STAGE)?;
-    refuse_nodes(&flatten(&tree).0, 1, store.table.capacity - store.table.nodes.len())?;
+    refuse_nodes(&flatten(&tree).0, 1, store.table.capacity - store.table.nodes.len(), reading)?;
     let (state, root) = with_child((store.state.clone(), nest(&store.table.nodes)), tree);
     Ok(ok(Some(state), Some(root)))
 }
 
-fn user_line(store: &Store, name: Label) -> Result<Accepted, u8> {
+fn user_line(store: &Store, name: Label, reading: Reading) -> Result<Accepted, u8> {
     refuse_if(store.state.stage < Stage::C, WRONG_STAGE)?;
-    let user = store.state.policy.subject(&name).ok_or(BAD_NAME)?;
+    let user = named(&store.state.policy, &name, reading)?;
     let state = State { stage: Stage::E, user: Some(user), ..store.state.clone() };
     Ok(ok(Some(state), None))
 }
@@ -169,7 +183,7 @@ fn session<'a>(store: &'a Store, path: Option<&[u8]>, reading: Reading) -> Resul
     };
     let user = store.state.user.ok_or(NO_USER)?;
     let rights = reading.rights(&store.state.policy, &store.table.nodes, user);
-    let view = view(&store.table.nodes, &rights);
+    let view = reading.shown(view(&store.table.nodes, &rights));
     Ok((Session { store, user, reading, rights, view }, path))
 }
 
@@ -262,31 +276,37 @@ impl Session<'_> {
     }
 
     fn sheet_answer(&self, room: Label) -> Result<Vec<u8>, u8> {
-        refuse_if(self.reading == Reading::NoRestrictedRoom && room == RESTRICTED, BAD_LABEL)?;
+        refuse_if(self.reading == Reading::NoRestrictedRoom && is_restricted(&room, self.reading), BAD_LABEL)?;
         let stored_tree = || View { nodes: self.nodes().to_vec(), stored: (0..self.nodes().len()).collect() };
         let view = if self.reading == Reading::StoredSheet { &stored_tree() } else { &self.view };
         Ok(Sheet { view, stored: self.nodes(), room, reading: self.reading }.answer())
     }
 
-    /// A node of the stored tree may be relabelled: read and update on it, its label no policy word.
-    fn may_relabel(&self, stored: usize, words: &[Label]) -> bool {
-        let word = words.contains(&self.nodes()[stored].label);
-        self.rights[stored] & (READ | UPDATE) == READ | UPDATE && (!word || self.reading == Reading::RenameOfWord)
+    fn is_word(&self, label: &Label, words: &[Label]) -> bool {
+        listed(words, label, self.reading.equality(Compared::Words))
     }
 
-    fn new_label_allowed(&self, label: Label, words: &[Label]) -> Result<(), u8> {
-        let word = words.contains(&label) && self.reading != Reading::RenameIntoWord;
-        refuse_if(label == RESTRICTED || word, BAD_LABEL)
+    /// A node of the stored tree may be given a new label: read and update on it, its label no policy word.
+    fn may_relabel(&self, stored: usize, new: &Label, words: &[Label]) -> bool {
+        let label = &self.nodes()[stored].label;
+        let spared = self.reading == Reading::CaseNotRenamed && label.same(new);
+        let word = self.is_word(label, words) && self.reading != Reading::RenameOfWord;
+        self.rights[stored] & (READ | UPDATE) == READ | UPDATE && !word && !spared
+    }
+
+    fn new_label_allowed(&self, label: &Label, words: &[Label]) -> Result<(), u8> {
+        let word = self.is_word(label, words) && self.reading != Reading::RenameIntoWord;
+        refuse_if(is_restricted(label, self.reading) || word, BAD_LABEL)
     }
 
     fn rename(&self, path: &[Step], label: Label) -> Result<Accepted, u8> {
         let words = self.words();
-        self.new_label_allowed(label, &words)?;
+        self.new_label_allowed(&label, &words)?;
         let selected = self.selected(path);
         let mut marks = vec![false; self.nodes().len()];
         for number in &selected {
             let stored = self.view.stored[*number];
-            marks[stored] = self.may_relabel(stored, &words);
+            marks[stored] = self.may_relabel(stored, &label, &words);
         }
         Ok(done(selected.len(), count(&marks), relabelled(nest(self.nodes()), &marks, label)))
     }
@@ -294,7 +314,7 @@ impl Session<'_> {
     /// Concerns each shown child of a selected node.
     fn update(&self, path: &[Step], label: Label) -> Result<Accepted, u8> {
         let words = self.words();
-        self.new_label_allowed(label, &words)?;
+        self.new_label_allowed(&label, &words)?;
         let selected = self.selected(path);
         let mut parents = vec![false; self.nodes().len()];
         for number in &selected {
@@ -308,9 +328,9 @@ impl Session<'_> {
         for (number, node) in self.nodes().iter().enumerate() {
             if node.parent.is_some_and(|parent| parents[parent]) {
                 marks[number] = if shown[number] {
-                    self.may_relabel(number, &words)
+                    self.may_relabel(number, &label, &words)
                 } else {
-                    self.reading == Reading::UpdateHidden && self.rights[number] & UPDATE != 0 && !words.contains(&node.label)
+                    self.reading == Reading::UpdateHidden && self.rights[number] & UPDATE != 0 && !self.is_word(&node.label, &words)
                 };
             }
         }
@@ -318,7 +338,7 @@ impl Session<'_> {
     }
 
     fn insert(&self, place: Place, path: &[Step], tree: &Tree) -> Result<Accepted, u8> {
-        refuse_if(tree.holds(&RESTRICTED), BAD_LABEL)?;
+        refuse_if(tree.holds(&RESTRICTED, self.reading.equality(Compared::Ban)), BAD_LABEL)?;
         let selected = self.selected(path);
         let mut marks = vec![false; self.nodes().len()];
         for number in &selected {
@@ -433,13 +453,14 @@ fn inserted(mut tree: Tree, marks: &[bool], place: Place, new: &Tree) -> Tree {
 /// What a line does to a store that 13 lets pass: the smallest refusal from 1 to 12 that applies, or what is accepted.
 pub fn step(store: &Store, line: &[u8], area_length: usize, reading: Reading) -> Result<Accepted, u8> {
     refuse_if(line.len() > LINE_MAXIMUM || line.iter().any(|byte| !(32..=126).contains(byte)), LINE_BYTES)?;
-    let accepted = match read_form(line).ok_or(NO_FORM)? {
-        Form::Subject(name) => subject_line(store, name)?,
-        Form::Isa(name, role) => isa_line(store, name, role)?,
-        Form::Rule { accept, right, path, name } => rule_line(store, accept, right, path, name)?,
-        Form::Root(label) => root_line(store, label)?,
-        Form::Child(tree) => child_line(store, tree)?,
-        Form::User(name) => user_line(store, name)?,
+    let line = reading.line(line);
+    let accepted = match reading.form(read_form(&line).ok_or(NO_FORM)?) {
+        Form::Subject(name) => subject_line(store, name, reading)?,
+        Form::Isa(name, role) => isa_line(store, name, role, reading)?,
+        Form::Rule { accept, right, path, name } => rule_line(store, accept, right, path, name, reading)?,
+        Form::Root(label) => root_line(store, label, reading)?,
+        Form::Child(tree) => child_line(store, tree, reading)?,
+        Form::User(name) => user_line(store, name, reading)?,
         Form::View => answered(session(store, None, reading)?.0.view_answer()),
         Form::Query(text) => {
             let (session, path) = session(store, Some(text), reading)?;
@@ -480,12 +501,12 @@ pub fn load(store: &Store, xml: &[u8], area_length: usize, reading: Reading) -> 
     let read = document.read();
     let mut nodes = document.nodes;
     if reading == Reading::LabelsBeforeDocument {
-        refuse_if(nodes.iter().any(|node| node.label == RESTRICTED), BAD_LABEL)?;
+        refuse_if(nodes.iter().any(|node| is_restricted(&node.label, reading)), BAD_LABEL)?;
     }
     read.ok_or(NO_DOCUMENT)?;
     let capacity = store.table.capacity;
     let uncounted = usize::from(reading == Reading::RootNotCounted && capacity > 0);
-    refuse_nodes(&nodes, 0, capacity + uncounted)?;
+    refuse_nodes(&nodes, 0, capacity + uncounted, reading)?;
     nodes.truncate(capacity); // all of them, where the root was counted
     let tree = nest_inserted(&nodes);
     let (mut state, root) = tree.children.into_iter().fold(rooted(&store.state, tree.label), with_child);
@@ -498,11 +519,11 @@ pub fn load(store: &Store, xml: &[u8], area_length: usize, reading: Reading) -> 
 }
 
 /// A call on lent bytes: 13, then what it does to the store. The answer's length, or minus the refusal's number.
-fn call_lent(state: &mut [u8], table: &mut [u8], area: &mut [u8], call: impl FnOnce(&Store, usize) -> Result<Accepted, u8>) -> i64 {
-    let Some(store) = read_store(state, table) else {
+fn call_lent(state: &mut [u8], table: &mut [u8], area: &mut [u8], reading: Reading, call: impl FnOnce(&Store) -> Result<Accepted, u8>) -> i64 {
+    let Some(store) = read_store_by(state, table, reading) else {
         return -i64::from(BAD_STORE);
     };
-    match call(&store, area.len()) {
+    match call(&store) {
         Err(number) => -i64::from(number),
         Ok(accepted) => {
             if let Some(new_state) = &accepted.state {
@@ -519,12 +540,14 @@ fn call_lent(state: &mut [u8], table: &mut [u8], area: &mut [u8], call: impl FnO
 
 /// One line on lent bytes under a reading.
 pub fn read_line(state: &mut [u8], table: &mut [u8], line: &[u8], area: &mut [u8], reading: Reading) -> i64 {
-    call_lent(state, table, area, |store, area_length| step(store, line, area_length, reading))
+    let area_length = area.len();
+    call_lent(state, table, area, reading, |store| step(store, line, area_length, reading))
 }
 
 /// One document on lent bytes under a reading.
 pub fn load_xml(state: &mut [u8], table: &mut [u8], xml: &[u8], area: &mut [u8], reading: Reading) -> i64 {
-    call_lent(state, table, area, |store, area_length| load(store, xml, area_length, reading))
+    let area_length = area.len();
+    call_lent(state, table, area, reading, |store| load(store, xml, area_length, reading))
 }
 
 /// The answer's length, or minus the refusal's number.
@@ -554,9 +577,9 @@ mod tests {
             state: accepted.state.expect("a state"),
             table: Table { capacity: store.table.capacity, nodes: flatten(&accepted.tree.expect("a tree")).0 },
         };
-        let mut store = after(root_line(store, tree.label)?);
+        let mut store = after(root_line(store, tree.label, Reading::Right)?);
         for child in &tree.children {
-            store = after(child_line(&store, child.clone())?);
+            store = after(child_line(&store, child.clone(), Reading::Right)?);
         }
         Ok(store)
     }
@@ -597,6 +620,7 @@ mod tests {
         let (opened, closed) = ("<a>".repeat(100_000), "</a>".repeat(100_000));
         assert_eq!(number(&format!("{opened}{closed}")), Some(TOO_DEEP));
         assert_eq!(number(&format!("{opened}RESTRICTED{closed}")), Some(BAD_LABEL));
+        assert_eq!(number(&format!("{opened}Restricted{closed}")), Some(BAD_LABEL));
         assert_eq!(number(&opened), Some(NO_DOCUMENT));
         assert_eq!(number(&format!("{opened}<b></c>{closed}")), Some(NO_DOCUMENT));
         assert_eq!(number(&format!("{opened}RESTRICTED{}", &closed[4..])), Some(NO_DOCUMENT));

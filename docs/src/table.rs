@@ -1,6 +1,6 @@
 //! The stored tree and its table (document 01, Tree and table; docs/FORMAT.md).
 
-use crate::label::{all_zero, read_record, write_record, Label, RECORD_BYTES, RESTRICTED};
+use crate::label::{all_zero, read_record, write_record, Equality, Label, RECORD_BYTES, RESTRICTED};
 
 pub const LEVEL_MAXIMUM: usize = 11;
 pub const CAPACITY_MAXIMUM: usize = 16_384;
@@ -32,8 +32,8 @@ impl Tree {
         self.children.iter().map(|child| 1 + child.height()).max().unwrap_or(0)
     }
 
-    pub fn holds(&self, label: &Label) -> bool {
-        self.label == *label || self.children.iter().any(|child| child.holds(label))
+    pub fn holds(&self, label: &Label, equal: Equality) -> bool {
+        equal(&self.label, label) || self.children.iter().any(|child| child.holds(label, equal))
     }
 }
 
@@ -82,8 +82,8 @@ pub struct Table {
     pub nodes: Vec<Node>,
 }
 
-/// The table that lent bytes hold, if they hold one.
-pub fn decode(bytes: &[u8]) -> Option<Table> {
+/// The table that lent bytes hold, if they hold one: none of its labels may be equal to RESTRICTED.
+pub fn decode(bytes: &[u8], equal: Equality) -> Option<Table> {
     if bytes.len() < COUNT_BYTES {
         return None;
     }
@@ -99,7 +99,7 @@ pub fn decode(bytes: &[u8]) -> Option<Table> {
         let (level, text) = read_record(&bytes[at..at + RECORD_BYTES])?;
         let (level, label) = (level as usize, Label::new(text)?);
         let level_fits = if number == 0 { level == 0 } else { level >= 1 && level <= open.len() };
-        if !level_fits || level > LEVEL_MAXIMUM || label == RESTRICTED {
+        if !level_fits || level > LEVEL_MAXIMUM || equal(&label, &RESTRICTED) {
             return None;
         }
         open.truncate(level);

@@ -78,7 +78,13 @@ impl<'a> Document<'a> {
         if self.reader.skip(b'/').is_some() {
             let name = self.name()?;
             let element = self.open.pop()?;
-            if self.nodes[element].label != name && self.reading != Reading::AnyClosingTag {
+            let opened = &self.nodes[element].label;
+            let matches = match self.reading {
+                Reading::AnyClosingTag => true,
+                Reading::ClosingTagInAnyCase => opened.same(&name),
+                _ => *opened == name, // exactly (document 02, card 6)
+            };
+            if !matches {
                 return None;
             }
             return self.reader.skip(b'>');
@@ -130,6 +136,7 @@ mod tests {
             ("<a>\r\n x\t<b>10B</b>\n-1 </a>", "(a (x) (b (10B)) (-1))"),
             ("<_.-7>.</_.-7>", "(_.-7 (.))"),
             ("<xml><Xml/>xml</xml>", "(xml (Xml) (xml))"),
+            ("<R12><r12>R12</r12></R12>", "(R12 (r12 (R12)))"),
             (&format!("<{name}>{name}</{name}>"), &format!("({name} ({name}))")),
             ("<a>RESTRICTED</a>", "(a (RESTRICTED))"),
         ] {
@@ -139,9 +146,14 @@ mod tests {
 
     #[test]
     fn what_is_beside_the_root_is_not_of_the_kind() {
-        for xml in
-            ["", " ", "a", "<a/><a/>", "<a></a><b/>", "x<a/>", "<a/>x", "<a/>\u{c}", "\u{feff}<a/>", "<a>", "</a>", "<a/></a>", "<a><b></a></b>", "<a></A>"]
-        {
+        for xml in ["", " ", "a", "<a/><a/>", "<a></a><b/>", "x<a/>", "<a/>x", "<a/>\u{c}", "\u{feff}<a/>", "<a>", "</a>", "<a/></a>", "<a><b></a></b>"] {
+            assert_eq!(tree_of(xml), None, "{xml:?}");
+        }
+    }
+
+    #[test]
+    fn a_closing_tag_matches_exactly() {
+        for xml in ["<a></b>", "<a></A>", "<A></a>", "<Room></room>"] {
             assert_eq!(tree_of(xml), None, "{xml:?}");
         }
     }

@@ -30,11 +30,10 @@ class Expected(NamedTuple):
 class Agreement:
     """Holds what is expected against what the library does, for the readers of one store."""
 
-    def __init__(self, session: Session, nodes: Sequence[Node], words: Collection[str]) -> None:
-        """The nodes are those of the session's table, and the words those of its policy."""
+    def __init__(self, session: Session, nodes: Sequence[Node], used: Collection[str]) -> None:
+        """The nodes are those of the session's table; their labels and the policy's words are in use, folded."""
         self._session = session
         self._nodes = nodes
-        used = {node.label for node in nodes}.union(words)
         self._mark = next(label for label in (f"new-{number}" for number in count()) if label not in used)
         self._marks = [_record(level, self._mark) for level in range(LEVELS + 1)]
         self._state = session.state

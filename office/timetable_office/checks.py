@@ -15,14 +15,24 @@ from dataclasses import dataclass, field
 from typing import Any, Callable, Collection, Iterator, NamedTuple, Sequence
 
 from timetable_office.agreement import LEVELS
-from timetable_office.decisions import RIGHTS, Decider, Decisions, Seen, Selector, Verdict, roles_of, rule_text
+from timetable_office.decisions import (
+    RIGHTS,
+    Decider,
+    Decisions,
+    Seen,
+    Selector,
+    Verdict,
+    path_words,
+    roles_of,
+    rule_text,
+)
 from timetable_office.library import RECORDS_MAXIMUM, Library, Session
 from timetable_office.lines import Lines, split_lines
 from timetable_office.places import node_paths, parents
 from timetable_office.replace import replace_policy
 from timetable_office.runs import run_lines
 from timetable_office.state import Policy, Rule, read_policy
-from timetable_office.tree import RESTRICTED
+from timetable_office.tree import RESTRICTED, folded
 
 SLIP, HINT, REFUSED = "slip", "hint", "refused"
 _NAMES_SHOWN = 3
@@ -81,7 +91,7 @@ def has_tree(decider: Decider) -> bool:
 def survey(decider: Decider, decisions: Sequence[Decisions]) -> list[Effect]:
     """The effect of each rule."""
     rules, ends = decider.policy.rules, decider.selector.ends
-    is_word = [node.label in decider.words for node in decider.nodes]
+    is_word = [decider.is_word(node.label) for node in decider.nodes]
     is_root = [node.level == 0 for node in decider.nodes]
     effects = [Effect() for _ in rules]
     for one in decisions:
@@ -168,18 +178,14 @@ def _below_advice(rule: Rule) -> str:
 
 def _selects_nothing(decider: Decider, place: int) -> Finding:
     rule, root = decider.policy.rules[place], decider.nodes[0].label
-    steps = Selector([rule.path]).words
-    labels = {node.label for node in decider.nodes}
-    unknown = [word for word in steps if word not in labels]
+    unknown = [word for word in path_words(rule.path) if folded(word) not in decider.labels]
     text = f"{rule_text(rule)} selects no node"
     if unknown:
-        near = {word: _near(word, labels) for word in unknown}
-        said = [
-            f"no node is called {word}" + (f"; did you mean {near[word]}?" if near[word] else "") for word in unknown
-        ]
+        near = {word: _near(word, decider) for word in unknown}
+        said = [f"no node is called {word}" + (f"; did you mean {near[word]}?" if near[word] else "") for word in near]
         return Finding(SLIP if any(near.values()) else HINT, "unknown-word", f"{text}: {', '.join(said)}", place)
     first = rule.path.split("/")[1]
-    if first and first not in ("*", "$", root):
+    if first and first not in ("*", "$") and folded(first) != folded(root):
         text += (
             f": a path that begins with /{first} starts at the root, which is called {root}; //{first} starts anywhere"
         )
@@ -189,10 +195,10 @@ def _selects_nothing(decider: Decider, place: int) -> Finding:
     return Finding(HINT, "selects-nothing", text, place)
 
 
-def _near(word: str, labels: set[str]) -> str | None:
-    lower = {label.lower(): label for label in sorted(labels)}
-    near = difflib.get_close_matches(word.lower(), lower, n=1, cutoff=_NEAR)
-    return lower[near[0]] if near else None
+def _near(word: str, decider: Decider) -> str | None:
+    labels = {folded(label): label for label in sorted({node.label for node in decider.nodes})}
+    near = difflib.get_close_matches(folded(word), labels, n=1, cutoff=_NEAR)
+    return labels[near[0]] if near else None
 
 
 # Rules that later ones override, whatever the tree
@@ -207,7 +213,7 @@ def _overridden(decider: Decider, place: int) -> Iterator[Finding]:
         return
     roles = roles_of(decider.policy, rule.subject)
     every = [roles_of(decider.policy, name) for name in decider.policy.subjects]
-    readers = [own for own in every if rule.subject in own]
+    readers = [set(map(folded, own)) for own in every if rule.subject in own]
     for later in range(len(rules) - 1, place, -1):
         other = rules[later]
         if other.right != rule.right or other.subject not in roles:
@@ -224,8 +230,8 @@ def _overridden(decider: Decider, place: int) -> Iterator[Finding]:
 
 
 def is_within(path: str, other: str, own: Collection[str]) -> bool:
-    """Whether the other path selects every node that this one selects, in any tree, for a reader with these names.
-    `False` also if it is too long to tell."""
+    """Whether the other path selects every node that this one selects, in any tree, for a reader with these names,
+    folded. `False` also if it is too long to tell."""
     both = Selector([path, other])
     wanted, enough = both.ends
     # a label that neither path names stands for all such labels
@@ -284,18 +290,18 @@ def _readable_below(decider: Decider, decisions: Sequence[Decisions]) -> Iterato
 
 def _words_behind(decider: Decider, decisions: Sequence[Decisions]) -> Iterator[Finding]:
     """Policy words behind RESTRICTED."""
-    words = decider.words
-    places = [place for place, node in enumerate(decider.nodes) if node.label in words]
+    places = [place for place, node in enumerate(decider.nodes) if decider.is_word(node.label)]
     readers: dict[str, dict[str, int]] = {}
     for one in decisions:
         for place in places:
             if one.seen[place] is Seen.RESTRICTED:
-                readers.setdefault(decider.nodes[place].label, {}).setdefault(one.reader, place)
+                readers.setdefault(folded(decider.nodes[place].label), {}).setdefault(one.reader, place)
     paths = node_paths(decider.nodes) if readers else []
-    for word, found in readers.items():
+    for found in readers.values():
+        first = next(iter(found.values()))
         text = (
-            f"{word} is a word of the rules, and a node with this label is shown as RESTRICTED to {some(list(found))}: "
-            f"{paths[next(iter(found.values()))]}; what these readers are answered can tell them the word"
+            f"{decider.nodes[first].label} is a word of the rules, and a node with this label is shown as RESTRICTED "
+            f"to {some(list(found))}: {paths[first]}; what these readers are answered can tell them the word"
         )
         yield Finding(SLIP, "word-behind", text)
 
@@ -329,12 +335,11 @@ def _subjects(decider: Decider) -> Iterator[Finding]:
         yield Finding(HINT, "no-rule", says, subject=name)
     named = {name for pair in policy.isa for name in pair}
     strays = [name for name in without if name not in named]
-    labels = {node.label for node in decider.nodes}
     for role in policy.subjects:
         if role not in ruled or role in held:
             continue
         speaks = any(rule.subject == role and "$" in rule.path for rule in policy.rules)
-        if speaks and labels.isdisjoint(roles_of(policy, role)):
+        if speaks and decider.labels.isdisjoint(map(folded, roles_of(policy, role))):
             says = f"a rule for {role} speaks of its reader by $, and nobody is {role}: is an isa line missing?"
         elif strays and role not in named:
             says = f"nobody else is {role}, and no rule applies to {some(strays)}: is an isa line missing?"

@@ -28,7 +28,7 @@ from timetable_office.sheets import Sheets, write_sheets
 from timetable_office.state import read_policy
 from timetable_office.store import WAIT_SECONDS, Contents, Store, create_store
 from timetable_office.tree import read_table, read_view
-from timetable_office.views import NO_TREE, view_of
+from timetable_office.views import NO_TREE, declared_name, view_of
 from timetable_office.why import explain_nodes, why_json, why_text
 
 PROGRAM = "timetable-office"
@@ -211,10 +211,12 @@ def show(options: argparse.Namespace) -> int:
     """Shows what one subject sees. The store stays as it is."""
     library = load_library(options.library)
     with Store(options.store, options.wait) as store:
-        answer = view_of(store.session(library), options.name)
-    put(VIEW_FORMATS[options.format](options.name, answer))
+        session = store.session(library)
+        name = declared_name(session, options.name)
+        answer = view_of(session, name)
+    put(VIEW_FORMATS[options.format](name, answer))
     if not read_view(answer):
-        say(f"{options.name} is shown nothing")
+        say(f"{name} is shown nothing")
     return DONE
 
 

@@ -3,7 +3,7 @@
 Document 01: a rule applies to a subject that is its N, by isa lines or by itself, and to the nodes that its path
 selects in the stored tree; the last applicable rule for a right wins, and with none there is no right. A node is shown
 if read or position is granted on it and its parent is shown. Document 02, card 5: `$` passes the name of all that the
-reader is, by isa lines or by itself.
+reader is, by isa lines or by itself. Card 6: labels are equal whatever the case of A to Z, so they are compared folded.
 
 The library tells what a reader sees, and never why. Here the rules are matched a second time, and what follows for the
 view and for changes is held against what the library does for the same reader (`agreement`). Where they differ there is
@@ -19,7 +19,7 @@ from typing import Callable, Collection, Mapping, NamedTuple, Sequence
 from timetable_office.agreement import LEVELS, Agreement, Expected
 from timetable_office.library import Session
 from timetable_office.state import Policy, Rule, read_policy
-from timetable_office.tree import RESTRICTED, Node, read_table
+from timetable_office.tree import RESTRICTED, Node, folded, read_table
 
 RIGHTS = ("position", "read", "insert", "update", "delete")
 _STEP = re.compile(r"(//?)([^/]+)")
@@ -33,6 +33,11 @@ class Seen(IntEnum):
     LABEL = 2
 
 
+def path_words(path: str) -> list[str]:
+    """The labels that a rule's path names, as they were typed."""
+    return [test for _, test in _STEP.findall(path) if test not in ("*", "$")]
+
+
 class Selector:
     """Matches many paths at once on the way down a tree.
 
@@ -44,6 +49,7 @@ class Selector:
     def __init__(self, paths: Sequence[str]) -> None:
         self.start = 0
         self.ends: list[int] = []
+        # by the labels that paths name, folded
         self.words: dict[str, int] = {}
         self._child = self._deep = self._any = self._own = 0
         bit = 1
@@ -60,7 +66,7 @@ class Selector:
                 elif test == "$":
                     self._own |= bit
                 else:
-                    self.words[test] = self.words.get(test, 0) | bit
+                    self.words[folded(test)] = self.words.get(folded(test), 0) | bit
             self.ends.append(bit)
             bit <<= 1
         self.end = sum(self.ends)
@@ -70,15 +76,16 @@ class Selector:
         return self._own != 0
 
     def tests(self, label: str, own: Collection[str]) -> int:
-        """The bits of the steps that a label passes; `$` passes these names, of all that a reader is."""
-        return self._any | self.words.get(label, 0) | (self._own if label in own else 0)
+        """The bits of the steps that a label passes; `$` passes these names, folded, of all that a reader is."""
+        same = folded(label)
+        return self._any | self.words.get(same, 0) | (self._own if same in own else 0)
 
     def below(self, parent: int, above: int) -> int:
         """The bits that a node below can get: of `parent` by `/`, of `above`, which is any node above it, by `//`."""
         return ((parent & self._child) | (above & self._deep)) << 1
 
     def select(self, nodes: Sequence[Node], own: Collection[str]) -> list[int]:
-        """For each node the end bits of the paths that select it, with these names for `$`."""
+        """For each node the end bits of the paths that select it, with these names, folded, for `$`."""
         tests = {label: self.tests(label, own) for label in {node.label for node in nodes}}
         # for each level the bits that a node there can get
         can = [0] * (LEVELS + 1)
@@ -153,18 +160,23 @@ class Decider:
         self.policy = read_policy(session.state)
         self.nodes = read_table(session.table)
         self.selector = Selector([rule.path for rule in self.policy.rules])
-        self._labels = frozenset(node.label for node in self.nodes)
-        # the policy words: labels named in any rule's path; once any rule uses `$`, every subject's name too
-        self.words = set(self.selector.words)
+        # labels of nodes, folded
+        self.labels = frozenset(folded(node.label) for node in self.nodes)
+        # the policy words, folded: labels named in any rule's path; once any rule uses `$`, every subject's name too
+        self._words = set(self.selector.words)
         if self.selector.names_reader():
-            self.words.update(self.policy.subjects)
-        self._agreement = Agreement(session, self.nodes, self.words)
+            self._words.update(map(folded, self.policy.subjects))
+        self._agreement = Agreement(session, self.nodes, self.labels | self._words)
         self._selections: dict[frozenset[str], Selection] = {}
+
+    def is_word(self, label: str) -> bool:
+        """Whether a label is a policy word."""
+        return folded(label) in self._words
 
     def selection(self, roles: Mapping[str, object]) -> Selection:
         """Which rules select the nodes, with the names of these roles, all that a reader is, for `$`."""
         # readers share one if no path has a `$`, or if nodes have the same names of theirs
-        own = self._labels.intersection(roles) if self.selector.names_reader() else frozenset[str]()
+        own = self.labels.intersection(map(folded, roles)) if self.selector.names_reader() else frozenset[str]()
         if own not in self._selections:
             numbers: dict[int, int] = {}
             kinds = [numbers.setdefault(bits, len(numbers)) for bits in self.selector.select(self.nodes, own)]
@@ -231,7 +243,7 @@ class Decider:
                 if seen is not Seen.HIDDEN
             ],
             renamed=[
-                seen is Seen.LABEL and granted["update"][kind] and node.label not in self.words
+                seen is Seen.LABEL and granted["update"][kind] and not self.is_word(node.label)
                 for node, kind, seen in places
             ],
             removed=[

@@ -151,9 +151,12 @@ class _Reader:
             return "a name does not begin with a digit, hyphen or full stop"
         still_open = ""
         if self._open:
-            name, index = self._open[-1]
-            line, _ = Document("", self._data).place(index)
+            name, opened = self._open[-1]
+            line, _ = Document("", self._data).place(opened)
             still_open = f"<{name.decode('ascii')}> of line {line:,} is still open"
+            closing = _CLOSING.match(self._data, max(0, index - 2))
+            if closing and closing[1].lower() == name.lower():
+                still_open += "; a closing tag has the same capitals"
         if words == expat.errors.XML_ERROR_NO_ELEMENTS:
             return f"the document ends, and {still_open}" if still_open else "there is no element"
         return f"{words}: {still_open}" if words == expat.errors.XML_ERROR_TAG_MISMATCH and still_open else words
@@ -213,7 +216,7 @@ class _Reader:
 
     def _node(self, label: bytes, index: int) -> None:
         self.nodes += 1
-        if label == RESTRICTED.encode("ascii") and self.restricted is None:
+        if label.upper() == RESTRICTED.encode("ascii") and self.restricted is None:
             self.restricted = index
         if len(self._open) > LEVEL_MAXIMUM and self.deep is None:
             self.deep = index

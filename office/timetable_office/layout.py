@@ -16,11 +16,11 @@ _POLICY = [
     b"(isa b a)",
     b"(rule accept read //* a)",
     b"(rule deny read /r/*/* b)",
-    b"(rule accept read //c/$ a)",
+    b"(rule accept read //C/$ a)",
     b"(rule accept position //d/* a)",
 ]
-# b is shown the node `a` by `$`, since b is a
-_TREE = [b"(root r)", b"(child (c (a (b))))", b"(user b)"]
+# b is shown the node `a` by `$`, since b is a, and below `c` in either case
+_TREE = [b"(root r)", b"(child (c (a (b))))", b"(user B)"]
 _NODES = [Node(0, "r"), Node(1, "c"), Node(2, "a"), Node(3, "b")]
 
 

@@ -12,6 +12,7 @@ from timetable_office import refusals
 from timetable_office.errors import OfficeError
 from timetable_office.library import COUNT_BYTES, LINE_MAXIMUM, Session
 from timetable_office.state import Stage, read_policy, stage_of
+from timetable_office.tree import folded
 
 STANDARD_INPUT = "-"
 _FORM = re.compile(rb"\(([a-z]+)[ )]")
@@ -20,7 +21,7 @@ ENCODING_MARKS = {
     b"\xff\xfe": "the file is saved as UTF-16: save it as plain ASCII text",
     b"\xfe\xff": "the file is saved as UTF-16: save it as plain ASCII text",
 }
-RESTRICTED_ADVICE = "RESTRICTED stands for hidden labels and cannot be given"
+RESTRICTED_ADVICE = "RESTRICTED stands for hidden labels and cannot be given, in whatever case"
 # Where the names of declared subjects stand among the words of a form.
 _NAMES = {b"user": (1,), b"isa": (1, 2), b"rule": (-1,)}
 
@@ -148,22 +149,25 @@ def _explain_stage(text: bytes, session: Session) -> str:
 
 def _explain_name(text: bytes, session: Session) -> str:
     known = read_policy(session.state).subjects
+    declared = {folded(name): name for name in known}
     words = text.removeprefix(b"(").removesuffix(b")").split(b" ")
     if words[0] == b"subject":
-        return f"{words[1].decode('ascii')} is declared already"
+        name = words[1].decode("ascii")
+        earlier = declared.get(folded(name), name)
+        return f"{name} is declared already" + ("" if earlier == name else f", as {earlier}: names have no case")
     said = []
     for place in _NAMES.get(words[0], ()):
         name = words[place].decode("ascii")
-        if name not in known:
+        if folded(name) not in declared:
             said.append(suggest_name(name, known))
     return "; ".join(said)
 
 
 def suggest_name(name: str, known: tuple[str, ...]) -> str:
     """That no subject has this name, and which one may be meant."""
-    lower = {other.lower(): other for other in known}
-    near = difflib.get_close_matches(name.lower(), lower, n=1)
-    question = f"; did you mean {lower[near[0]]}?" if near else ""
+    declared = {folded(other): other for other in known}
+    near = difflib.get_close_matches(folded(name), declared, n=1)
+    question = f"; did you mean {declared[near[0]]}?" if near else ""
     return f"no subject is declared as {name}{question}"
 
 
@@ -173,7 +177,7 @@ def _explain_user(text: bytes, session: Session) -> str:
 
 def _explain_label(text: bytes, session: Session) -> str:
     words = re.findall(rb"[^ ()/]+", text)
-    if b"RESTRICTED" in words:
+    if b"restricted" in map(bytes.lower, words):
         return RESTRICTED_ADVICE
     if form_of(text) in ("rename", "update"):
         return f"{words[-1].decode('ascii')} is a word that the rules use, so no node gets it by a rename or update"

@@ -12,7 +12,7 @@ from timetable_office.library import Refused, Session
 from timetable_office.lines import split_lines
 from timetable_office.replace import replace_policy
 from timetable_office.state import Rule, read_policy
-from timetable_office.tree import Node, read_table
+from timetable_office.tree import Node, folded, read_table
 from timetable_office.views import log_in
 
 
@@ -40,14 +40,15 @@ def way_down(above: Sequence[int | None], place: int) -> list[int]:
 def node_paths(nodes: Sequence[Node]) -> list[str]:
     """For each node a path that selects it alone: labels from the root down, `[n]` where siblings share one."""
     above = parents(nodes)
-    siblings = [(parent, node.label) for parent, node in zip(above, nodes)]
+    siblings = [(parent, folded(node.label)) for parent, node in zip(above, nodes)]
     shared = Counter(siblings)
     counted: Counter[tuple[int | None, str]] = Counter()
     paths: list[str] = []
-    for parent, label in siblings:
-        counted[parent, label] += 1
-        position = f"[{counted[parent, label]}]" if shared[parent, label] > 1 else ""
-        paths.append(f"{'' if parent is None else paths[parent]}/{label}{position}")
+    for node, place in zip(nodes, siblings):
+        counted[place] += 1
+        position = f"[{counted[place]}]" if shared[place] > 1 else ""
+        parent = place[0]
+        paths.append(f"{'' if parent is None else paths[parent]}/{node.label}{position}")
     return paths
 
 
@@ -63,7 +64,7 @@ def select_stored(session: Session, reader: str, path: str) -> list[int]:
     """
     log_in(session, reader)
     nodes = read_table(session.table)
-    labels = {node.label for node in nodes}
+    labels = {folded(node.label) for node in nodes}
     mark = next(label for label in _new_labels() if label not in labels)
     rules = tuple(Rule(True, right, "//*", reader) for right in ("read", "update"))
     policy = replace(read_policy(session.state), rules=rules)

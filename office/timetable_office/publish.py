@@ -16,7 +16,7 @@ from timetable_office.pages import GENERATOR, Publication, Row, index, page, vie
 from timetable_office.state import read_policy
 from timetable_office.store import Contents
 from timetable_office.tree import read_view
-from timetable_office.views import log_in, view_of
+from timetable_office.views import declared_name, view_of
 
 INDEX = "index.html"
 _KIND = "view"
@@ -71,9 +71,8 @@ def publish_views(
 
 def _views(session: Session, names: Sequence[str]) -> list[tuple[str, bytes]]:
     """The subjects in the order of the policy, each with the answer to `(view)`."""
-    for name in names:
-        log_in(session, name)
-    subjects = [name for name in read_policy(session.state).subjects if not names or name in names]
+    named = {declared_name(session, name) for name in names}
+    subjects = [name for name in read_policy(session.state).subjects if not names or name in named]
     if not subjects:
         raise InputError("the store has no subject, so there is no view to publish")
     return [(name, view_of(session, name)) for name in subjects]

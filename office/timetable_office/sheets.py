@@ -9,7 +9,8 @@ from typing import Callable, NamedTuple, Sequence
 from timetable_office.errors import InputError
 from timetable_office.folders import Folder, file_names, file_stem, write_file
 from timetable_office.library import SHEET_BYTES, Refused, Session
-from timetable_office.tree import RESTRICTED, read_view
+from timetable_office.state import user_of
+from timetable_office.tree import RESTRICTED, folded, read_view
 from timetable_office.views import log_in
 
 _KIND = "sheet"
@@ -44,18 +45,28 @@ def write_sheets(read: Callable[[], Session], name: str, rooms: Sequence[str], o
     folder = Folder(out, _NAMES, _are_sheets)
     with folder.turn(wait):
         reader = log_in(read(), name)
-        wanted = dict.fromkeys(rooms) or rooms_of(reader)
+        name = user_of(reader.state) or name
+        shown = rooms_of(reader)
+        # a room is called what the reader is shown, in whatever case it is typed
+        known = {**shown, folded(RESTRICTED): RESTRICTED}
+        wanted = {folded(room): known.get(folded(room), room) for room in rooms} or shown
         if not wanted:
             raise InputError(f"no room is shown to {name}, so there is no sheet to write")
-        answers = {room: _sheet_of(reader, room) for room in wanted}
+        answers = {room: _sheet_of(reader, room) for room in wanted.values()}
         sheets, dropped = folder.replace(lambda new: _write_files(new, answers))
     return Sheets(str(folder.path), name, tuple(sheets), dropped)
 
 
-def rooms_of(reader: Session) -> dict[str, None]:
-    """The labels that the user is shown below periods, each once and in order; RESTRICTED names no room."""
-    nodes = read_view(reader.line(b"(view)"))
-    return dict.fromkeys(node.label for node in nodes if node.level == _ROOM_LEVEL and node.label != RESTRICTED)
+def rooms_of(reader: Session) -> dict[str, str]:
+    """The labels that the user is shown below periods, by the folded one: each once, as it stands first, and in order.
+
+    RESTRICTED names no room.
+    """
+    rooms: dict[str, str] = {}
+    for node in read_view(reader.line(b"(view)")):
+        if node.level == _ROOM_LEVEL and node.label != RESTRICTED:
+            rooms.setdefault(folded(node.label), node.label)
+    return rooms
 
 
 def _sheet_of(reader: Session, room: str) -> bytes:

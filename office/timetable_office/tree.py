@@ -3,6 +3,7 @@
 from __future__ import annotations
 
 import re
+import string
 from typing import NamedTuple, Sequence
 
 from timetable_office.errors import LibraryError
@@ -10,8 +11,14 @@ from timetable_office.library import COUNT_BYTES, RECORD_BYTES
 from timetable_office.state import read_label
 
 RESTRICTED = "RESTRICTED"
+_SMALL = str.maketrans(string.ascii_uppercase, string.ascii_lowercase)
 _PARTS = re.compile(rb"\(([^ ()]+)|\)")
 _END = re.compile(rb"\(end ([0-9]+)\)\Z")
+
+
+def folded(label: str) -> str:
+    """What a label is compared by: two labels are equal whatever the case of A to Z (document 02, card 6)."""
+    return label.translate(_SMALL)
 
 
 class Node(NamedTuple):

@@ -9,6 +9,7 @@ from timetable_office.decisions import RIGHTS, Decider, Decision, Decisions, See
 from timetable_office.errors import InputError
 from timetable_office.library import Session
 from timetable_office.places import node_paths, parents, select_stored, way_down
+from timetable_office.views import declared_name
 
 _SEEN = {Seen.HIDDEN: "hidden", Seen.RESTRICTED: "restricted", Seen.LABEL: "label"}
 # The rights that decide what is seen.
@@ -17,6 +18,7 @@ _SEEING = ("position", "read")
 
 def explain_nodes(session: Session, reader: str, path: str) -> dict[str, Any]:
     """What decides for a reader on each node that the path selects in the stored tree, as JSON has it."""
+    reader = declared_name(session, reader)
     places = select_stored(session, reader, path)
     if not places:
         raise InputError(f"{path} selects no node of the stored tree")

@@ -103,6 +103,7 @@ fn each_refusal_comes_with_its_number_and_changes_nothing() {
         (&school, "(query //*[0])".to_string(), Refusal::BadPath),
         (&school, "(user SHA)".to_string(), Refusal::BadName),
         (&school, "(rename //mon RESTRICTED)".to_string(), Refusal::BadLabel),
+        (&school, "(rename //MON Restricted)".to_string(), Refusal::BadLabel),
         (&school, "(append //mon (x))".to_string(), Refusal::TableFull),
         (&deep, format!("(append //mon {levels})"), Refusal::TooDeep),
     ];
@@ -143,6 +144,7 @@ fn each_refusal_of_a_document_comes_with_its_number_and_changes_nothing() {
         (&damaged, "<a/>".to_string(), Refusal::BadStore),
         (&school, "<a/>".to_string(), Refusal::WrongStage),
         (&empty, "<a><b></a></b>".to_string(), Refusal::NoDocument),
+        (&empty, "<a></A>".to_string(), Refusal::NoDocument),
         (&empty, "<a b=\"c\"/>".to_string(), Refusal::NoDocument),
         (&empty, "<a><RESTRICTED/></a>".to_string(), Refusal::BadLabel),
         (&empty, "<a>".repeat(13) + &"</a>".repeat(13), Refusal::TooDeep),

@@ -10,3 +10,4 @@ pub mod SheetParts
 pub mod ChildrenLaws
 pub mod SheetTreeLaws
 pub mod SheetWeeks
+pub mod SheetAnyCase

@@ -1,7 +1,7 @@
 -- The places at which the reader of a line stands, and what it leaves in the area (document 01: "A line is read left to right from a place that only moves on"). Assumes nothing.
 use Prim.Native.Nat.{ℕ, suc, _+_, _-_, _<_}
 use mathlib.Core.Path.{_≡_, refl, sym, ap, _∙_}
-use mathlib.Core.Bool.{Bool, true, false, cond}
+use mathlib.Core.Bool.{true, false}
 use mathlib.Core.List.{List, [], _∷_, _++_, append-nil}
 use mathlib.Core.Logic.{_⊎_, inl, inr}
 use native.Mathlib.Omega.{arith}
@@ -11,18 +11,16 @@ use lib.Seq.{drop-drop}
 use borrow.Author.Tests.{eqb-true}
 use Rattle.rights.specs.Bytes.{byteAt}
 use Rattle.rights.specs.Labels.{labelByte}
+use Rattle.rights.specs.Nodes.{Node}
 use Rattle.rights.specs.Record.{pasted}
-use Rattle.rights.specs.declared.path.Read.{Read}
 use Rattle.rights.specs.declared.path.Read.the-variants.{At}
 use Rattle.rights.proofs.ListLaws.{byCase, rest-of}
 use Rattle.rights.proofs.RecordLaws.{pasted-none}
-use Rattle.forms.specs.declared.layout.Word.{Word}
-use Rattle.forms.specs.declared.layout.Word.the-variants as word
 use Rattle.forms.specs.Part.{runEnd}
 use Rattle.forms.specs.Kind.{Kind, Label, Path, Tree, Sign, Right, isTree, partEnd}
 use Rattle.forms.specs.Layout.{shapeOf, wordAt}
 use Rattle.forms.specs.Tree.{recordsOf}
-use Rattle.forms.specs.Form.{Places, are, none, _onTo_, onePart, partsOf, placeIn, noForm, heldAt, allHeldAt, endsIn, readForm, nodesHeld, treeIn}
+use Rattle.forms.specs.Form.{Held, nodesOr, Places, are, none, _onTo_, onePart, partsOf, placeIn, noForm, heldAt, allHeldAt, endsIn, readForm, nodesHeld, treeIn}
 use Rattle.forms.specs.How.Codes.{areaBy}
 use Rattle.forms.specs.How.Reader.{areaAfter, areaIn, Whole, Rises, between, Once}
 use Rattle.forms.specs.declared.reader.Progress.{Progress}
@@ -52,34 +50,34 @@ held-later : (ks : List Kind) (s : List ℕ) (i x : ℕ) (ys : List ℕ) → all
 held-later [] s i x ys = refl
 held-later (k ∷ ks) s i x ys = ap (λ hs. (heldAt k s (placeIn ys i) (placeIn ys (suc i)), hs)) (held-later ks s (suc i) x ys)
 
+tree-later : (k : Kind) → isTree k ≡ false → (ks : List Kind) → treeLast (k ∷ ks) ≡ true → treeLast ks ≡ true
+tree-later k n [] l = refl
+tree-later k n (j ∷ ks) l = rw n at l
+
 module _ (s a : List ℕ) where
   abbrev Put : List Kind → ℕ → List ℕ → Type 0
   Put ks at es = areaAfter ks s at a ≡ pasted a 0 (recordsOf (nodesHeld ks (allHeldAt ks s (placeIn es) 0)))
 
-  put-next : (k : Kind) (ks : List Kind) (at e : ℕ) (ys : List ℕ) → treeLast (k ∷ ks) ≡ true → byteAt s at ≡ 32 → partEnd k s (at + 1) ≡ At e → (treeLast ks ≡ true → Put ks e ys) → Put (k ∷ ks) at (at ∷ ys)
+  abbrev PutNext : Kind → Type 0
+  PutNext k =
+      (ks : List Kind) (at e : ℕ) (ys : List ℕ) → treeLast (k ∷ ks) ≡ true → byteAt s at ≡ 32 → partEnd k s (at + 1) ≡ At e → (treeLast ks ≡ true → Put ks e ys) → Put (k ∷ ks) at (at ∷ ys)
+
+  put-tree : PutNext Tree
   unfolding areaAfter areaBy recordsOf
-  put-next Tree [] at e ys l b q ih = rw (b, q)
-  put-next Tree (j ∷ ks) at e ys l b q ih = absurd (let z : _≡_ {A = ℕ} 0 1 = cc in omega arith)
-  put-next Label ks at e ys l b q ih = rw (b, q, held-later ks s 0 at ys) (ih (later ks l))
-    where
-      later : (ks : List Kind) → treeLast (Label ∷ ks) ≡ true → treeLast ks ≡ true
-      later [] l = refl
-      later (j ∷ ks) l = l
-  put-next Path ks at e ys l b q ih = rw (b, q, held-later ks s 0 at ys) (ih (later ks l))
-    where
-      later : (ks : List Kind) → treeLast (Path ∷ ks) ≡ true → treeLast ks ≡ true
-      later [] l = refl
-      later (j ∷ ks) l = l
-  put-next Sign ks at e ys l b q ih = rw (b, q, held-later ks s 0 at ys) (ih (later ks l))
-    where
-      later : (ks : List Kind) → treeLast (Sign ∷ ks) ≡ true → treeLast ks ≡ true
-      later [] l = refl
-      later (j ∷ ks) l = l
-  put-next Right ks at e ys l b q ih = rw (b, q, held-later ks s 0 at ys) (ih (later ks l))
-    where
-      later : (ks : List Kind) → treeLast (Right ∷ ks) ≡ true → treeLast ks ≡ true
-      later [] l = refl
-      later (j ∷ ks) l = l
+  put-tree [] at e ys l b q ih = rw (b, q)
+  put-tree (j ∷ ks) at e ys l b q ih = absurd (let z : _≡_ {A = ℕ} 0 1 = cc in omega arith)
+
+  -- a part that is no tree puts nothing
+  put-later : (k : Kind) → isTree k ≡ false → ((h : Held k) (ns : List Node) → nodesOr k h ns ≡ ns) → PutNext k
+  unfolding areaAfter areaBy
+  put-later k n o ks at e ys l b q ih = rw (b, q, n, o, held-later ks s 0 at ys) (ih (tree-later k n ks l))
+
+  put-next : (k : Kind) → PutNext k
+  put-next Label = put-later Label refl (λ h ns. refl)
+  put-next Path = put-later Path refl (λ h ns. refl)
+  put-next Tree = put-tree
+  put-next Sign = put-later Sign refl (λ h ns. refl)
+  put-next Right = put-later Right refl (λ h ns. refl)
 
   parts-put : (ks : List Kind) (at : ℕ) (es : List ℕ) → treeLast ks ≡ true → partsOf ks s at ≡ are es → Put ks at es
   unfolding partsOf areaAfter recordsOf

@@ -6,7 +6,7 @@ use mathlib.Core.List.{List, [], _∷_, map}
 use lib.ListN.{drop}
 use Rattle.guarantee.specs.Alike.{Input, outcome}
 use Rattle.guarantee.specs.Cases.{replies, newState, newTable, input, Case, CaseAnswered, Starred}
-use Rattle.guarantee.specs.Cases.{exampleAnswered, exampleRenamed, bracketHolds, bracketCounts, noRules, rootRemoved, lessonRemoved, levels, fewRecords, hiddenChild, wordsOfOthers, ReadRight, firstRoom, doorSheet, formTutor, CardsAnswered}
+use Rattle.guarantee.specs.Cases.{exampleAnswered, exampleRenamed, bracketHolds, bracketCounts, noRules, rootRemoved, lessonRemoved, levels, fewRecords, hiddenChild, wordsOfOthers, ReadRight, firstRoom, doorSheet, formTutor, eitherCase, CardsAnswered}
 use Rattle.rights.specs.Bytes.{digitByte, run, all, every}
 use Rattle.rights.specs.Labels.{labelByte, folded, sameLabel}
 use Rattle.rights.specs.Path.{passes}
@@ -168,9 +168,14 @@ form-tutor : Gives formTutor
 unfolding given
 form-tutor = refl
 
+either-case : Gives eitherCase
+unfolding given
+either-case = refl
+
 pub cards-answered : CardsAnswered
 cards-answered =
     answered firstRoom small-passes first-room
     and answered doorSheet new-passes door-sheet
     and answered formTutor small-passes form-tutor
+    and answered eitherCase small-passes either-case
     and tt

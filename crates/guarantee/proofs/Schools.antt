@@ -66,10 +66,19 @@ pub look-ill-sha : lookOf "ill" ≡ lookOf "SHA"
 unfolding all labelByte folded sameLabel passes some passesOwn policyWord isBy standsFor subjectsWhere reaches decide rightsBy chains recordsFrom padded recordOf storedFrom atParent nearestFirst shownAfter keep eachFrom join changed
 look-ill-sha = refl
 
+pub look-in-any-case : lookOf "flu" ≡ lookOf "Flu"
+unfolding all labelByte folded sameLabel passes some passesOwn policyWord isBy standsFor subjectsWhere reaches decide rightsBy chains recordsFrom padded recordOf storedFrom atParent nearestFirst shownAfter keep eachFrom join changed
+look-in-any-case = refl
+
 -- `ill` and `cold` are no policy words
 pub behind-ill-cold : BehindBoth "ill" "cold"
 unfolding all labelByte folded sameLabel passes some passesOwn policyWord isBy standsFor subjectsWhere reaches decide rightsBy chains recordsFrom padded recordOf storedFrom atParent nearestFirst shownAfter keep eachFrom join changed
 behind-ill-cold = ((λ a b. inl refl), ((λ a b. inr (refl, refl)), tt))
+
+-- `flu` is one, and equal to `Flu`
+pub behind-in-any-case : BehindBoth "flu" "Flu"
+unfolding all labelByte folded sameLabel passes some passesOwn policyWord isBy standsFor subjectsWhere reaches decide rightsBy chains recordsFrom padded recordOf storedFrom atParent nearestFirst shownAfter keep eachFrom join changed
+behind-in-any-case = ((λ a b. inl refl), ((λ a b. inl refl), tt))
 
 differs : (a b : List ℕ) → sameLabel a b ≡ false → policyWord thePolicy b ≡ true → NoWordDiffers thePolicy a b → ⊥
 differs a b e f (inl q) = true≢false (sym q ∙ e)
@@ -87,3 +96,7 @@ behind-ill-sha b = differs (bytes "ill") (bytes "SHA") refl refl (b .1 .0 refl r
 pub tables-differ : theTable "ill" ≡ theTable "cold" → ⊥
 unfolding all labelByte folded sameLabel passes some passesOwn policyWord isBy standsFor subjectsWhere reaches decide rightsBy chains recordsFrom padded recordOf storedFrom atParent nearestFirst shownAfter keep eachFrom join changed
 tables-differ e = let z : _≡_ {A = ℕ} 3 4 = ap (λ (t : List ℕ). getD t 37 0) e in omega (arith, z)
+
+pub letters-differ : theTable "flu" ≡ theTable "Flu" → ⊥
+unfolding all labelByte folded sameLabel passes some passesOwn policyWord isBy standsFor subjectsWhere reaches decide rightsBy chains recordsFrom padded recordOf storedFrom atParent nearestFirst shownAfter keep eachFrom join changed
+letters-differ e = let z : _≡_ {A = ℕ} 102 70 = ap (λ (t : List ℕ). getD t 38 0) e in omega (arith, z)

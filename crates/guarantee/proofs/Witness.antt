@@ -33,9 +33,9 @@ use Rattle.lines.specs.Effect.{renaming, recordsAfter}
 use Rattle.guarantee.specs.Alike.{Start, Alike, Behind, shownTo, look, UserIs, Input, outcome}
 use Rattle.guarantee.specs.Identity.{afterEffect, stateAfterAll, tableAfterAll, tagAll, tagAt}
 use Rattle.guarantee.specs.Cases.{newState, newTable}
-use Rattle.guarantee.specs.Witness.{typed, policyLines, school, stateWith, tableWith, Hidden, fileWith, treeWith, policyState, policyTable, loadedWith, LoadsFile, HiddenInFiles, ToldApart, SecondNeeded, WordsNeeded}
+use Rattle.guarantee.specs.Witness.{typed, policyLines, school, stateWith, tableWith, NotTold, Hidden, fileWith, treeWith, policyState, policyTable, loadedWith, LoadsFile, HiddenInFiles, ToldApart, SecondNeeded, WordsNeeded}
 use Rattle.guarantee.specs.Loading.{TreesAlike}
-use Rattle.guarantee.proofs.Schools.{thePolicy, theTable, lookOf, shownOf, BehindBoth, look-ill-cold, look-ill-flu, look-ill-sha, behind-ill-cold, behind-ill-flu, behind-ill-sha, tables-differ}
+use Rattle.guarantee.proofs.Schools.{thePolicy, theTable, lookOf, shownOf, BehindBoth, look-ill-cold, look-ill-flu, look-ill-sha, behind-ill-cold, behind-ill-flu, behind-ill-sha, tables-differ, look-in-any-case, behind-in-any-case, letters-differ}
 use Rattle.guarantee.proofs.LineAlike.{same-self}
 use Rattle.guarantee.proofs.SessionKept.{store-kept}
 use Rattle.guarantee.proofs.RunKept.{run-passes}
@@ -85,6 +85,10 @@ cold = refl
 flu : Reads "flu" "(done 1 1)\n"
 unfolding given readAfter readOff
 flu = refl
+
+capital : Reads "Flu" "(done 1 1)\n"
+unfolding given readAfter readOff
+capital = refl
 
 sha : Reads "SHA" "(done 1 1)\n"
 unfolding given readAfter readOff
@@ -164,9 +168,6 @@ module _ (one other answer answer' : String) (w : Reads one answer) (w' : Reads 
     says-other = reply-is other answer' w';
   }
 
-ill-cold : Alike 0 (stateWith "ill") (tableWith "ill") (stateWith "cold") (tableWith "cold")
-ill-cold = alike "ill" "cold" "(done 1 0)\n" "(done 1 0)\n" ill cold look-ill-cold behind-ill-cold
-
 ill-flu : ToldApart "ill" "flu" "(remove /*/*)" "(done 1 0)\n" "(done 1 1)\n"
 ill-flu = told-apart "ill" "flu" "(done 1 0)\n" "(done 1 1)\n" ill flu look-ill-flu behind-ill-flu
 
@@ -183,10 +184,15 @@ words-needed =
       has = ap₂ (λ (P : Policy) (t : List ℕ). getD (rightsOn P 0 (recordsAfter (renaming (bytes "note") (true ∷ [])) (records t))) 1 0) (policy-is "ill" "(done 1 0)\n" ill) e;
     }
 
+not-told : (one other answer answer' : String) → Reads one answer → Reads other answer' → lookOf one ≡ lookOf other → BehindBoth one other
+    → (theTable one ≡ theTable other → ⊥) → NotTold one other
+not-told one other answer answer' w w' e b d =
+    (alike one other answer answer' w w' e b, λ q. d (sym (table-is one answer w) ∙ q ∙ table-is other answer' w'))
+
 pub hidden : Hidden
 hidden = (
-  ill-cold,
-  λ e. tables-differ (sym (table-is "ill" "(done 1 0)\n" ill) ∙ e ∙ table-is "cold" "(done 1 0)\n" cold),
+  not-told "ill" "cold" "(done 1 0)\n" "(done 1 0)\n" ill cold look-ill-cold behind-ill-cold tables-differ,
+  not-told "flu" "Flu" "(done 1 1)\n" "(done 1 1)\n" flu capital look-in-any-case behind-in-any-case letters-differ,
 )
 
 pub second-needed : SecondNeeded

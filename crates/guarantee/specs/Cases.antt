@@ -375,5 +375,42 @@ formTutor =
           ∷ [];
     }
 
+-- Card 6: "R12 and r12 are one room." SHA is staff in any case; the rules say r12 and key, the tree R12 and Key. Views show labels as stored.
+abbrev pub eitherCase : Case
+eitherCase =
+    record {
+      capacity = 10;
+      turns =
+          ok "(subject staff)"
+          ∷ ok "(subject SHA)"
+          -- "Two subjects whose names differ only in case count as declared twice."
+          ∷ "(subject sha)" refused 5
+          ∷ "(subject Restricted)" refused 9
+          ∷ ok "(isa sha Staff)"
+          ∷ "(isa SHA staff)" refused 5
+          ∷ ok "(rule accept read //* STAFF)"
+          ∷ ok "(rule accept position //* staff)"
+          ∷ ok "(rule accept update //* staff)"
+          ∷ ok "(rule deny read //r12/key Staff)"
+          ∷ "(rule accept read //restricted staff)" refused 9
+          ∷ ok "(root School)"
+          ∷ ok "(child (Mon (R12 (Key))))"
+          ∷ ok "(user Sha)"
+          ∷ "(view)" prints (
+          "(root School)"
+          ∷ "(child (Mon (R12 (RESTRICTED))))"
+          ∷ "(end 4)"
+          ∷ []
+          )
+          ∷ "(query //r12/*)" gives "(hit 3 RESTRICTED)\n(end 1)\n"
+          ∷ "(find //restricted)" gives "(hit 3 RESTRICTED)\n"
+          -- a policy word in any case is no new label; another case of the label itself is one
+          ∷ "(rename //mon KEY)" refused 9
+          ∷ "(rename //mon restricted)" refused 9
+          ∷ "(rename //mon MON)" gives "(done 1 1)\n"
+          ∷ "(find //mon)" gives "(hit 1 MON)\n"
+          ∷ [];
+    }
+
 abbrev pub CardsAnswered : Type 0
-CardsAnswered = All CaseAnswered (firstRoom ∷ doorSheet ∷ formTutor ∷ [])
+CardsAnswered = All CaseAnswered (firstRoom ∷ doorSheet ∷ formTutor ∷ eitherCase ∷ [])

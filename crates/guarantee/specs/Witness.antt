@@ -47,11 +47,12 @@ stateWith inner = stateAfterAll newState (newTable 10) (school inner)
 abbrev pub tableWith : String → List ℕ
 tableWith inner = tableAfterAll newState (newTable 10) (school inner)
 
--- The suppositions are met by stores that differ: SHA is not told `ill` from `cold`.
+-- The suppositions are met by stores that differ: SHA is not told `ill` from `cold`; nor, though `flu` is a policy word, `flu` from `Flu` (document 02, card 6).
+abbrev pub NotTold : String → String → Type 0
+NotTold one other = Alike 0 (stateWith one) (tableWith one) (stateWith other) (tableWith other) × (tableWith one ≡ tableWith other → ⊥)
+
 abbrev pub Hidden : Type 0
-Hidden =
-    Alike 0 (stateWith "ill") (tableWith "ill") (stateWith "cold") (tableWith "cold")
-    × (tableWith "ill" ≡ tableWith "cold" → ⊥)
+Hidden = NotTold "ill" "cold" × NotTold "flu" "Flu"
 
 -- So with the solver's files (specs/Loading.antt): a school's file and its tree, loaded after the lines of the policy
 abbrev pub fileWith : String → List ℕ

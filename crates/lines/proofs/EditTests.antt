@@ -14,6 +14,7 @@ use Rattle.rights.specs.How.Places as places
 use Rattle.rights.specs.PolicyCheck.{policyOk}
 use Rattle.lines.specs.PolicyEdit.{subjectFrom, subjectNamed, isLine, isaHeld}
 use Rattle.lines.specs.declared.policy_edit.Found.the-variants.{Subject, Unknown}
+use Rattle.rights.proofs.LabelLaws.{same-left}
 use Rattle.rights.proofs.PathTexts.{cond-elim}
 use Rattle.rights.proofs.SoundLaws.{policy-sound}
 use Rattle.rights.proofs.PolicyWords.{some-here, some-later, some-none, names-cons, names-nil}
@@ -60,6 +61,17 @@ module _ (p : List ℕ) (n r : ℕ) where
 
     pub line-none : m ≤ k → some (isLine n r) (isaFrom p (m - k) k) ≡ false
     line-none h = some-none (isLine n r) (isaFrom p (m - k) k) (isa-nil h)
+
+-- A subject is found by its name in whatever case (document 02, card 6).
+
+named-from : (x y : List ℕ) → sameLabel x y ≡ true → (u : ℕ) (zs : List (List ℕ)) → subjectFrom x u zs ≡ subjectFrom y u zs
+unfolding subjectFrom
+named-from x y e u [] = refl
+named-from x y e u (z ∷ zs) = rw (same-left x y e z, named-from x y e (suc u) zs)
+
+pub name-any-case : (P : Policy) (x y : List ℕ) → sameLabel x y ≡ true → subjectNamed P x ≡ subjectNamed P y
+unfolding subjectNamed
+name-any-case P x y e = named-from x y e 0 (P .names)
 
 -- In the paper's words: a name is unknown exactly if no subject has it, and what is found is a subject of that name.
 subject-apart : {C : Type 0} {u : ℕ} → Subject u ≡ Unknown → C

@@ -24,6 +24,7 @@ pub mod EveryLaws
 pub mod WordLaws
 pub mod SoundLaws
 pub mod PolicyWords
+pub mod AnyCase
 pub mod RightsLaws
 pub mod RecordLaws
 pub mod PassLaws

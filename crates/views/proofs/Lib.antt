@@ -13,6 +13,7 @@ pub mod RemovalLaws
 pub mod InsertionLaws
 pub mod TurnLaws
 pub mod WholeInsertionLaws
+pub mod OverwriteLaws
 pub mod RelabelLaws
 pub mod MapLaws
 pub mod DepthLaws

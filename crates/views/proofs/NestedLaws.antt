@@ -59,11 +59,11 @@ module _ {E : Type 0} (lev : E → ℕ) where
       (λ d. rw d (nested-app (lev x) n n (y x) (x ∷ insertInFront lev y (drop 1 ms) t) (w .0) (nested-front (lev x) n (lev x) (y x) (w .0) (f x) (wy x)) (a x) (omega arith) (w .0, ih)))
       (λ d. rw d (w .0, ih))
 
-  pub nested-rename : (f : E → E) → ((x : E) → lev (f x) ≡ lev x) → (n : ℕ) (ms : List Bool) (t : List E) → Nested lev n t → Nested lev n (rename lev f ms t)
+  pub nested-rename : (f : E → E) (n : ℕ) (ms : List Bool) (t : List E) → All (λ x. lev (f x) ≡ lev x) t → Nested lev n t → Nested lev n (rename lev f ms t)
   unfolding rename
-  nested-rename f fl n ms [] w = tt
-  nested-rename f fl n ms (x ∷ t) w = let ih = nested-rename f fl (suc (lev x)) (drop 1 ms) t (w .1) in byCase (getD ms 0 false)
-      (λ d. rw (d, fl x) (w .0, ih))
+  nested-rename f n ms [] a w = tt
+  nested-rename f n ms (x ∷ t) a w = let ih = nested-rename f (suc (lev x)) (drop 1 ms) t (a .1) (w .1) in byCase (getD ms 0 false)
+      (λ d. rw (d, a .0) (w .0, ih))
       (λ d. rw d (w .0, ih))
 
   -- what holds of each node

@@ -10,6 +10,7 @@ use borrow.Author.Tests.{leb-true}
 use lib.ListN.{length, getD, take, drop, length-drop}
 use lib.Seq.{length-take-le, getD-drop}
 use Rattle.rights.specs.Table.{labelPartOk, spareOk, recordOk, recordsOk, level, spare, tableOk, count, capacity, records}
+use Rattle.rights.proofs.AllLaws.{all-with}
 use Rattle.rights.proofs.TableLaws.{both, record-levels, record-parts}
 use Rattle.rights.proofs.ListLaws.{byCase}
 use Rattle.rights.proofs.RecordsOkLaws.{record-yes}
@@ -74,12 +75,7 @@ abbrev pub Good : List ℕ → Type 0
 Good r = (1 ≤ level r) × (length r ≡ 32) × (recordOk 0 11 r ≡ true)
 
 good-full : (rs : List (List ℕ)) → All Good rs → All Full rs
-good-full [] a = tt
-good-full (r ∷ rs) a = (a .0 .1, good-full rs (a .1))
-
-good-deep : (rs : List (List ℕ)) → All Good rs → All (λ r. 1 ≤ level r) rs
-good-deep [] a = tt
-good-deep (r ∷ rs) a = (a .0 .0, good-deep rs (a .1))
+good-full rs a = all-with Good (λ x g. g .1) rs a
 
 inner-nodes : (n : ℕ) (rs : List (List ℕ)) → recordsOk 1 n rs ≡ true → All Full rs → Nested level n rs × All Good rs
 unfolding recordsOk
@@ -122,7 +118,7 @@ remove-kept ms (r ∷ rs) k =
     let w = nested-remove level (suc (level r)) (drop 1 ms) rs (s .2) in
     let g = all-remove level Good (drop 1 ms) rs (s .3) in
     byCase (getD ms 0 false)
-    (λ d. let z : dropBelow level (level r) u ≡ [] = rw (s .0) (drop-all level u (good-deep u g)) in rw (d, z) (refl, tt))
+    (λ d. let z : dropBelow level (level r) u ≡ [] = rw (s .0) (drop-all level u (all-with Good (λ x h. h .0) u g)) in rw (d, z) (refl, tt))
     (λ d. rw d (root-join r u (s .0) (s .1) w g, (k .1 .0, good-full u g)))
 
 module _ (y : List ℕ → List (List ℕ)) (k : List ℕ → ℕ) (lo : (x : List ℕ) → level x ≤ k x) (hi : (x : List ℕ) → k x ≤ suc (level x))
@@ -152,29 +148,34 @@ module _ (y : List ℕ → List (List ℕ)) (wy : (x : List ℕ) → Nested leve
       let g = all-insertInFront level Good y (drop 1 ms) rs (s .3) (d .1) in
       rw e (root-join r u (s .0) (s .1) w g, (q .1 .0, good-full u g))
 
-rename-kept : (s : List ℕ) → LabelOk s → (ms : List Bool) (rs : List (List ℕ)) → Ok rs → Ok (rename level (relabel s) ms rs)
+-- what f keeps of a record of 32 bytes: its level, its length, and that it passes the check
+pub record Keeps (f : List ℕ → List ℕ) : Type 0 where
+  pub same-level : (r : List ℕ) → Full r → level (f r) ≡ level r
+  pub full : (r : List ℕ) → Full r → Full (f r)
+  pub ok : (r : List ℕ) → Full r → recordOk 0 11 r ≡ true → recordOk 0 11 (f r) ≡ true
+
+rename-kept : (f : List ℕ → List ℕ) → Keeps f → (ms : List Bool) (rs : List (List ℕ)) → Ok rs → Ok (rename level f ms rs)
 unfolding rename recordsOk
-rename-kept s l ms [] q = (refl, tt)
-rename-kept s l ms (r ∷ rs) q =
+rename-kept f k ms [] q = (refl, tt)
+rename-kept f k ms (r ∷ rs) q =
     let p = root-split r rs (q .0) (q .1 .1) in
-    let u = rename level (relabel s) (drop 1 ms) rs in
-    let w = nested-rename level (relabel s) (level-relabel s) (suc (level r)) (drop 1 ms) rs (p .2) in
-    let g = all-rename level Good (relabel s) good (drop 1 ms) rs (p .3) in
+    let e = k .same-level r (q .1 .0) in
+    let u = rename level f (drop 1 ms) rs in
+    let w = nested-rename level f (suc (level r)) (drop 1 ms) rs (all-with Good (λ x h. k .same-level x (h .1)) rs (p .3)) (p .2) in
+    let g = all-rename level Good f (λ x h. (rw (k .same-level x (h .1)) (h .0), k .full x (h .1), k .ok x (h .1) (h .2))) (drop 1 ms) rs (p .3) in
     byCase (getD ms 0 false)
-    (λ d. rw d (root-join (relabel s r) u (level-relabel s r ∙ p .0) (made r (p .1)) (rw (level-relabel s r) w) g, (length-relabel s r (l .short) (q .1 .0), good-full u g)))
+    (λ d. rw d (root-join (f r) u (e ∙ p .0) (k .ok r (q .1 .0) (p .1)) (rw e w) g, (k .full r (q .1 .0), good-full u g)))
     (λ d. rw d (root-join r u (p .0) (p .1) w g, (q .1 .0, good-full u g)))
+
+-- a record with another label: its spare bytes stay
+relabel-keeps : (s : List ℕ) → LabelOk s → Keeps (relabel s)
+relabel-keeps s l = record { same-level = λ r h. level-relabel s r; full = λ r. length-relabel s r (l .short); ok = ok }
   where
-    -- the spare bytes stay
-    spared : (x : List ℕ) → spareOk x ≡ true → spareOk (relabel s x) ≡ true
-    spared x e = unfold spareOk in rw (spare-made (level x) s (spare x) (l .short)) e
-
-    made : (x : List ℕ) → recordOk 0 11 x ≡ true → recordOk 0 11 (relabel s x) ≡ true
-    made x e =
-        let h = record-levels 0 11 x e .2 in
-        made-ok 0 11 (level x) s (spare x) (omega arith) h h (l .some) (l .short) (l .bytes) (l .free) (spared x (record-parts 0 11 x e .1))
-
-    good : (x : List ℕ) → Good x → Good (relabel s x)
-    good x h = (rw (level-relabel s x) (h .0), length-relabel s x (l .short) (h .1), made x (h .2))
+    ok : (r : List ℕ) → Full r → recordOk 0 11 r ≡ true → recordOk 0 11 (relabel s r) ≡ true
+    ok r h e =
+        let m = record-levels 0 11 r e .2 in
+        let p : spareOk (relabel s r) ≡ true = unfold spareOk in rw (spare-made (level r) s (spare r) (l .short)) (record-parts 0 11 r e .1) in
+        made-ok 0 11 (level r) s (spare r) (omega arith) m m (l .some) (l .short) (l .bytes) (l .free) p
 
 -- a tree at its place
 nested-raise : (k n : ℕ) (tree : List (List ℕ)) → Nested level n tree → Nested level (k + n) (raise k tree)
@@ -251,7 +252,7 @@ full-chunks (suc n) x h = (length-take-le 32 x (omega arith), full-chunks n (dro
 pub length-records : (t : List ℕ) → length (records t) ≡ count t
 length-records t = ap length (all-chunks t) ∙ length-chunks (count t) (drop 4 t)
 
-records-kept : (t : List ℕ) → tableOk t ≡ true → Ok (records t)
+pub records-kept : (t : List ℕ) → tableOk t ≡ true → Ok (records t)
 records-kept t e = let f = facts t e in (f .nested, rw (all-chunks t) (full-chunks (count t) (drop 4 t) (rw length-drop (omega (arith, f .size)))))
 
 pub length-placed : (place : Place) (t : List ℕ) (ms : List Bool) (tree : List ℕ) (m : ℕ) → length (placed place m tree ms (records t)) ≡ count t + markCount (take (count t) ms) * m
@@ -280,11 +281,14 @@ removed-stored t ms e =
     let l : length (removed ms (records t)) ≤ count t = omega (arith, shorter-remove level ms (records t), length-records t) in
     stored t (removed ms (records t)) (f .head) (omega (arith, l, f .held)) (remove-kept ms (records t) (records-kept t e))
 
+pub rename-stored : (f : List ℕ → List ℕ) → Keeps f → (t : List ℕ) (ms : List Bool) → tableOk t ≡ true → StoredAs t (rename level f ms (records t))
+rename-stored f k t ms e =
+    let h = facts t e in
+    let n : length (rename level f ms (records t)) ≡ count t = length-rename level f ms (records t) ∙ length-records t in
+    stored t (rename level f ms (records t)) (h .head) (omega (arith, n, h .held)) (rename-kept f k ms (records t) (records-kept t e))
+
 pub renamed-stored : (t : List ℕ) (ms : List Bool) (s : List ℕ) → tableOk t ≡ true → LabelOk s → StoredAs t (renamed s ms (records t))
-renamed-stored t ms s e l =
-    let f = facts t e in
-    let n : length (renamed s ms (records t)) ≡ count t = length-rename level (relabel s) ms (records t) ∙ length-records t in
-    stored t (renamed s ms (records t)) (f .head) (omega (arith, n, f .held)) (rename-kept s l ms (records t) (records-kept t e))
+renamed-stored t ms s e l = rename-stored (relabel s) (relabel-keeps s l) t ms e
 
 pub placed-stored : (place : Place) (t : List ℕ) (ms : List Bool) (tree : List ℕ) (m : ℕ) → tableOk t ≡ true → TreeOk (chunks m tree)
     → tooDeep (lower place + deepest (chunks m tree)) ms (records t) ≡ false → hasRoom t ms m ≡ true → (lower place ≡ 0 → getD ms 0 false ≡ false)

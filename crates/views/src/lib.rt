@@ -2,6 +2,7 @@
 pub mod done;
 pub mod insert;
 pub mod moves;
+mod overwrite;
 pub mod remove;
 pub mod rename;
 pub mod shown;

@@ -1,6 +1,6 @@
 //! Random documents of the solver: of the narrow kind, printed in one of the ways that mean the same, or damaged.
 
-use super::generate::{self, label, sized_tree};
+use super::generate::{self, label, sized_tree, typed};
 use super::random::Random;
 use super::sessions::disturb;
 use crate::label::{Label, RESTRICTED};
@@ -13,7 +13,7 @@ const NESTED: [&str; 4] = ["a", "b", "ab", "_"];
 const WIDE: usize = 400; // nodes, too many for one line
 
 /// What may stand between the tags of a document of the kind.
-const KNOWN: [&str; 14] = [
+const KNOWN: [&str; 15] = [
     "<a/>",
     "<a></a>",
     "<_/>",
@@ -23,6 +23,7 @@ const KNOWN: [&str; 14] = [
     "<RESTRICTED/>",
     "<restricted/>",
     "<x>RESTRICTED</x>",
+    "<X>Restricted<x/></X>",
     "<x>\t\r\n abcdefghijklmnopqrstuvwx\n</x>",
     "<x>-1</x>",
     "<x>7</x>",
@@ -31,7 +32,7 @@ const KNOWN: [&str; 14] = [
 ];
 
 /// What may stand nowhere in one.
-const FOREIGN: [&str; 53] = [
+const FOREIGN: [&str; 55] = [
     "<!-- c -->",
     "<!---->",
     "<![CDATA[x]]>",
@@ -85,6 +86,8 @@ const FOREIGN: [&str; 53] = [
     "<x>a+b</x>",
     "<x>a&#32;</x>",
     "<a></b>",
+    "<a></A>",
+    "<A></a>",
 ];
 
 const NO_NAMES: [&str; 12] = ["7", "7a", "0", "-", "-a", ".", ".a", "a:b", "a+b", "\u{e9}", "a\u{e9}", "abcdefghijklmnopqrstuvwxy"];
@@ -290,15 +293,16 @@ fn deep(random: &mut Random) -> Vec<u8> {
     let mut names: Vec<&str> = (0..depth).map(|_| *random.pick(&NESTED)).collect();
     let level = random.below(depth);
     if random.percent(15) {
-        names[level] = "RESTRICTED";
+        names[level] = *random.pick(&["RESTRICTED", "restricted"]);
     }
     let opened: Vec<String> = names.iter().map(|name| format!("<{name}>")).collect();
     let mut closed: Vec<String> = names.iter().rev().map(|name| format!("</{name}>")).collect();
     let closing = random.below(depth);
-    match random.below(8) {
+    match random.below(9) {
         0..=1 => closed[closing] = "</c>".to_string(),
         2 => closed[closing].clear(),
         3 => closed.truncate(closing),
+        4 => closed[closing] = closed[closing].to_uppercase(), // no other tag, where the name is `_` or RESTRICTED
         _ => {}
     }
     let inner = *random.pick(&["", "", "text", "<b/>", "\n", "a b", "&lt;", "RESTRICTED"]);
@@ -324,10 +328,10 @@ fn some_tree(random: &mut Random, capacity: usize) -> Tree {
     with_document(random, tree)
 }
 
-/// Gives one of a tree's nodes the label RESTRICTED.
+/// Gives one of a tree's nodes the label RESTRICTED, in some case.
 fn restrict(random: &mut Random, tree: &mut Tree) {
     if tree.children.is_empty() || random.percent(20) {
-        tree.label = RESTRICTED;
+        tree.label = label(&typed(random, &RESTRICTED));
     } else {
         let child = random.below(tree.children.len());
         restrict(random, &mut tree.children[child]);

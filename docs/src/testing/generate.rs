@@ -1,14 +1,14 @@
 //! Random policies, trees, paths and lines.
 
 use super::random::Random;
-use crate::label::Label;
+use crate::label::{listed, Label, RESTRICTED};
 use crate::path::{Step, Test};
 use crate::policy::{Policy, Rule, DELETE, INSERT, POSITION, READ, UPDATE};
 use crate::step::write_tree;
 use crate::table::{flatten, nest_inserted, Node, Tree, LEVEL_MAXIMUM};
 
-/// Two of them fill a sheet's cell and more.
-const LABELS: [&str; 14] = ["a", "b", "c", "note", "x", "y", "z", "k.1", "R-12", "10B", "lesson", "room", "geography-12C", "philosophy-and-logic-13C"];
+/// Two of them fill a sheet's cell and more; R-12 and Rm12 differ in what no case tells apart.
+const LABELS: [&str; 15] = ["a", "b", "c", "note", "x", "y", "z", "k.1", "R-12", "Rm12", "10B", "lesson", "room", "geography-12C", "philosophy-and-logic-13C"];
 const ROOMS: [&str; 3] = ["k.1", "R-12", "room"];
 const ROOM_LEVEL: usize = 3;
 const NAMES: [&str; 6] = ["ann", "bob", "cid", "staff", "music", "office"];
@@ -20,6 +20,36 @@ pub fn label(text: &str) -> Label {
 
 pub fn text_of(label: &Label) -> String {
     String::from_utf8_lossy(label.text()).into_owned()
+}
+
+// --- The case of letters ---
+
+/// The label in some case: all letters capital or small, one of them or each turned.
+pub fn other_case(random: &mut Random, label: &Label) -> Label {
+    let mut text = label.text().to_vec();
+    match random.below(4) {
+        0 => text.make_ascii_uppercase(),
+        1 => text.make_ascii_lowercase(),
+        2 => {
+            let byte = random.pick_mut(&mut text);
+            *byte ^= u8::from(byte.is_ascii_alphabetic()) << 5;
+        }
+        _ => {
+            for byte in text.iter_mut().filter(|byte| byte.is_ascii_alphabetic() && random.percent(50)) {
+                *byte ^= 32;
+            }
+        }
+    }
+    Label::new(&text).expect("a label")
+}
+
+/// The label as it is typed: mostly as it stands, now and then in another case.
+pub fn typed(random: &mut Random, label: &Label) -> String {
+    text_of(&if random.percent(30) { other_case(random, label) } else { *label })
+}
+
+fn restricted(random: &mut Random) -> String {
+    typed(random, &RESTRICTED)
 }
 
 // --- Policies ---
@@ -49,7 +79,7 @@ fn rule_path(random: &mut Random, words: &[Label], uses_own: bool) -> Vec<Step> 
 /// A policy, and a reader to whom it grants a good deal.
 pub fn policy(random: &mut Random) -> (Policy, usize) {
     let mut policy = Policy::default();
-    let mut names = NAMES.map(label);
+    let mut names = NAMES.map(|name| label(&typed(random, &label(name))));
     random.shuffle(&mut names);
     let subjects = random.within(2, 5);
     policy.subjects.extend(&names[..subjects]);
@@ -114,7 +144,7 @@ pub fn policy_lines(policy: &Policy) -> Vec<String> {
 
 pub fn some_label(random: &mut Random) -> Label {
     let text: &&str = if random.percent(75) { random.pick(&LABELS) } else { random.pick(&NAMES) };
-    label(text)
+    label(&typed(random, &label(text)))
 }
 
 /// A tree of at most `size` nodes and `height` levels below its root.
@@ -143,11 +173,16 @@ pub fn deep_tree(random: &mut Random, height: usize) -> Tree {
     Tree { label: some_label(random), origin: None, children }
 }
 
+fn some_room(random: &mut Random) -> String {
+    let room = label(random.pick::<&str>(&ROOMS));
+    typed(random, &room)
+}
+
 /// A day of some periods, each with a few rooms; in a room stand mostly one lesson or two, and now and then none.
 pub fn day(random: &mut Random, periods: usize) -> Tree {
     let lesson = |random: &mut Random| Tree { label: some_label(random), origin: None, children: Vec::new() };
     let room = |random: &mut Random| {
-        let name = if random.percent(90) { label(random.pick::<&str>(&ROOMS)) } else { some_label(random) };
+        let name = if random.percent(90) { label(&some_room(random)) } else { some_label(random) };
         let lessons = *random.pick(&[0, 1, 1, 2, 2, 3]);
         Tree { label: name, origin: None, children: (0..lessons).map(|_| lesson(random)).collect() }
     };
@@ -206,7 +241,7 @@ fn any_test(random: &mut Random) -> String {
     match random.below(10) {
         0..=2 => "*".to_string(),
         3 => "$".to_string(),
-        4 => "RESTRICTED".to_string(),
+        4 => restricted(random),
         _ => text_of(&some_label(random)),
     }
 }
@@ -260,24 +295,21 @@ pub fn path_to(random: &mut Random, view: &[Node], own: &[Label], node: usize) -
         let label = view[*number].label;
         let test = match random.percent(if skipped { 10 } else { 30 }) {
             true => Test::Any,
-            false if own.contains(&label) && random.percent(50) => Test::Own,
+            false if listed(own, &label, Label::same) && random.percent(50) => Test::Own,
+            false if random.percent(30) => Test::Label(other_case(random, &label)),
             false => Test::Label(label),
         };
         text.push_str(if skipped || random.percent(15) { "//" } else { "/" });
         text.push_str(&test_text(&test));
         skipped = false;
         if random.percent(25) {
-            let passes = |other: &usize| match test {
-                Test::Any => true,
-                Test::Own => own.contains(&view[*other].label),
-                Test::Label(_) => view[*other].label == label,
-            };
-            let before = (0..*number).filter(|other| view[*other].parent == view[*number].parent && passes(other));
+            let before = (0..*number).filter(|other| view[*other].parent == view[*number].parent && test.passes(&view[*other].label, own));
             text.push_str(&format!("[{}]", before.count() + 1));
         }
         let children: Vec<usize> = (0..view.len()).filter(|other| view[*other].parent == Some(*number)).collect();
         if !children.is_empty() && random.percent(20) {
-            text.push_str(&format!("[{}]", text_of(&view[*random.pick(&children)].label)));
+            let child = view[*random.pick(&children)].label;
+            text.push_str(&format!("[{}]", typed(random, &child)));
         }
     }
     text
@@ -305,7 +337,7 @@ fn parent_path(random: &mut Random, view: &[Node], own: &[Label]) -> String {
 
 fn new_label(random: &mut Random) -> String {
     if random.percent(2) {
-        return "RESTRICTED".to_string();
+        return restricted(random);
     }
     text_of(&some_label(random))
 }
@@ -334,16 +366,22 @@ pub fn change(random: &mut Random, view: &[Node], own: &[Label], room: usize) ->
     }
 }
 
+/// The label of one of these nodes, as it is typed.
+fn typed_label(random: &mut Random, view: &[Node], among: &[usize]) -> String {
+    let node = *random.pick(among);
+    typed(random, &view[node].label)
+}
+
 /// A room for a sheet, mostly one that stands where a sheet looks for rooms.
 pub fn room(random: &mut Random, view: &[Node]) -> String {
     let any: Vec<usize> = (0..view.len()).filter(|number| view[*number].level == ROOM_LEVEL).collect();
     let with_lesson: Vec<usize> = view.iter().filter(|node| node.level == ROOM_LEVEL + 1).filter_map(|node| node.parent).collect();
     match random.below(20) {
-        0 => "RESTRICTED".to_string(),
+        0 => restricted(random),
         1 => text_of(&some_label(random)),
-        2..=13 if !with_lesson.is_empty() => text_of(&view[*random.pick(&with_lesson)].label),
-        14..=17 if !any.is_empty() => text_of(&view[*random.pick(&any)].label),
-        _ => random.pick(&ROOMS).to_string(),
+        2..=13 if !with_lesson.is_empty() => typed_label(random, view, &with_lesson),
+        14..=17 if !any.is_empty() => typed_label(random, view, &any),
+        _ => some_room(random),
     }
 }
 
@@ -376,11 +414,11 @@ pub fn refused(random: &mut Random) -> String {
         3 => format!("(root {name})"),
         4 => format!("(child ({name}))"),
         5 => "(user nobody)".to_string(),
-        6 => "(user RESTRICTED)".to_string(),
+        6 => format!("(user {})", restricted(random)),
         7 => format!("(query {path}[0])"),
         8 => format!("(remove {path}/)"),
-        9 => format!("(append {path} (RESTRICTED))"),
-        10 => format!("(rename {path} RESTRICTED)"),
+        9 => format!("(append {path} ({}))", restricted(random)),
+        10 => format!("(rename {path} {})", restricted(random)),
         11 => format!("(view {path})"),
         12 => format!("(query {path}\t)"),
         13 => format!("(sheet {path})"),

@@ -45,6 +45,11 @@ impl Random {
         &list[self.below(list.len())]
     }
 
+    pub fn pick_mut<'a, T>(&mut self, list: &'a mut [T]) -> &'a mut T {
+        let number = self.below(list.len());
+        &mut list[number]
+    }
+
     pub fn shuffle<T>(&mut self, list: &mut [T]) {
         for last in (1..list.len()).rev() {
             list.swap(last, self.below(last + 1));

@@ -1,11 +1,11 @@
 //! Random sessions for the comparer: lines of every form and documents, good and bad, and stores to start from, sound and damaged.
 
 use super::documents::document;
-use super::generate::{self, label, path_text, text_of, tree, tree_text};
+use super::generate::{self, label, other_case, path_text, text_of, tree, tree_text, typed};
 use super::lent::Call;
 use super::random::Random;
 use crate::form::LINE_MAXIMUM;
-use crate::label::{write_record, Label, RECORD_BYTES};
+use crate::label::{read_record, write_record, Label, RECORD_BYTES, RESTRICTED};
 use crate::path::{Step, Test};
 use crate::policy::{Policy, Rule, ISA_MAXIMUM, POSITION, READ, RULES_MAXIMUM, SUBJECTS_MAXIMUM};
 use crate::reading::Reading;
@@ -20,10 +20,11 @@ const AREA_BYTES: usize = 65_536;
 
 // --- Parts of lines ---
 
-const ODD_LABELS: [&str; 18] = [
+const ODD_LABELS: [&str; 19] = [
     "RESTRICTED",
     "RESTRICTED",
     "restricted",
+    "Restricted",
     "RESTRICTED.",
     ".",
     "..",
@@ -42,7 +43,7 @@ const ODD_LABELS: [&str; 18] = [
 ];
 const NAMES: [&str; 6] = ["ann", "bob", "cid", "staff", "music", "office"];
 const RIGHTS: [&str; 8] = ["position", "read", "read", "insert", "update", "delete", "write", "Read"];
-const EFFECTS: [&str; 8] = ["accept", "accept", "accept", "accept", "deny", "deny", "deny", "allow"];
+const EFFECTS: [&str; 9] = ["accept", "accept", "accept", "accept", "deny", "deny", "deny", "allow", "Accept"];
 const ODD_PATHS: [&str; 34] = [
     "/",
     "//",
@@ -108,7 +109,8 @@ fn name_text(random: &mut Random) -> String {
     if random.percent(15) {
         return label_text(random);
     }
-    random.pick(&NAMES).to_string()
+    let name = label(random.pick::<&str>(&NAMES));
+    typed(random, &name)
 }
 
 /// One byte taken out, put in or replaced.
@@ -155,7 +157,7 @@ fn some_tree(random: &mut Random) -> Tree {
         }
     };
     if random.percent(3) {
-        grown.label = label("RESTRICTED");
+        grown.label = label(&typed(random, &RESTRICTED));
     }
     grown
 }
@@ -226,6 +228,10 @@ fn line(random: &mut Random, store: Option<&Store>) -> Vec<u8> {
         let bytes: &[u8] = if random.percent(20) { &[0, 9, 13, 31, 127, 128, 255] } else { b"() ()abRS.*/" };
         disturb(random, &mut text, bytes);
     }
+    if random.percent(1) {
+        let word = text.len().min(random.within(2, 6));
+        text[..word].make_ascii_uppercase(); // a form in capitals is none
+    }
     text
 }
 
@@ -248,15 +254,18 @@ fn isa_line(random: &mut Random, store: Option<&Store>) -> String {
     if subjects > 1 && random.percent(70) {
         let subject = random.within(1, subjects - 1);
         let role = random.below(subject);
-        let name = |number: usize| text_of(&store.expect("subjects").state.policy.subjects[number]);
-        return format!("(isa {} {})", name(subject), name(role));
+        let names = &store.expect("subjects").state.policy.subjects;
+        return format!("(isa {} {})", typed(random, &names[subject]), typed(random, &names[role]));
     }
     format!("(isa {} {})", name_text(random), name_text(random))
 }
 
 fn declared_name(random: &mut Random, store: Option<&Store>) -> String {
     match store {
-        Some(store) if !store.state.policy.subjects.is_empty() && random.percent(90) => text_of(random.pick(&store.state.policy.subjects)),
+        Some(store) if !store.state.policy.subjects.is_empty() && random.percent(90) => {
+            let name = *random.pick(&store.state.policy.subjects);
+            typed(random, &name)
+        }
         _ => name_text(random),
     }
 }
@@ -268,7 +277,7 @@ fn rule_line(random: &mut Random, store: Option<&Store>) -> String {
         _ => path_text(&rule_path(random, 4)),
     };
     let name = declared_name(random, store);
-    let (effect, right) = if random.percent(90) { (random.below(7), random.below(6)) } else { (random.below(8), random.below(8)) };
+    let (effect, right) = if random.percent(90) { (random.below(7), random.below(6)) } else { (random.below(9), random.below(8)) };
     format!("(rule {} {} {path} {name})", EFFECTS[effect], RIGHTS[right])
 }
 
@@ -334,7 +343,7 @@ fn rule_path(random: &mut Random, longest: usize) -> Vec<Step> {
 fn full_policy(random: &mut Random) -> Policy {
     let mut policy = Policy::default();
     let subjects = random.within(SUBJECTS_MAXIMUM - 2, SUBJECTS_MAXIMUM);
-    policy.subjects.extend(NAMES.map(label));
+    policy.subjects.extend(NAMES.map(|name| label(&typed(random, &label(name)))));
     while policy.subjects.len() < subjects {
         policy.subjects.push(label(&format!("s{}", policy.subjects.len())));
     }
@@ -452,10 +461,12 @@ pub fn tight_start(random: &mut Random) -> Start {
         policy.rules.push(Rule { accept: random.percent(40), right: *random.pick(&[READ, READ, POSITION]), subject: random.below(2), path });
     }
     let mut nodes = vec![Node { level: 0, label: *random.pick(&labels), parent: None }];
+    let cased = random.percent(50);
     for _ in 0..random.within(1, 60) {
         let deepest = (nodes[nodes.len() - 1].level + 1).min(LEVEL_MAXIMUM);
         let level = if random.percent(75) { deepest } else { random.within(1, deepest) };
         let label = if random.percent(90) { labels[random.below(2)] } else { labels[2] };
+        let label = if cased { other_case(random, &label) } else { label };
         nodes.push(Node { level, label, parent: None });
     }
     let mut bytes = vec![0; STATE_BYTES];
@@ -484,6 +495,15 @@ fn other_byte(random: &mut Random, byte: u8) -> u8 {
     }
 }
 
+/// The label of a record in another case.
+fn recase(random: &mut Random, record: &mut [u8]) {
+    if let Some((first, text)) = read_record(record) {
+        if let Some(label) = Label::new(text) {
+            write_record(record, first, other_case(random, &label).text());
+        }
+    }
+}
+
 /// Where a state's bytes are in use or next to those in use, and now and then anywhere.
 fn state_place(random: &mut Random, bytes: &[u8]) -> usize {
     let (subjects, isa_lines, rules) = (bytes[8] as usize, bytes[9] as usize, bytes[10] as usize);
@@ -509,14 +529,15 @@ fn damage_state(random: &mut Random, bytes: &mut Vec<u8>) {
         2 if subjects > 1 => {
             let (from, to) = (random.below(subjects), random.below(subjects));
             bytes.copy_within(16 + 32 * from..48 + 32 * from, 16 + 32 * to);
+            recase(random, &mut bytes[16 + 32 * to..48 + 32 * to]);
         }
         3 if subjects > 0 => {
             let at = 16 + 32 * random.below(subjects);
-            write_record(&mut bytes[at..at + 32], 0, b"RESTRICTED");
+            write_record(&mut bytes[at..at + 32], 0, typed(random, &RESTRICTED).as_bytes());
         }
         4 if rules > 0 => {
             let at = 16 + 32 * 64 + 256 + 520 * random.below(rules) + 8;
-            let text: &[u8] = random.pick::<&[u8]>(&[b"RESTRICTED", b"*", b"$", b"**", b"$a", b"[1]", b"a/b"]);
+            let text: &[u8] = random.pick::<&[u8]>(&[b"RESTRICTED", b"Restricted", b"restricted", b"*", b"$", b"**", b"$a", b"[1]", b"a/b"]);
             write_record(&mut bytes[at..at + 32], 1, text);
         }
         5 => {
@@ -563,7 +584,7 @@ fn damage_table(random: &mut Random, bytes: &mut Vec<u8>) {
         5 if record + 32 <= bytes.len() => bytes[record + 1] = *random.pick(&[0, 1, 2, 23, 24, 25, 255]),
         6 if record + 32 <= bytes.len() => {
             let level = bytes[record];
-            write_record(&mut bytes[record..record + 32], level, b"RESTRICTED");
+            write_record(&mut bytes[record..record + 32], level, typed(random, &RESTRICTED).as_bytes());
         }
         7 if record + 32 <= bytes.len() => {
             let at = record + random.below(32);

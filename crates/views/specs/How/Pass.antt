@@ -7,9 +7,14 @@ use Prim.Native.Nat.{ℕ, zero, suc, _+_, _-_, _*_, _≤_, _<_}
 use lib.ListN.{length, getD, take, drop}
 use lib.Dec.{leb}
 use Rattle.rights.specs.Table.{level}
+use Rattle.rights.specs.Record.{pasted}
 use Rattle.views.specs.Change.{dropBelow, putBehind, remove, insertBehind, insertInFront, chunks, raise}
 use Rattle.rights.specs.Marks.{marksOf}
 use Rattle.views.specs.Nodes.{All, Under}
+
+-- The record with the bytes x over those from byte k on.
+abbrev pub overwritten : ℕ → List ℕ → List ℕ → List ℕ
+overwritten k x r = pasted r k x
 
 -- The bytes from `from` to `end` moved up by `by`; the bytes that they leave stay.
 abbrev pub shifted : List ℕ → ℕ → ℕ → ℕ → List ℕ

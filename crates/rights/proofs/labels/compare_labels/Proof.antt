@@ -16,11 +16,11 @@ abbrev μ-loop : tie.MeasureT-loop
 μ-loop a i m b j n k₀ k = m - k
 
 -- the places further back that answers read
-abbrev to-start-from-fold-byte2 : tie.After-fold-byte2 Inv-loop μ-loop → tie.Start Inv-loop μ-loop
-to-start-from-fold-byte2 c = c .before .before .before .before .before .before .before .before .before .before
+abbrev to-start : tie.After-byte-order Inv-loop μ-loop → tie.Start Inv-loop μ-loop
+to-start c = c .before .before .before .before .before .before .before .before .before
 
-abbrev to-loop : tie.After-fold-byte2 Inv-loop μ-loop → tie.At-loop Inv-loop μ-loop
-to-loop c = c .before .before .before .before .before
+abbrev to-loop : tie.After-byte-order Inv-loop μ-loop → tie.At-loop Inv-loop μ-loop
+to-loop c = c .before .before .before .before
 
 abbrev to-start-from-else1 : tie.Else1 Inv-loop μ-loop → tie.Start Inv-loop μ-loop
 to-start-from-else1 c = c .before .before .before
@@ -39,22 +39,19 @@ loop-holds c =
 
 returns-3 : tie.Need-returns-3 Inv-loop μ-loop
 returns-3 c =
-    let read = c .before .before in
+    let read = c .before in
     let l = to-loop read .loop in
-    let a = to-start-from-fold-byte2 read .args in
-    c .byte-order .ensures
-    ∙ sym (l .inv .2 ∙ rest-stop (a .a .now) (a .b .now) (a .i) (a .j) (a .n) (l .k) _ _ (omega arith) (omega arith) (omega arith)
-    (read .before .before .fold-byte .ensures) (read .fold-byte2 .ensures) (c .before .if3 .taken))
+    let a = to-start read .args in
+    sym (l .inv .2 ∙ rest-stop (a .a .now) (a .b .now) (a .i) (a .j) (a .n) (l .k) _ (omega arith) (omega arith) (omega arith) (read .byte-order .ensures) (c .if3 .taken))
 
 loop-again : tie.Need-loop-again Inv-loop μ-loop
 loop-again c =
     let read = c .before in
     let l = to-loop read .loop in
-    let a = to-start-from-fold-byte2 read .args in (
+    let a = to-start read .args in (
       omega arith,
       l .inv .1,
-      l .inv .2 ∙ rest-next (a .a .now) (a .b .now) (a .i) (a .j) (a .n) (l .k) _ _ (omega arith) (omega arith) (omega arith)
-          (read .before .before .fold-byte .ensures) (read .fold-byte2 .ensures) (c .if3 .left),
+      l .inv .2 ∙ rest-next (a .a .now) (a .b .now) (a .i) (a .j) (a .n) (l .k) _ (omega arith) (omega arith) (omega arith) (read .byte-order .ensures) (c .if3 .left),
     )
 
 returns-4 : tie.Need-returns-4 Inv-loop μ-loop
@@ -68,5 +65,5 @@ pub compare-labels-spec : {M : Type 1} → statement M
 compare-labels-spec =
     tie.close
     (tie.spec Inv-loop μ-loop returns returns-2 loop-holds (λ c. search needs) (λ c. search needs)
-    (λ c κs. search needs) (λ c. search needs) (λ c. search needs) (λ c κs. search needs) (λ c κs. search needs)
+    (λ c. search needs) (λ c. search needs) (λ c κs. search needs)
     returns-3 (λ c. search needs) (λ c. search needs) loop-again returns-4)
