@@ -10,4 +10,3 @@ pub mod SheetParts
 pub mod ChildrenLaws
 pub mod SheetTreeLaws
 pub mod SheetWeeks
-pub mod SheetAnyCase

@@ -31,3 +31,6 @@ pub mod Demand3
 pub mod Loading
 pub mod Witness
 pub mod AreaSuffices
+pub mod AnyCase
+pub mod SheetAnyCase
+pub mod AnyCaseLaws

@@ -24,7 +24,6 @@ pub mod EveryLaws
 pub mod WordLaws
 pub mod SoundLaws
 pub mod PolicyWords
-pub mod AnyCase
 pub mod RightsLaws
 pub mod RecordLaws
 pub mod PassLaws

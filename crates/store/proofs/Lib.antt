@@ -1,7 +1,6 @@
 pub mod FormParts
 pub mod LineLaws
 pub mod ClauseLaws
-pub mod AnyCaseLaws
 pub mod RefusalsLaws
 pub mod UnlimitedLaws
 pub mod TreeNodesLaws

@@ -8,20 +8,22 @@ use native.Mathlib.Omega.{arith}
 use borrow.Author.Tests.{leb-true, le-leb, lt-leb}
 use lib.Dec.{leb}
 use lib.ListN.{length, length-map}
 use Rattle.rights.specs.Bytes.{all, digitByte}
 use Rattle.rights.specs.Labels.{labelByte, folded, foldedLabel, sameLabel}
 use Rattle.rights.specs.Isa.{is, passesOwn}
 use Rattle.rights.specs.Marks.{eachFrom}
-use Rattle.rights.specs.Path.{Test, label, any, own, Axis, Child, Descendant, isDescendant, firstAxis, Path, last, next, Brackets, none, position, holds, passes}
+use Rattle.rights.specs.declared.path.Axis.{Axis}
+use Rattle.rights.specs.declared.path.Axis.the-variants.{Child, Descendant}
+use Rattle.rights.specs.Path.{Test, label, any, own, isDescendant, firstAxis, Path, last, next, Brackets, none, position, holds, passes}
 use Rattle.rights.specs.PathText.{decimal, writeTest, writeStep, writeSteps, writeBrackets, write, stepsOf, bracketsOf, depthOf, depthIn, GoodTest, GoodSteps, GoodBrackets, Within}
 use Rattle.rights.specs.Policy.{Rule, Policy}
 use Rattle.rights.specs.Nodes.{Nodes}
 use Rattle.rights.specs.XPath.{Context, document, at, axis, tested, each, filter, withNumber, has, something, nodeSet, filtered, xpathSelected, xpathSelection}
 use Rattle.rights.specs.Rights.{stepFor, reaches, tried, decide, rightsBy}
 use Rattle.rights.proofs.TableLaws.{both}
 use Rattle.rights.proofs.LabelLaws.{folded-low, folded-cases, same-folded, same-left, same-right, folded-like}
 use Rattle.rights.proofs.PathComplete.{decimal-digits, complete, unique}
 use Rattle.rights.proofs.PolicyWords.{own-same}
 
 -- a test, a path and its brackets with each label in small letters
 abbrev pub foldedTest : Test → Test

@@ -14,20 +14,20 @@ use Rattle.rights.specs.PathReader.{pathOf}
 use Rattle.rights.specs.PathText.{write, Within}
 use Rattle.rights.proofs.LabelLaws.{folded-cases, same-folded}
 use Rattle.rights.proofs.PathComplete.{complete}
-use Rattle.rights.proofs.AnyCase.{byte-kept, texts-any-case}
+use Rattle.guarantee.proofs.AnyCase.{byte-kept, texts-any-case}
 use Rattle.forms.specs.declared.layout.Word.{Word}
 use Rattle.forms.specs.declared.layout.Word.the-variants as word
 use Rattle.forms.specs.Kind.{Kind}
 use Rattle.forms.specs.Text.{lineByte, lineOk}
 use Rattle.forms.specs.Layout.{letters, shapeOf}
 use Rattle.forms.specs.Command.{Values, command, writeValue, writeValues, written, GoodCommand}
-use Rattle.answers.proofs.SheetAnyCase.{sheet-any-case}
+use Rattle.guarantee.proofs.SheetAnyCase.{sheet-any-case}
 use Rattle.lines.specs.State.{policyIn}
 use Rattle.lines.specs.UserView.{viewIn, notPath, marksIn}
 use Rattle.lines.specs.Clause.{clause}
 use Rattle.lines.proofs.EditTests.{name-any-case}
 use Rattle.store.specs.Line.{step}
 use Rattle.store.proofs.ClauseLaws.{step-written}
 
 -- the same label, in whatever case
 abbrev pub SameLabel : List ℕ → List ℕ → Type 0
