@@ -16,7 +16,7 @@ static uint16_t shown[RECORDS_MAX];
 static size_t build(size_t n, int deep) {
     for (size_t i = 0; i < n; i++) {
         size_t level = i == 0 ? 0 : deep ? (i - 1) % LEVEL_MAX + 1 : 1;
-        put_record(table + COUNT_BYTES + i * RECORD, (int)level, "a", 1);
+        put_node(table + COUNT_BYTES + i * RECORD, (int)level, "a", 1);
         shown[i] = (uint16_t)i;
     }
     put_count(table, n);

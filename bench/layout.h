@@ -25,6 +25,14 @@ static inline void put_record(uint8_t *at, int first, const char *label, size_t 
     memcpy(at + 2, label, n);
 }
 
+// The record of a node, shown on days 1 to 366.
+static inline void put_node(uint8_t *at, int level, const char *label, size_t n) {
+    put_record(at, level, label, n);
+    at[26] = 1;
+    at[28] = 366 & 255;
+    at[29] = 366 >> 8;
+}
+
 static inline void put_count(uint8_t *table, size_t n) {
     for (int k = 0; k < COUNT_BYTES; k++) table[k] = (uint8_t)(n >> (8 * k));
 }

@@ -9,6 +9,7 @@ RECORD, LABEL_MAX, LEVEL_MAX, NODES_MAX = 32, 24, 11, 16384
 SUBJECTS_MAX, ISA_MAX, RULES_MAX, STEPS_MAX = 64, 128, 128, 16
 RULE_BYTES = 8 + RECORD * STEPS_MAX
 STAGE_B, STAGE_E = 1, 4
+WINDOW_AT, WHOLE_YEAR = 26, (1).to_bytes(2, "little") + (366).to_bytes(2, "little")
 RIGHTS = {"position": 1, "read": 2, "insert": 4, "update": 8, "delete": 16}
 
 
@@ -20,8 +21,13 @@ def record(first, label):
     return bytes([first, len(label)]) + label.encode().ljust(RECORD - 2, b"\0")
 
 
+def node(level, label):
+    """The record of a node that is shown all year, from day 1 to 366."""
+    return record(level, label)[:WINDOW_AT] + WHOLE_YEAR + bytes(2)
+
+
 def table(tree, capacity=NODES_MAX):
-    used = len(tree).to_bytes(4, "little") + b"".join(record(level, label) for level, label in tree)
+    used = len(tree).to_bytes(4, "little") + b"".join(node(level, label) for level, label in tree)
     return used.ljust(4 + RECORD * capacity, b"\0")
 
 

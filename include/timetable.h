@@ -31,13 +31,13 @@ extern "C" {
 /* The version of this header: as text, and as a number for #if (1,000,000 for the first part, 1,000 for the second).
  *
  * The library tells no version when it runs. A library that does not fit is found in three ways:
- * - The name that a program asks the system's loader for has the first two parts (liblouvretansy.so.0.5). They change
+ * - The name that a program asks the system's loader for has the first two parts (liblouvretansy.so.0.6). They change
  *   whenever a call, a form, an answer or a byte of state or table is added or changes its meaning.
  * - timetable_library_fits() is 0 if the library's state is of another size.
  * - A state of TIMETABLE_STATE_BYTES that such a library is lent is refused with 13, whatever the line.
  */
-#define TIMETABLE_VERSION "0.5.0"
-#define TIMETABLE_VERSION_NUMBER 5000
+#define TIMETABLE_VERSION "0.6.0"
+#define TIMETABLE_VERSION_NUMBER 6000
 
 /* The most bytes of a line, without its line feed. */
 #define TIMETABLE_MAX_LINE_BYTES 1024
@@ -69,8 +69,8 @@ extern "C" {
 #define TIMETABLE_STACK_BYTES 1310720
 
 /* Why a line or a document is refused. 13 is tested first, then the others in the order of their numbers, except for
- * 14, which comes after 4: the first that applies is given. Later versions may have more: a program should be ready for
- * a number that is not listed.
+ * 14, which comes after 4, and 15, which comes after 10: the first that applies is given. Later versions may have more:
+ * a program should be ready for a number that is not listed.
  */
 enum timetable_refusal {
     TIMETABLE_REFUSED_BAD_LINE = 1,
@@ -86,7 +86,8 @@ enum timetable_refusal {
     TIMETABLE_REFUSED_TABLE_FULL = 11,
     TIMETABLE_REFUSED_AREA_SHORT = 12,
     TIMETABLE_REFUSED_BAD_STORE = 13,
-    TIMETABLE_REFUSED_NO_DOCUMENT = 14
+    TIMETABLE_REFUSED_NO_DOCUMENT = 14,
+    TIMETABLE_REFUSED_BAD_DAY = 15
 };
 
 /* Why it is refused, in words that follow "refused, since". The number is minus what the call returned. Any other
@@ -125,6 +126,8 @@ static inline const char *timetable_refusal_text(int64_t number) {
     case TIMETABLE_REFUSED_NO_DOCUMENT:
         return "the document is not of the kind that is taken: one root element, tags that match, "
                "labels as names and texts, and nothing else";
+    case TIMETABLE_REFUSED_BAD_DAY:
+        return "a day is outside 1 to 366, or the first day is after the last";
     default:
         return "the library gives a number that this version of timetable.h does not know";
     }

@@ -46,6 +46,7 @@ BEFORE = {
     12: LOGGED_IN,
     13: LOGGED_IN,
     14: POLICY,
+    15: CHILD_TAKEN,
 }
 LIBRARY_ONLY = {12: {"area": 8}, 13: {"table": 3}, 14: {}}
 

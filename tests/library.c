@@ -29,7 +29,10 @@ enum {
     RULES = 2320,
     RULE_BYTES = 520,
     STEPS = 8,
-    SPARE = 26, /* of a record: 6 zero bytes */
+    DAY = 2,    /* of a session, less one: 2 bytes */
+    FIRST = 26, /* of a node: its first day, 2 bytes */
+    LAST = 28,  /* and its last */
+    SPARE = 30, /* 2 zero bytes */
     RECORDS = 4,
     SCHOOL_NODES = 9
 };
@@ -108,7 +111,7 @@ static void give_back_store(struct store store) {
 
 /* Calls */
 
-enum { REFUSALS = 14 };
+enum { REFUSALS = 15 };
 
 /* timetable_line or timetable_load_xml */
 typedef int64_t function(uint8_t *state, size_t state_length, uint8_t *table, size_t table_length, const uint8_t *text,
@@ -196,6 +199,10 @@ static const struct example EXAMPLE[] = {
     {"(find //R12)", "(none)\n"},
     {"(find //ROOM/r14)", "(hit 4 R14)\n"},
     {"(user sha)", "(ok)\n"},
+    {"(window //room/* 5 366)", "(done 1 1)\n"},
+    {"(find //room/R14)", "(none)\n"},
+    {"(day 5)", "(ok)\n"},
+    {"(window //mon 1 4)", "(done 1 0)\n"},
     {"(sheet room)", "  mon          |             |             |             |             |\n"
                      "1 R14          |             |             |             |             |\n"
                      "2              |             |             |             |             |\n"
@@ -222,9 +229,16 @@ static struct store full_school(void) {
 }
 
 static void write_label(uint8_t *record, const char *label) {
-    memset(record + 1, 0, RECORD_BYTES - 1);
+    memset(record + 1, 0, FIRST - 1);
     record[1] = (uint8_t)strlen(label);
     memcpy(record + 2, label, strlen(label));
+}
+
+static void write_window(uint8_t *record, unsigned first, unsigned last) {
+    record[FIRST] = first & 255;
+    record[FIRST + 1] = (uint8_t)(first >> 8);
+    record[LAST] = last & 255;
+    record[LAST + 1] = (uint8_t)(last >> 8);
 }
 
 /* 12: every area shorter than the answer, byte for byte; then the very length */
@@ -292,15 +306,18 @@ static void damaged_sessions(void) {
     damaged_state(policy, STAGE, E, "stage E without user and root");
     damaged_state(tree, STAGE, A, "a root without the root line, at stage A");
     damaged_state(tree, STAGE, B, "a root without the root line");
-    damaged_state(tree, STAGE, E, "stage E without a user");
     damaged_state(tree, USER, 1, "a user at stage D");
     damaged_state(user, STAGE, D, "a user at stage D");
     damaged_state(user, STAGE, 5, "a stage past E");
-    damaged_state(user, USER, 0, "stage E without a user");
     damaged_state(user, USER, 3, "a user who is not declared");
-    for (size_t at = 2; at < 8; at++) {
+    damaged_state(user, DAY + 1, 2, "a day after the 366th");
+    damaged_state(user, DAY + 1, 255, "a day after the 366th");
+    for (size_t at = DAY + 2; at < 8; at++) {
         damaged_state(user, at, 1, "a spare byte of the session");
     }
+    user.state.bytes[DAY + 1] = 366 >> 8;
+    damaged_state(user, DAY, 366 & 255, "a 367th day");
+    damaged_state(policy, DAY + 1, 2, "a day after the 366th at stage B");
     give_back_store(policy);
     give_back_store(tree);
     give_back_store(user);
@@ -327,7 +344,12 @@ static void damaged_policies(void) {
     damaged_state(sound, SUBJECTS + 1, 4, "a byte behind a name");
     damaged_state(sound, SUBJECTS + 1, 6, "a zero byte in a name");
     damaged_state(sound, SUBJECTS + 2, '*', "a name that is no label");
-    damaged_state(sound, SUBJECTS + SPARE, 1, "a spare byte of a subject");
+    for (size_t at = SUBJECTS + FIRST; at < SUBJECTS + RECORD_BYTES; at++) {
+        damaged_state(sound, at, 1, "a spare byte of a subject");
+    }
+    for (size_t at = last_step + FIRST; at < last_step + RECORD_BYTES; at++) {
+        damaged_state(sound, at, 1, "a spare byte of a step");
+    }
     damaged_state(sound, ISA_LINES, 0, "an isa line of a subject and itself");
     damaged_state(sound, ISA_LINES, 2, "an isa line of an unknown name");
     damaged_state(sound, ISA_LINES + 1, 1, "an isa line whose R is not before N");
@@ -400,6 +422,24 @@ static void damaged_tables(void) {
         damaged_table(sound, at, 1, "a tail that is not zero");
     }
 
+    static const unsigned windows[][2] = {{0, 0},     {0, 366}, {1, 0},     {2, 1},
+                                          {256, 255}, {1, 367}, {367, 367}, {1, 65535}};
+    for (size_t i = 0; i < sizeof windows / sizeof windows[0]; i++) {
+        struct store dated = copy_store(sound);
+        write_window(dated.table.bytes + mon, windows[i][0], windows[i][1]);
+        expect_damaged(dated, "a window with a bad day, or whose first day is after its last");
+        write_window(dated.table.bytes + mon, 1, 366);
+        write_window(dated.table.bytes + RECORDS, windows[i][0], windows[i][1]);
+        expect_damaged(dated, "the same for the root");
+        give_back_store(dated);
+    }
+    struct store root = copy_store(sound);
+    write_window(root.table.bytes + RECORDS, 2, 366);
+    expect_damaged(root, "a root that is not shown on day 1");
+    write_window(root.table.bytes + RECORDS, 1, 365);
+    expect_damaged(root, "a root that is not shown on day 366");
+    give_back_store(root);
+
     struct store store = copy_store(sound);
     write_label(store.table.bytes + mon, "RESTRICTED");
     expect_damaged(store, "RESTRICTED as a label");
@@ -417,8 +457,10 @@ static void damaged_tables(void) {
     store.state.bytes[STAGE] = C;
     store.table.bytes[0] = 13;
     for (uint8_t level = 0; level < 13; level++) {
-        store.table.bytes[RECORDS + level * RECORD_BYTES] = level;
-        write_label(store.table.bytes + RECORDS + level * RECORD_BYTES, "x");
+        uint8_t *record = store.table.bytes + RECORDS + level * RECORD_BYTES;
+        record[0] = level;
+        write_label(record, "x");
+        write_window(record, 1, 366);
     }
     expect_damaged(store, "a level above 11");
     give_back_store(store);
@@ -442,6 +484,18 @@ static void sound_stores(void) {
     store.state.bytes[STAGE] = B; /* no rule is needed for it */
     expect_refusal(store, "(subject x)", 5, TIMETABLE_REFUSED_WRONG_STAGE, "stage B");
     expect_answer(store, "(root r)", 5, "(ok)\n");
+    give_back_store(store);
+
+    store = school(TREE_LINES, TIMETABLE_TABLE_BYTES(20));
+    store.state.bytes[STAGE] = E; /* as a day line leaves it */
+    expect_refusal(store, "(view)", 100, TIMETABLE_REFUSED_NO_USER, "stage E without a user");
+    store.state.bytes[STAGE] = D;
+    store.state.bytes[DAY] = 365 & 255; /* a day before any day line */
+    store.state.bytes[DAY + 1] = 365 >> 8;
+    write_window(store.table.bytes + RECORDS + RECORD_BYTES, 366, 366);
+    write_window(store.table.bytes + RECORDS + 2 * RECORD_BYTES, 1, 365);
+    expect_answer(store, "(user SHA)", 5, "(ok)\n");
+    expect_answer(store, "(view)", 100, "(root school)\n(child (mon))\n(end 2)\n");
     give_back_store(store);
 }
 
@@ -490,8 +544,10 @@ static void largest_table(void) {
     store.table.bytes[0] = TIMETABLE_MAX_RECORDS & 255;
     store.table.bytes[1] = TIMETABLE_MAX_RECORDS >> 8;
     for (size_t i = 1; i < TIMETABLE_MAX_RECORDS; i++) {
-        store.table.bytes[RECORDS + i * RECORD_BYTES] = 1;
-        write_label(store.table.bytes + RECORDS + i * RECORD_BYTES, label);
+        uint8_t *record = store.table.bytes + RECORDS + i * RECORD_BYTES;
+        record[0] = 1;
+        write_label(record, label);
+        write_window(record, 1, 366);
     }
     expect_refusal(store, "(child (x))", 5, TIMETABLE_REFUSED_TABLE_FULL, "16,384 records");
     expect_answer(store, "(user x)", 5, "(ok)\n");
@@ -650,8 +706,8 @@ static size_t most_stack(struct store store, int nesting) {
     static const struct {
         const char *word;
         const char *rest;
-    } forms[] = {{"query", ""},      {"find", ""},       {"rename", " y"},  {"update", " y"},
-                 {"append", " (y)"}, {"before", " (y)"}, {"after", " (y)"}, {"remove", ""}};
+    } forms[] = {{"query", ""},      {"find", ""},        {"rename", " y"}, {"update", " y"},      {"append", " (y)"},
+                 {"before", " (y)"}, {"after", " (y)"},   {"remove", ""},   {"window", " 1 366"}};
     char path[256];
     char line[TIMETABLE_MAX_LINE_BYTES];
     size_t view = stack_of(store, "(view)"), sheet = stack_of(store, "(sheet room)");

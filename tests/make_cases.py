@@ -145,9 +145,26 @@ TABLES = [
     (poked(SMALL, RECORD_1 + 2, b" "), False),
     (poked(SMALL, RECORD_1 + 2, b"$"), False),
     (poked(SMALL, RECORD_1 + 2, [0xE4]), False),
-    # "label padded with zeros (24), 6 zero bytes"
+    # "label padded with zeros (24)", the window, and 2 zero bytes
     (poked(SMALL, RECORD_1 + 3, b"x"), False),
+    (poked(SMALL, RECORD_1 + 25, b"x"), False),
+    (poked(SMALL, RECORD_1 + 30, [1]), False),
     (poked(SMALL, RECORD_1 + 31, [1]), False),
+    # Document 02, card 7: "a first and last day, 16 bits each, little-endian, 1 to 366"; "A table whose first day is after its last, or whose root is not 1 to
+    # 366, is no table."
+    (table_of([(0, "r"), (1, "a", 1, 1), (1, "b", 366, 366), (1, "c", 255, 256)]), True),
+    (table_of([(0, "r"), (1, "a", 5, 9), (2, "b", 1, 366)]), True),
+    (table_of([(0, "r"), (1, "a", 0, 366)]), False),
+    (table_of([(0, "r"), (1, "a", 1, 367)]), False),
+    (table_of([(0, "r"), (1, "a", 367, 367)]), False),
+    (table_of([(0, "r"), (1, "a", 6, 5)]), False),
+    (table_of([(0, "r"), (1, "a", 256, 255)]), False),
+    (table_of([(0, "r"), (1, "a", 1, 1 + 512)]), False),
+    (table_of([(0, "r"), (1, "a"), (1, "b", 0, 0)]), False),
+    (table_of([(0, "r", 0, 0), (1, "a", 0, 0)]), False),
+    (table_of([(0, "r", 2, 366)]), False),
+    (table_of([(0, "r", 1, 365)]), False),
+    (table_of([(0, "r", 1, 1), (1, "a")]), False),
     # "RESTRICTED as a label included"; document 02, card 6: "Label equality now ignores the case of A to Z everywhere that two labels are compared: .. the ban
     # on RESTRICTED"
     (table_of([(0, "RESTRICTED")]), False),

@@ -57,7 +57,17 @@ from timetable_office.replace import replace_policy  # noqa: E402
 from timetable_office.runs import run_lines  # noqa: E402
 from timetable_office.state import read_policy  # noqa: E402
 from timetable_office.store import Store  # noqa: E402
-from timetable_office.tree import Node, read_table, read_view, subtree_end, tree_text  # noqa: E402
+from timetable_office.tree import (  # noqa: E402
+    WHOLE_YEAR,
+    Node,
+    all_year,
+    make_record,
+    read_table,
+    read_view,
+    read_windows,
+    subtree_end,
+    tree_text,
+)
 from timetable_office.views import log_in, view_of  # noqa: E402
 
 ARCHIVE = os.path.join(ROOT, "target", "staticlib", "liblouvretansy.a")
@@ -360,7 +370,7 @@ class Completions(Office):
             for word in command.words
         }
         files = {"FILE", "FILE.xml", "FILE.html", "STORE", "STORE|FILE"}
-        others = {None, "SHELL", "SECONDS", "N", "NAME", "ROOM", "FORMAT", "PATH"}
+        others = {None, "SHELL", "SECONDS", "N", "NAME", "ROOM", "FORMAT", "PATH", "D"}
         self.assertEqual(set(values), files | {"DIR"} | others)
         self.assertEqual({value for value, (file, _) in values.items() if file}, files)
         self.assertEqual({value for value, (_, folder) in values.items() if folder}, {"DIR"})
@@ -414,7 +424,7 @@ class Refusals(Office):
         section = re.search(r"^\.SH REFUSALS\n(.*?)^\.SH ", read_page("docs/timetable.1"), re.M | re.S)[1]
         rows = re.findall(r"^\.B (\d+)\n((?:[^.\n].*\n)+)", section, re.M)
         self.assertEqual(
-            [(int(number), text.replace("\n", " ").strip()) for number, text in rows],
+            sorted((int(number), text.replace("\n", " ").strip()) for number, text in rows),
             [(one.number, one.reason) for one in refusals.TABLE],
         )
 
@@ -440,7 +450,7 @@ class Readme(Office):
             else:
                 self.assertEqual(kind, "python")
                 exec(content, {})
-        self.assertEqual(seen, {"school.lines", "rooms.lines", "week.xml", "console", "python"})
+        self.assertEqual(seen, {"school.lines", "rooms.lines", "terms.lines", "week.xml", "console", "python"})
 
     def test_the_examples_of_the_man_page(self):
         """Every command is done, with the policy and the file of examples/, and the last ones give the store again."""
@@ -516,11 +526,11 @@ class Binding(Office):
             self.assertEqual(read_view(view_of(session, subject)), nodes)
 
     def is_exported(self, session):
-        """Whether there are lines for it; they give it again. One part that is too large may keep it from being so."""
+        """Whether there are lines for it; they give it again. Not where a part is too large, or a window nobody's."""
         try:
             lines = export_lines(session)
         except InputError as error:
-            self.assertIn("does not fit a child line", str(error))
+            self.assertRegex(str(error), "does not fit a child line|so no line gives it this window")
             return False
         again = run_lines(library.session(records=session.records), listed(lines))
         self.assertEqual((again.state[1:], again.table), (session.state[1:], session.table))
@@ -1075,7 +1085,9 @@ class Sheets(Office):
         self.assertEqual(self.errors, "doors: 3 sheets of store for door\n")
         files = {"R12": "sheet-R12~4.txt", "hall": "sheet-hall.txt", "R20": "sheet-R20~4.txt"}
         rows = [{"room": room, "file": file, "blank": False} for room, file in files.items()]
-        self.assertEqual(told, {"folder": self.path("doors"), "reader": "door", "sheets": rows, "dropped": []})
+        self.assertEqual(
+            told, {"folder": self.path("doors"), "reader": "door", "day": 1, "sheets": rows, "dropped": []}
+        )
         wanted = {file: expected_sheet(self.nodes("door"), room) for room, file in files.items()}
         self.assertEqual(self.files(), wanted)
         self.assertEqual(self.read(), before)
@@ -1220,6 +1232,141 @@ class Sheets(Office):
         for line in (b"(subject door)", b"(root school)", b"(user door)"):
             session.line(line)
         self.assertEqual(len(session.line(b"(sheet R12)")), SHEET_BYTES)
+
+
+class Days(Office):
+    """Windows by date: days for what is shown, published and printed, and windows in what is told and exported."""
+
+    CALENDAR = [
+        "(subject door)",
+        "(subject office)",
+        "(subject web)",
+        "(rule accept read //* door)",
+        "(rule accept read //* office)",
+        "(rule accept update //* office)",
+        "(rule accept read //* web)",
+        "(rule deny read //hall web)",
+        "(root school)",
+        "(child (mon (p1 (hall (7A-PE))) (p2 (R12 (10B-maths)))))",
+        "(user office)",
+        "(window //hall 1 154)",
+        "(window //R12 8 366)",
+        "(window //p2 5 9)",
+    ]
+    NOTE = "store: note: some nodes are shown on some days alone; this is day 1, and --day D is another\n"
+
+    def calendar(self):
+        self.office("new", "store", "--records", "64", says="an empty store")
+        self.office("run", "-q", "store", given=self.CALENDAR)
+
+    def shown(self, *words, says=""):
+        return self.office("show", "store", "--as", "door", *words, says=says).split()
+
+    def test_show(self):
+        self.calendar()
+        whole = ["school", "mon", "p1", "hall", "7A-PE", "p2", "R12", "10B-maths"]
+        with self.unchanged():
+            self.assertEqual(self.shown(says=self.NOTE), whole[:5])
+            for day, wanted in ((1, whole[:5]), (7, whole[:6]), (8, whole), (9, whole), (10, whole[:5])):
+                self.assertEqual(self.shown("--day", str(day)), wanted, day)
+            self.assertEqual(self.shown("--day", "155"), whole[:3])
+        for day in ("0", "367", "x", "-1"):
+            self.office("show", "store", "--as", "door", f"--day={day}", status=2, says="days run from 1 to 366")
+        self.office("new", "empty", "--records", "64", says="an empty store")
+        self.office("show", "empty", "--as", "door", "--day", "3", status=1, says="no tree yet")
+
+    def test_nothing_is_said_without_windows(self):
+        self.school()
+        self.assertEqual(self.office("show", "store", "--as", "SHA", "--day", "3"), OUTLINE)
+        self.assertEqual(self.office("show", "store", "--as", "SHA"), OUTLINE)
+
+    def test_a_day_ends_with_its_run(self):
+        self.calendar()
+        asked = ["(day 8)", "(user door)", "(find //R12)"]
+        self.assertEqual(self.office("run", "store", given=asked), "(ok)\n(ok)\n(hit 3 R12)\n")
+        self.assertEqual(self.office("run", "store", given=asked[1:]), "(ok)\n(none)\n")
+        self.office("run", "store", given=["(child (tue))"])
+        says = "child lines come before the first user or day line of a run"
+        self.office("run", "store", given=["(day 3)", "(child (wed))"], status=1, says=says)
+
+    def test_refused_days(self):
+        self.calendar()
+        for line, says in (
+            ("(day 367)", "(367 is no day of a year)"),
+            ("(window //p1 0 5)", "(0 is no day of a year)"),
+            ("(window //p1 9 8)", "(day 9 comes after day 8)"),
+        ):
+            says = f"refused 15: {refusals.reason(15)} {says}"
+            self.office("run", "store", given=["(user office)", line], status=1, says=says)
+
+    def test_publish_and_sheets(self):
+        self.calendar()
+        self.office("publish", "store", "--out", "www", says=self.NOTE)
+        publish = ("publish", "store", "--out", "www", "--json")
+        told = json.loads(self.office(*publish, "--day", "8", says="3 views of store"))
+        self.assertNotIn("note", self.errors)
+        self.assertEqual((told["day"], [reader["shown"] for reader in told["readers"]]), (8, [8, 8, 6]))
+        self.assertEqual(told["store"], json.loads(self.office(*publish, says="views of store"))["store"])
+        self.assertIn(" for day 8, publication", self.publish_page("--day", "8"))
+        self.assertNotIn(" for day", self.publish_page())
+        sheets = ("sheets", "store", "--as", "door", "--out", "doors")
+        told = json.loads(self.office(*sheets, "--day", "8", "--json", says="2 sheets of store"))
+        self.assertEqual((told["day"], [sheet["room"] for sheet in told["sheets"]]), (8, ["hall", "R12"]))
+        self.office(*sheets, says="1 sheet of store")
+        self.assertIn(self.NOTE, self.errors)
+
+    def publish_page(self, *words):
+        self.office("publish", "store", "--out", "www", *words, says="views of store")
+        return self.read(os.path.join("www", "view-door.html")).decode()
+
+    def test_why(self):
+        self.calendar()
+        told = self.office("why", "store", "--as", "door", "//10B-maths")
+        self.assertIn("is shown to door", told)
+        self.assertTrue(
+            told.endswith(
+                "  there on days 5 to 9 alone, as /school/mon/p2 is\n"
+                "  there on days 8 to 366 alone, as /school/mon/p2/R12 is\n"
+            )
+        )
+        self.assertTrue(self.office("why", "store", "--as", "web", "//p2").endswith("  there on days 5 to 9 alone\n"))
+        (node,) = json.loads(self.office("why", "store", "--as", "web", "//hall", "--json"))["nodes"]
+        self.assertEqual(node["windows"], [{"path": "/school/mon/p1/hall", "days": [1, 154]}])
+        self.assertNotIn("days", self.office("why", "store", "--as", "door", "//mon"))
+        self.office("map", "store", "--out", "map.html", says="8 nodes by 3 subjects")
+        self.office("check", "store", says="0 findings in 5 rules over 8 nodes")
+
+    def test_export(self):
+        self.calendar()
+        lines = self.office("export", "store")
+        self.assertEqual(
+            lines.splitlines()[-4:],
+            [
+                "(user office)",
+                "(window /*/*[1]/*[2]/*[1] 8 366)",
+                "(window /*/*[1]/*[2] 5 9)",
+                "(window /*/*[1]/*[1]/*[1] 1 154)",
+            ],
+        )
+        self.office("new", "again", "--records", "64", says="an empty store")
+        self.office("run", "again", "-q", given=lines)
+        with Store(self.store) as store, Store(self.path("again")) as again:
+            self.assertEqual(again.read(), store.read())
+        self.office("export", "store", "--xml", status=1, says="some nodes are shown on some days alone")
+        self.office("policy", "store", given=self.office("export", "store", "--policy"), says="over 8 nodes")
+        with Store(self.store) as store, Store(self.path("again")) as again:
+            self.assertEqual(again.read(), store.read())
+        self.office("policy", "store", given=["(subject a)", "(rule accept read //* a)"], says="over 8 nodes")
+        self.office("export", "store", status=1, says="R12, node 7, is shown on days 8 to 366 alone")
+
+    def test_windows_in_a_table(self):
+        self.calendar()
+        with Store(self.store) as store:
+            table = store.read().table
+        windows = [WHOLE_YEAR, WHOLE_YEAR, WHOLE_YEAR, (1, 154), WHOLE_YEAR, (5, 9), (8, 366), WHOLE_YEAR]
+        self.assertEqual(read_windows(table), windows)
+        self.assertEqual(set(read_windows(all_year(table))), {WHOLE_YEAR})
+        self.assertEqual(read_table(all_year(table)), read_table(table))
 
 
 class Log(Office):
@@ -1418,7 +1565,7 @@ class Export(Office):
             bad |= any(
                 one and two and before.level == node.level for (before, one), (node, two) in zip(texts, texts[1:])
             )
-            table = b"".join(bytes([level, len(label)]) + label.encode().ljust(30, b"\0") for level, label in nodes)
+            table = b"".join(make_record(*node) for node in nodes)
             state = self.loaded(b"<r/>").state
             session = Session(library, state, (len(nodes).to_bytes(4, "little") + table).ljust(4 + 32 * 64, b"\0"))
             self.assertTrue(session.is_store())
@@ -1627,10 +1774,17 @@ class Faults(Office):
     def test_a_later_format(self):
         self.school()
         with contextlib.closing(sqlite3.connect(self.store)) as connection:
-            connection.execute("PRAGMA user_version = 2")
+            connection.execute("PRAGMA user_version = 3")
         self.office(
-            "log", "store", status=3, says="store has format 2; this version of timetable-office knows format 1"
+            "log", "store", status=3, says="store has format 3; this version of timetable-office knows format 2"
         )
+
+    def test_a_store_without_windows(self):
+        self.school()
+        with contextlib.closing(sqlite3.connect(self.store)) as connection:
+            connection.execute("PRAGMA user_version = 1")
+        self.office("log", "store", status=3, says="store was made by a version before 0.6.0")
+        self.assertIn("`timetable-office export store`", self.errors)
 
     def test_damaged_bytes(self):
         """A few bytes overwritten anywhere: what is shown and kept is right, or there is a clear message."""

@@ -27,7 +27,7 @@ from timetable_office.lines import split_lines  # noqa: E402
 from timetable_office.places import node_paths, parents, select_stored, way_down  # noqa: E402
 from timetable_office.runs import run_lines  # noqa: E402
 from timetable_office.tree import Node, read_table, read_view  # noqa: E402
-from timetable_office.views import view_of  # noqa: E402
+from timetable_office.views import on_all_days, view_of  # noqa: E402
 
 WEB = ["(subject web)", "(rule accept read //* web)", "(rule deny read //note web)"]
 SCHOOL = ["(root school)", "(child (mon (lesson (class (10B)) (room (R12)) (note (ill)))))"]
@@ -87,7 +87,7 @@ class Deciding(office.Office):
                 for one in decider.decide_all():
                     readers += 1
                     view = [seen for seen in one.seen if seen is not Seen.HIDDEN]
-                    self.assertEqual(len(view), len(read_view(view_of(session, one.reader))))
+                    self.assertEqual(len(view), len(read_view(view_of(on_all_days(session), one.reader))))
                     shown += len(view)
         self.assertGreater(readers, 900)
         self.assertGreater(shown, 5000)

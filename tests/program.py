@@ -208,6 +208,29 @@ def every_letter():
         expect(f"the node n{byte:c} in either case", begin + b"(query //N%c)\n" % byte, OK * 5 + wanted)
 
 
+def every_day():
+    """Windows on each day of the year, both ends included, and days that are none."""
+    begin = b"(subject s)\n(rule accept read //* s)\n(rule accept update //* s)\n(root r)\n(child (a (b)))\n(user s)\n"
+    hits = b"(hit 1 a)\n(hit 2 b)\n(end 2)\n"
+    lines, wanted = [], []
+    for day in range(1, 367):
+        beside = [other for other in (day - 1, day + 1) if 1 <= other <= 366]
+        lines += [b"(day %03d)\n(window //a %d %d)\n(query /r//*)\n" % (day, day, day)]
+        wanted += [OK, b"(done 1 1)\n", hits]
+        for other in beside:
+            lines.append(b"(day %d)\n(query /r//*)\n(window //a 1 366)\n" % other)
+            wanted += [OK, b"(end 0)\n", b"(done 0 0)\n"]
+        lines.append(b"(day %d)\n(window //a 1 366)\n" % day)
+        wanted += [OK, b"(done 1 1)\n"]
+    expect("a window of each day", begin + b"".join(lines), OK * 6 + b"".join(wanted))
+    days = b"".join(b"(day %d)\n(query /r//*)\n" % day for day in range(1, 367))
+    shown = b"".join(OK + (hits if 100 <= day <= 256 else b"(end 0)\n") for day in range(1, 367))
+    expect("a window of some days", begin + b"(window //a 100 256)\n" + days, OK * 6 + b"(done 1 1)\n" + shown)
+    bad = b"(day 0)\n(day 000)\n(day 367)\n(day 999)\n(window //a 0 9)\n(window //a 9 367)\n(window //x 9 8)\n"
+    expect("no days", begin + bad + b"(day 1000)\n(day 0007)\n(day )\n(day +1)\n(window //a 1)\n", OK * 6 + refused(15) * 7 + refused(2) * 5)
+    expect("no root yet", b"(day 1)\n(day 0)\n(window //a 9 8)\n(root r)\n(day 366)\n(child (a))\n(view)\n", refused(3) * 3 + OK * 2 + refused(3) + refused(8))
+
+
 def the_example():
     expect("the example's view", EXAMPLE, OK * 10 + EXAMPLE_VIEW)
     expect("the whole example", EXAMPLE + EXAMPLE_CHANGES, OK * 10 + EXAMPLE_VIEW + EXAMPLE_DONE)
@@ -363,7 +386,7 @@ def the_limit_of_the_input():
 
 
 def main():
-    tests = [lines_and_their_ends, long_lines, bytes_0_to_255, limits_of_the_policy, labels_of_24_and_25_bytes, levels_and_records, the_longest_answers, every_letter, the_example]
+    tests = [lines_and_their_ends, long_lines, bytes_0_to_255, limits_of_the_policy, labels_of_24_and_25_bytes, levels_and_records, the_longest_answers, every_letter, every_day, the_example]
     tests += [sheets_for_the_doors, refused_sheets, pieces_of_any_size, answers_come_at_once, closed_and_failing_streams, the_limit_of_the_input]
     for test in tests:
         test()

@@ -34,12 +34,16 @@ else
         a-not-folded z-not-folded low-bits shown-folded stored-folded case-not-renamed forms-in-any-case \
         stored-sheet stored-days stored-periods stored-lessons true-labels true-rooms second-room room-with-lesson \
         sixth-for-fifth six-days labels-uncut no-blank-cells no-rows-for-hidden-root no-restricted-room \
+        in-window-below last-day-excluded windows-take-read day-in-view-alone windows-below window-without-read window-without-update \
+        words-not-redated root-redated rename-resets-window inserted-takes-window days-where-selected day-logs-in day-needs-user login-resets-day \
+        zeros-in-13 any-root-in-13 any-day-in-13 \
         any-closing-tag closing-tag-in-any-case text-dropped text-not-trimmed texts-joined second-root labels-before-document root-not-counted root-alone-at-d; do
         run "$wrong is found by the comparer" fails "$bin/compare" --wrong "$wrong"
     done
     run 'the view alone and the straightforward version' "$bin/views"
     for wrong in first-rule-wins login-in-rules direct-roles rules-name names-between every-name name-by-name \
-        exact-steps exact-own exact-ban-in-13 exact-names-in-13 a-not-folded low-bits shown-folded; do
+        exact-steps exact-own exact-ban-in-13 exact-names-in-13 a-not-folded low-bits shown-folded \
+        in-window-below last-day-excluded windows-take-read zeros-in-13 any-root-in-13 any-day-in-13; do
         run "$wrong is found by the tester of views" fails "$bin/views" --wrong "$wrong"
     done
 fi

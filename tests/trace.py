@@ -32,8 +32,9 @@ for path in glob.glob("crates/*/src/*.rt"):
 edits = {path.split("/")[1] + "/" + os.path.basename(path)[:-5] for path in glob.glob("crates/*/edits/*.edit")}
 crates = {os.path.basename(path) for path in glob.glob("crates/*")}
 
-# the most lines of definitions to be believed; 1,700 until card 3, whose own definitions have 49; since then the table of the forms counts too
-BELIEVED_MAX = 1800
+# the most lines of definitions to be believed; 1,700 until card 3, whose own definitions have 49, and since then the table of the forms counts too; 1,800 until card 7,
+# which adds a kind of part, two forms, the window of a record and the day of a session
+BELIEVED_MAX = 1950
 # words of the language, no names of ours
 WORDS = {"ensures", "requires"}
 seen, wrong = set(), []

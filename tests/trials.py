@@ -12,6 +12,7 @@ import tempfile
 
 ROOT = os.path.dirname(os.path.dirname(os.path.abspath(__file__)))
 LABEL_BYTES, RECORD_BYTES = 24, 32
+WINDOW_AT, FIRST_DAY, LAST_DAY = 26, 1, 366
 SUBJECTS_AT, ISA_AT, RULES_AT, RULE_BYTES, STEPS_AT, POLICY_BYTES = 8, 2056, 2312, 520, 8, 68872
 RIGHTS = {"position": 1, "read": 2, "insert": 4, "update": 8, "delete": 16}
 HIDDEN = 16384
@@ -70,8 +71,14 @@ class Trials:
 
 
 def record(first, label):
+    """A subject or a step."""
     text = label.encode()
     return bytes([first, len(text)]) + text.ljust(LABEL_BYTES, b"\0") + bytes(6)
+
+
+def node(level, label, first=FIRST_DAY, last=LAST_DAY):
+    """A node that is shown from the first day to the last."""
+    return record(level, label)[:WINDOW_AT] + first.to_bytes(2, "little") + last.to_bytes(2, "little") + bytes(2)
 
 
 def flat(tree, level=0):
@@ -84,7 +91,8 @@ def flat(tree, level=0):
 
 
 def table_of(nodes, capacity=None):
-    data = len(nodes).to_bytes(4, "little") + b"".join(record(level, label) for level, label in nodes)
+    """The table of nodes: level and label, or with a first and a last day behind them."""
+    data = len(nodes).to_bytes(4, "little") + b"".join(node(*one) for one in nodes)
     return data.ljust(4 + RECORD_BYTES * (capacity or len(nodes)), b"\0")
 
 

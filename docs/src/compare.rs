@@ -10,7 +10,7 @@ use std::process::ExitCode;
 use timetable::form::{LINE_MAXIMUM, WORDS};
 use timetable::reading::Reading;
 use timetable::sheet::SHEET_BYTES;
-use timetable::step::{read_store, AREA_SHORT, BAD_LABEL, BAD_STORE, NO_DOCUMENT, TABLE_FULL, TOO_DEEP, WRONG_STAGE};
+use timetable::step::{read_store, AREA_SHORT, BAD_DAY, BAD_LABEL, BAD_STORE, NO_DOCUMENT, TABLE_FULL, TOO_DEEP, WRONG_STAGE};
 use timetable::table::{nest, Tree};
 use timetable::testing::engine::{Engine, Straightforward};
 use timetable::testing::generate::{text_of, tree_text};
@@ -22,7 +22,7 @@ use timetable::testing::sheets::Sheets;
 
 const DEFAULT_LINES: usize = 20_000;
 const ENOUGH_LINES: usize = 20_000; // to have seen every form accepted and every refusal
-const REFUSALS: usize = 13;
+const LINE_REFUSALS: [u8; 14] = [1, 2, 3, 4, 5, 6, 7, 8, 9, 10, BAD_DAY, 11, 12, 13];
 const DOCUMENT_REFUSALS: [u8; 7] = [WRONG_STAGE, BAD_LABEL, TOO_DEEP, TABLE_FULL, AREA_SHORT, BAD_STORE, NO_DOCUMENT];
 const TOLD_BYTES: usize = 4_096; // of each line or document, where a difference is told
 
@@ -32,7 +32,7 @@ struct Counts {
     lines: usize,
     accepted: [usize; WORDS.len() + 1], // by form; the last is for what is none
     refused: [usize; WORDS.len() + 1],
-    refusals: [usize; REFUSALS + 1],
+    refusals: [usize; BAD_DAY as usize + 1],
     effective_changes: usize,
     sheets: Sheets,
     documents: Documents,
@@ -164,7 +164,7 @@ fn print_counts(counts: &Counts) {
     for (number, word) in WORDS.iter().chain(["(none)"].iter()).enumerate() {
         println!("{word:10} {:>9} {:>9}", counts.accepted[number], counts.refused[number]);
     }
-    let refusals: Vec<String> = (1..=REFUSALS).map(|number| format!("{number}: {}", counts.refusals[number])).collect();
+    let refusals = LINE_REFUSALS.map(|number| format!("{number}: {}", counts.refusals[number as usize]));
     println!("changes with at least one node done {}", counts.effective_changes);
     println!("{}", counts.sheets.text());
     println!("refusals {}", refusals.join(", "));
@@ -181,7 +181,7 @@ fn print_counts(counts: &Counts) {
 /// What a run of enough lines must have seen and has not.
 fn unseen(counts: &Counts) -> Vec<String> {
     let forms = (0..WORDS.len()).filter(|form| counts.accepted[*form] == 0).map(|form| format!("{} accepted", WORDS[form]));
-    let refusals = (1..=REFUSALS).filter(|number| counts.refusals[*number] == 0).map(|number| format!("refusal {number}"));
+    let refusals = LINE_REFUSALS.iter().filter(|number| counts.refusals[**number as usize] == 0).map(|number| format!("refusal {number}"));
     let documents = &counts.documents;
     let too_long = documents.accepted - documents.by_lines;
     let accepted =

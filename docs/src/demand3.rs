@@ -1,6 +1,7 @@
-//! The random tester for demand 3 (document 01, What demand 3 compares). Pairs of trees that look the same to a reader get the same lines; every reply up to
-//! the first refusal 11 must be equal, both suppositions must hold again after it, and in each run alone no subject's rights on a kept node may change. Some of the
-//! trees are loaded from a document by the engine under test.
+//! The random tester for demand 3 (document 01, What demand 3 compares; document 02, card 7). Pairs of trees that look the same to a reader on one day get the
+//! same lines; every reply up to the first refusal 11 must be equal, both suppositions must hold again after it, and in each run alone no subject's rights on a kept
+//! node may change. A line that changes the day ends the list; where the trees look the same on the new day too, the next lines are a list of their own. Some of
+//! the trees are loaded from a document by the engine under test.
 //!
 //!     demand3 [--seed N] [--lines N] [--library FILE.so | --wrong NAME]
 //!     demand3 --self-test [--seed N] [--lines N]
@@ -8,33 +9,35 @@
 //! Without a library it tests the straightforward version. --self-test puts each false reading into that version, and each must be found.
 
 use std::process::ExitCode;
+use timetable::form::{read_form, Form};
 use timetable::label::{listed, Label, RESTRICTED};
 use timetable::policy::Policy;
 use timetable::reading::{Reading, FALSE_READINGS};
 use timetable::sheet::{DAYS, SHEET_BYTES};
 use timetable::state::{Stage, State};
-use timetable::step::{read_store, step, Store, TABLE_FULL};
-use timetable::table::{flatten, nest, Node, Tree, LEVEL_MAXIMUM};
+use timetable::step::{read_store, step, Store, BAD_DAY, TABLE_FULL};
+use timetable::table::{flatten, nest, Node, Table, Tree, LEVEL_MAXIMUM};
 use timetable::testing::documents::{document_of, has_document};
 use timetable::testing::engine::{Engine, Straightforward};
 use timetable::testing::generate;
 use timetable::testing::options::Options;
 use timetable::testing::random::Random;
 use timetable::testing::sheets::Sheets;
-use timetable::view::{look, view};
+use timetable::view::{look, view, view_by};
+use timetable::window::WHOLE_YEAR;
 use timetable::{state, table, STATE_BYTES};
 
 const DEFAULT_LINES: usize = 100_000;
-const CHANGES: [&[u8]; 6] = [b"(rename ", b"(update ", b"(append ", b"(before ", b"(after ", b"(remove "];
+const CHANGES: [&[u8]; 7] = [b"(rename ", b"(update ", b"(append ", b"(before ", b"(after ", b"(remove ", b"(window "];
 const AREA_BYTES: usize = 8_192;
 const CROWDED: usize = 40;
 
 // --- The two suppositions ---
 
-/// Why two trees are not alike to a reader, if they are not. What is shown is compared as bytes, true labels behind RESTRICTED whatever their case (document 02,
+/// Why two trees are not alike to a reader on a day, if they are not. What is shown is compared as bytes, true labels behind RESTRICTED whatever their case (document 02,
 /// card 6).
-fn difference(policy: &Policy, reader: usize, trees: [&[Node]; 2]) -> Option<&'static str> {
-    let views = trees.map(|nodes| view(nodes, &policy.rights(nodes, reader)));
+fn difference(policy: &Policy, reader: usize, day: u16, trees: [&[Node]; 2]) -> Option<&'static str> {
+    let views = trees.map(|nodes| view(nodes, &policy.rights(nodes, reader), day));
     if look(&views[0]) != look(&views[1]) {
         return Some("the trees do not look the same");
     }
@@ -50,14 +53,26 @@ fn difference(policy: &Policy, reader: usize, trees: [&[Node]; 2]) -> Option<&'s
     None
 }
 
-/// Whether somewhere behind RESTRICTED the two trees have a policy word in two cases.
-fn words_in_two_cases(policy: &Policy, reader: usize, trees: [&[Node]; 2]) -> bool {
-    let views = trees.map(|nodes| view(nodes, &policy.rights(nodes, reader)));
+/// What two trees that are alike to a reader have.
+#[derive(Clone, Copy)]
+struct Kinds {
+    two_cases: bool,   // somewhere behind RESTRICTED a policy word in two cases
+    two_windows: bool, // in some place nodes that are shown in windows of their own
+    outside: bool,     // nodes that are kept from the reader by the day alone
+}
+
+fn kinds(policy: &Policy, reader: usize, day: u16, trees: [&[Node]; 2]) -> Kinds {
+    let rights = trees.map(|nodes| policy.rights(nodes, reader));
+    let views = [0, 1].map(|run| view(trees[run], &rights[run], day));
     let words = policy.words();
-    views[0].nodes.iter().enumerate().filter(|(_, node)| node.label == RESTRICTED).any(|(place, _)| {
-        let labels = [0, 1].map(|run| trees[run][views[run].stored[place]].label);
-        labels[0] != labels[1] && listed(&words, &labels[0], Label::same)
-    })
+    let in_place = |place: usize| [0, 1].map(|run| &trees[run][views[run].stored[place]]);
+    let in_two_cases = |[one, other]: [&Node; 2]| one.label != other.label && listed(&words, &one.label, Label::same);
+    let places = 0..views[0].nodes.len();
+    Kinds {
+        two_cases: places.clone().any(|place| views[0].nodes[place].label == RESTRICTED && in_two_cases(in_place(place))),
+        two_windows: places.map(in_place).any(|[one, other]| one.window != other.window),
+        outside: (0..2).any(|run| view_by(trees[run], &rights[run], |_| true) != views[run]),
+    }
 }
 
 // --- Pairs ---
@@ -74,9 +89,10 @@ struct Run {
 struct Pair {
     policy: Policy,
     reader: usize,
+    day: u16,
     runs: [Run; 2],
     login: bool,
-    two_cases: bool, // behind RESTRICTED, of a policy word
+    kinds: Kinds,
 }
 
 fn all_rights(policy: &Policy, nodes: &[Node]) -> Vec<Vec<u8>> {
@@ -115,6 +131,23 @@ fn mutated(random: &mut Random, tree: &Tree) -> Tree {
     tree
 }
 
+/// The tree with the window of one node changed, or with a new child in some window.
+fn redated(random: &mut Random, tree: &Tree, day: u16) -> Tree {
+    let mut tree = tree.clone();
+    let mut number = random.below(tree.size());
+    let re_date = number > 0 && random.percent(50);
+    edit_node(&mut tree, &mut number, &mut |node| {
+        let window = generate::some_window(random, day);
+        if re_date {
+            node.window = window;
+        } else {
+            let place = random.below(node.children.len() + 1);
+            node.children.insert(place, Tree { window, ..generate::tree(random, 2, 1) });
+        }
+    });
+    tree
+}
+
 /// Takes the tree's document into an empty table, and logs the user in.
 fn load(engine: &dyn Engine, random: &mut Random, tree: &Tree, user: Option<&Label>, state: &mut [u8], table: &mut [u8]) -> Result<(), String> {
     let mut area = [0; 5];
@@ -133,8 +166,9 @@ fn load(engine: &dyn Engine, random: &mut Random, tree: &Tree, user: Option<&Lab
     }
 }
 
-fn make_run(engine: &dyn Engine, random: &mut Random, policy: &Policy, user: Option<usize>, tree: &Tree, tight: bool) -> Result<Run, String> {
-    let mut policy = policy.clone();
+/// A run from a state with some user and day. The isa lines are put in another order.
+fn make_run(engine: &dyn Engine, random: &mut Random, start: &State, tree: &Tree, tight: bool) -> Result<Run, String> {
+    let (mut policy, user) = (start.policy.clone(), start.user);
     random.shuffle(&mut policy.isa);
     let (nodes, _) = flatten(tree);
     let free = if tight { random.below(9) } else { random.within(60, 260) };
@@ -142,11 +176,11 @@ fn make_run(engine: &dyn Engine, random: &mut Random, policy: &Policy, user: Opt
     let mut table_bytes = vec![0; 4 + 32 * (nodes.len() + free) + random.below(32)];
     let loaded = has_document(tree) && random.percent(50);
     if loaded {
-        state::encode(&State { stage: Stage::B, user: None, policy: policy.clone() }, &mut state_bytes);
+        state::encode(&State { stage: Stage::B, user: None, day: start.day, policy: policy.clone() }, &mut state_bytes);
         load(engine, random, tree, user.map(|user| &policy.subjects[user]), &mut state_bytes, &mut table_bytes)?;
     } else {
-        let stage = if user.is_some() { Stage::E } else { *random.pick(&[Stage::C, Stage::D]) };
-        state::encode(&State { stage, user, policy: policy.clone() }, &mut state_bytes);
+        let stage = if user.is_some() { Stage::E } else { *random.pick(&[Stage::C, Stage::D, Stage::E]) };
+        state::encode(&State { stage, user, day: start.day, policy: policy.clone() }, &mut state_bytes);
         table::encode(&nodes, &mut table_bytes);
     }
     let store = read_store(&state_bytes, &table_bytes).expect("13 lets it pass");
@@ -154,11 +188,12 @@ fn make_run(engine: &dyn Engine, random: &mut Random, policy: &Policy, user: Opt
     Ok(Run { state: state_bytes, table: table_bytes, area: Vec::new(), store, rights, loaded })
 }
 
-/// Two runs whose trees differ and are alike to the reader.
+/// Two runs whose trees differ and are alike to the reader on one day.
 fn make_pair(engine: &dyn Engine, random: &mut Random) -> Result<Pair, String> {
     loop {
         let (mut policy, reader) = generate::policy(random);
-        let first = if random.percent(15) {
+        let day = generate::some_day(random);
+        let mut first = if random.percent(15) {
             let height = random.within(8, LEVEL_MAXIMUM);
             generate::deep_tree(random, height)
         } else if random.percent(25) {
@@ -167,18 +202,30 @@ fn make_pair(engine: &dyn Engine, random: &mut Random) -> Result<Pair, String> {
             let (size, height) = (random.within(8, 36), random.within(2, 6));
             generate::tree(random, size, height)
         };
+        let dated = *random.pick(&[0, 0, 0, 10, 25]);
+        generate::date(random, &mut first, day, dated);
         let nodes = flatten(&first).0;
-        let shown = view(&nodes, &policy.rights(&nodes, reader)).nodes.len();
+        let shown = view(&nodes, &policy.rights(&nodes, reader), day).nodes.len();
         if shown < 3 && !random.percent(2) {
             continue;
         }
         let mut second = first.clone();
+        let take_if_alike = |second: &mut Tree, candidate: Tree| {
+            let other = flatten(&candidate).0;
+            if candidate.height() <= LEVEL_MAXIMUM && difference(&policy, reader, day, [&nodes, &other]).is_none() {
+                *second = candidate;
+            }
+        };
         for _ in 0..40 {
             let candidate = mutated(random, &second);
-            let other = flatten(&candidate).0;
-            if candidate.height() <= LEVEL_MAXIMUM && difference(&policy, reader, [&nodes, &other]).is_none() {
-                second = candidate;
-            }
+            take_if_alike(&mut second, candidate);
+        }
+        if first == second && !random.percent(10) {
+            continue;
+        }
+        for _ in 0..*random.pick(&[0, 0, 5, 20]) {
+            let candidate = redated(random, &second, day);
+            take_if_alike(&mut second, candidate);
         }
         if first == second {
             continue;
@@ -190,10 +237,10 @@ fn make_pair(engine: &dyn Engine, random: &mut Random) -> Result<Pair, String> {
             true if random.percent(50) => None,
             true => Some(random.below(policy.subjects.len())),
         };
-        let users = [user(), user()];
-        let runs = [make_run(engine, random, &policy, users[0], &first, tight)?, make_run(engine, random, &policy, users[1], &second, tight)?];
-        let two_cases = words_in_two_cases(&policy, reader, [&runs[0].store.table.nodes, &runs[1].store.table.nodes]);
-        return Ok(Pair { policy, reader, runs, login, two_cases });
+        let states = [user(), user()].map(|user| State { stage: Stage::E, user, day, policy: policy.clone() });
+        let runs = [make_run(engine, random, &states[0], &first, tight)?, make_run(engine, random, &states[1], &second, tight)?];
+        let kinds = kinds(&policy, reader, day, [&runs[0].store.table.nodes, &runs[1].store.table.nodes]);
+        return Ok(Pair { policy, reader, day, runs, login, kinds });
     }
 }
 
@@ -205,21 +252,25 @@ fn login_line(random: &mut Random, pair: &Pair) -> String {
 
 fn next_line(random: &mut Random, pair: &Pair) -> String {
     let nodes = &pair.runs[0].store.table.nodes;
-    let view = view(nodes, &pair.runs[0].rights[pair.reader]).nodes;
+    let view = view(nodes, &pair.runs[0].rights[pair.reader], pair.day).nodes;
     let own = pair.policy.own_names(pair.reader);
     match random.below(100) {
         0..=69 => {
             let room = CROWDED.saturating_sub(nodes.len());
-            let line = generate::change(random, &view, &own, room);
+            let line = generate::change(random, &view, &own, room, pair.day);
             let idle = step(&pair.runs[0].store, line.as_bytes(), AREA_BYTES, Reading::Right).is_ok_and(|accepted| accepted.answer.ends_with(b" 0)\n"));
             if idle {
-                generate::change(random, &view, &own, room) // a second try to find something to do
+                generate::change(random, &view, &own, room, pair.day) // a second try to find something to do
             } else {
                 line
             }
         }
         70..=89 => generate::question(random, &view, &own),
         90..=92 => login_line(random, pair),
+        93 => {
+            let day = if random.percent(40) { pair.day } else { generate::some_day(random) };
+            format!("(day {})", generate::day_text(random, day))
+        }
         _ => generate::refused(random),
     }
 }
@@ -228,6 +279,8 @@ fn next_line(random: &mut Random, pair: &Pair) -> String {
 struct Counts {
     pairs: usize,
     two_cases: usize,
+    two_windows: usize,
+    outside: usize,
     loaded: usize,
     lines: usize,
     compared: usize,
@@ -235,7 +288,9 @@ struct Counts {
     effective_changes: usize,
     accepted_others: usize,
     sheets: Sheets,
-    refusals: [usize; 14],
+    new_days: usize,
+    ended_by_day: usize, // since the trees do not look the same on the new one
+    refusals: [usize; BAD_DAY as usize + 1],
     kept_nodes: usize,
 }
 
@@ -281,6 +336,14 @@ fn same_policy(one: &Policy, other: &Policy) -> bool {
     one.subjects == other.subjects && one.rules == other.rules && isa_lines(one) == isa_lines(other)
 }
 
+/// The day that a line with this reply leaves.
+fn day_after(day: u16, line: &[u8], returned: i64) -> u16 {
+    match read_form(line) {
+        Some(Form::Day(new)) if returned >= 0 => new,
+        _ => day,
+    }
+}
+
 /// One list of lines on one pair; its lines are kept for the story of a finding.
 fn run_pair(engine: &dyn Engine, random: &mut Random, pair: &mut Pair, counts: &mut Counts, lines: &mut Vec<String>) -> Result<(), String> {
     let mut comparing = true;
@@ -307,6 +370,9 @@ fn run_pair(engine: &dyn Engine, random: &mut Random, pair: &mut Pair, counts: &
             if !same_policy(&run.store.state.policy, &pair.policy) {
                 return Err("the policy changes".to_string());
             }
+            if run.store.state.day != day_after(pair.day, line, *returned) {
+                return Err("the day is not the one that was set".to_string());
+            }
             check_rights(engine, &pair.policy, run, &before, line, counts)?;
         }
         count_reply(returned[0], line, &pair.runs[0].area, counts);
@@ -318,11 +384,20 @@ fn run_pair(engine: &dyn Engine, random: &mut Random, pair: &mut Pair, counts: &
         if comparing {
             counts.compared += 1;
             compare_replies(returned, pair)?;
+            let day = pair.runs[0].store.state.day;
             let trees = [&pair.runs[0].store.table.nodes[..], &pair.runs[1].store.table.nodes[..]];
-            if let Some(what) = difference(&pair.policy, pair.reader, trees) {
-                return Err(format!("after the line {what}"));
+            match difference(&pair.policy, pair.reader, day, trees) {
+                Some(_) if day != pair.day => {
+                    counts.ended_by_day += 1;
+                    comparing = false;
+                    left = left.min(10);
+                }
+                Some(what) => return Err(format!("after the line {what}")),
+                None => {}
             }
         }
+        counts.new_days += usize::from(pair.runs[0].store.state.day != pair.day);
+        pair.day = pair.runs[0].store.state.day;
     }
     Ok(())
 }
@@ -348,7 +423,7 @@ fn reply_text(returned: i64, run: &Run) -> String {
 fn count_reply(returned: i64, line: &[u8], area: &[u8], counts: &mut Counts) {
     counts.sheets.count(line, returned, area);
     if returned < 0 {
-        counts.refusals[(-returned).min(13) as usize] += 1;
+        counts.refusals[(-returned) as usize] += 1;
     } else if CHANGES.iter().any(|word| line.starts_with(word)) {
         counts.accepted_changes += 1;
         counts.effective_changes += usize::from(!area[..returned as usize].ends_with(b" 0)\n"));
@@ -359,13 +434,16 @@ fn count_reply(returned: i64, line: &[u8], area: &[u8], counts: &mut Counts) {
 
 // --- The run ---
 
-/// The lines that make a pair's policy, both trees, and the lines given.
-fn story(policy: &Policy, reader: &Label, starts: &[Tree; 2], capacities: [usize; 2], lines: &[String]) -> String {
+/// The lines that make a pair's policy, both trees with their windows, and the lines given.
+fn story(policy: &Policy, reader: &Label, day: u16, starts: &[Table; 2], lines: &[String]) -> String {
     let mut text = generate::policy_lines(policy).join("\n");
-    for run in 0..2 {
-        text.push_str(&format!("\ntree {} of {} records: {}", run + 1, capacities[run], generate::tree_text(&starts[run])));
+    for (number, Table { capacity, nodes }) in starts.iter().enumerate() {
+        text.push_str(&format!("\ntree {} of {capacity} records: {}", number + 1, generate::tree_text(&nest(nodes))));
+        for (number, node) in nodes.iter().enumerate().filter(|(_, node)| node.window != WHOLE_YEAR) {
+            text.push_str(&format!("\nnode {number}, {}: days {} to {}", generate::text_of(&node.label), node.window.first, node.window.last));
+        }
     }
-    text.push_str(&format!("\nreader {}\n", generate::text_of(reader)));
+    text.push_str(&format!("\nreader {} on day {day}\n", generate::text_of(reader)));
     text.push_str(&lines.join("\n"));
     text
 }
@@ -382,13 +460,14 @@ fn run(engine: &dyn Engine, seed: u64, lines: usize) -> (Counts, Option<Finding>
                 return (counts, Some(finding));
             }
         };
-        counts.two_cases += usize::from(pair.two_cases);
+        counts.two_cases += usize::from(pair.kinds.two_cases);
+        counts.two_windows += usize::from(pair.kinds.two_windows);
+        counts.outside += usize::from(pair.kinds.outside);
         counts.loaded += pair.runs.iter().filter(|run| run.loaded).count();
-        let starts = [0, 1].map(|run| nest(&pair.runs[run].store.table.nodes));
-        let capacities = [0, 1].map(|run| pair.runs[run].store.table.capacity);
+        let (starts, day) = ([0, 1].map(|run| pair.runs[run].store.table.clone()), pair.day);
         let mut given = Vec::new();
         if let Err(what) = run_pair(engine, &mut random, &mut pair, &mut counts, &mut given) {
-            let story = story(&pair.policy, &pair.policy.subjects[pair.reader], &starts, capacities, &given);
+            let story = story(&pair.policy, &pair.policy.subjects[pair.reader], day, &starts, &given);
             let finding = Finding { pair: counts.pairs, line: counts.lines, what, story };
             return (counts, Some(finding));
         }
@@ -399,7 +478,9 @@ fn run(engine: &dyn Engine, seed: u64, lines: usize) -> (Counts, Option<Finding>
 fn print_counts(counts: &Counts) {
     println!("{} pairs, {} of their trees loaded from a document", counts.pairs, counts.loaded);
     println!("{} pairs with a policy word in two cases behind RESTRICTED", counts.two_cases);
-    println!("{} lines, {} of them before the first 11 and compared", counts.lines, counts.compared);
+    println!("{} pairs with nodes outside their window, {} with two windows in one place that is shown", counts.outside, counts.two_windows);
+    println!("{} lines, {} of them before the first 11 or a day on which the trees differ, and compared", counts.lines, counts.compared);
+    println!("{} lines change the day, {} of them end the assurance", counts.new_days, counts.ended_by_day);
     let percent = |part: usize| 100 * part / counts.lines.max(1);
     println!(
         "accepted changes {} ({} %), with at least one node done {} ({} %), other accepted lines {}",
@@ -410,13 +491,14 @@ fn print_counts(counts: &Counts) {
         counts.accepted_others
     );
     println!("{}", counts.sheets.text());
-    let refusals: Vec<String> = (1..counts.refusals.len()).map(|number| format!("{number}: {}", counts.refusals[number])).collect();
+    let refusals: Vec<String> =
+        (1..counts.refusals.len()).filter(|number| *number != 14).map(|number| format!("{number}: {}", counts.refusals[number])).collect();
     println!("refusals {}", refusals.join(", "));
     println!("rights compared on {} kept nodes", counts.kept_nodes);
 }
 
 /// One run; true if nothing is found, at least 30 of 100 lines are changes that do something, trees were loaded, a policy word stood in two cases behind
-/// RESTRICTED, and sheets of each kind were seen.
+/// RESTRICTED, nodes stood outside their windows and in two windows in one place, days were changed with both outcomes, and sheets of each kind were seen.
 fn test(engine: &dyn Engine, seed: u64, lines: usize) -> bool {
     let (counts, finding) = run(engine, seed, lines);
     print_counts(&counts);
@@ -430,7 +512,9 @@ fn test(engine: &dyn Engine, seed: u64, lines: usize) -> bool {
             if !unseen.is_empty() {
                 println!("FAILED: not seen: {}", unseen.join(", "));
             }
-            100 * counts.effective_changes >= 30 * counts.lines && counts.loaded > 0 && counts.two_cases > 0 && unseen.is_empty()
+            let both_days = counts.ended_by_day > 0 && counts.new_days > counts.ended_by_day;
+            let all_kinds = counts.loaded > 0 && counts.two_cases > 0 && counts.two_windows > 0 && counts.outside > 0 && both_days;
+            100 * counts.effective_changes >= 30 * counts.lines && all_kinds && unseen.is_empty()
         }
     }
 }
@@ -468,6 +552,7 @@ mod tests {
     use super::*;
     use timetable::path::read_path;
     use timetable::policy::{Rule, POSITION, READ};
+    use timetable::window::{Window, FIRST_DAY};
 
     /// What tells two trees apart to one who reads all but what is labelled key or lies in a room, and sees that it is there.
     fn told(children: [Tree; 2]) -> Option<&'static str> {
@@ -475,11 +560,11 @@ mod tests {
         let rules = vec![rule(true, READ, "//*"), rule(true, POSITION, "//*"), rule(false, READ, "//key"), rule(false, READ, "//room/*")];
         let policy = Policy { subjects: vec![generate::label("ann")], isa: Vec::new(), rules };
         let [one, other] = children.map(|child| flatten(&tree("school", vec![child])).0);
-        difference(&policy, 0, [&one, &other])
+        difference(&policy, 0, FIRST_DAY, [&one, &other])
     }
 
     fn tree(label: &str, children: Vec<Tree>) -> Tree {
-        Tree { label: generate::label(label), origin: None, children }
+        Tree::new(generate::label(label), children)
     }
 
     #[test]
@@ -494,5 +579,16 @@ mod tests {
         assert_eq!(told([room("exam"), room("film")]), None); // neither is one
         assert!(told([room("exam"), room("Key")]).is_some());
         assert!(told([room("ROOM"), room("key")]).is_some());
+    }
+
+    #[test]
+    fn trees_are_compared_on_one_day() {
+        let exam = |first, last| Tree { window: Window { first, last }, ..tree("hall", vec![tree("exam", Vec::new())]) };
+        let hall = || tree("hall", Vec::new());
+        assert_eq!(told([exam(1, 5), exam(1, 366)]), None); // windows are not listed
+        assert!(told([exam(2, 5), tree("key", Vec::new())]).is_some());
+        assert!(told([exam(1, 5), hall()]).is_some());
+        let tomorrow = |label: &str| Tree { window: Window { first: 2, last: 9 }, ..tree(label, vec![hall()]) };
+        assert_eq!(told([tomorrow("exam"), tomorrow("film")]), None); // neither is shown, nor is what is below
     }
 }

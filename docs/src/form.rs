@@ -1,10 +1,11 @@
-//! The forms of a line (document 01, Lines; document 02, card 3).
+//! The forms of a line (document 01, Lines; document 02, cards 3 and 7).
 
 use crate::label::{is_label_byte, Label};
 use crate::policy::{DELETE, INSERT, POSITION, READ, UPDATE};
 use crate::table::Tree;
 
 pub const LINE_MAXIMUM: usize = 1_024;
+const DAY_DIGITS: usize = 3;
 
 #[derive(Clone, Copy, PartialEq, Eq, Debug)]
 pub enum Place {
@@ -30,11 +31,15 @@ pub enum Form<'a> {
     Insert(Place, &'a [u8], Tree),
     Remove(&'a [u8]),
     Sheet(Label),
+    Day(u16),
+    Window(&'a [u8], u16, u16),
 }
 
 /// The words that forms begin with, in the order of documents 01 and 02.
-pub const WORDS: [&str; 16] =
-    ["subject", "isa", "rule", "root", "child", "user", "view", "query", "find", "rename", "update", "append", "before", "after", "remove", "sheet"];
+pub const WORDS: [&str; 18] = [
+    "subject", "isa", "rule", "root", "child", "user", "view", "query", "find", "rename", "update", "append", "before", "after", "remove", "sheet", "day",
+    "window",
+];
 
 /// Bytes that are read from left to right.
 pub struct Reader<'a> {
@@ -100,7 +105,15 @@ impl<'a> Reader<'a> {
         while self.skip(b')').is_none() {
             children.push(self.next_tree()?);
         }
-        Some(Tree { label, origin: None, children })
+        Some(Tree::new(label, children))
+    }
+
+    /// A space and a day as it is typed, of the year or not: 1 to 3 digits.
+    fn next_day(&mut self) -> Option<u16> {
+        self.skip(b' ')?;
+        let digits = self.run(|byte| byte.is_ascii_digit())?;
+        let number = |digits: &[u8]| digits.iter().fold(0, |number, digit| 10 * number + u16::from(digit - b'0'));
+        (digits.len() <= DAY_DIGITS).then(|| number(digits))
     }
 
     fn rule(&mut self) -> Option<Form<'a>> {
@@ -141,6 +154,8 @@ impl<'a> Reader<'a> {
             b"after" => Form::Insert(Place::After, self.next_path()?, self.next_tree()?),
             b"remove" => Form::Remove(self.next_path()?),
             b"sheet" => Form::Sheet(self.next_label()?),
+            b"day" => Form::Day(self.next_day()?),
+            b"window" => Form::Window(self.next_path()?, self.next_day()?, self.next_day()?),
             _ => return None,
         };
         self.skip(b')')?;

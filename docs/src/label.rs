@@ -2,6 +2,8 @@
 
 pub const LABEL_MAXIMUM: usize = 24;
 pub const RECORD_BYTES: usize = 32;
+/// Where a record's spare bytes begin, which only a table uses (window.rs).
+pub const SPARE_AT: usize = 2 + LABEL_MAXIMUM;
 
 /// 1 to 24 letters, digits, hyphens, underscores and full stops; zeros behind. `==` compares bytes, as what is shown or stored is compared; labels are equal by
 /// `same`.
@@ -50,15 +52,21 @@ pub fn all_zero(bytes: &[u8]) -> bool {
     bytes.chunks(64).all(|chunk| chunk.iter().fold(0, |or, byte| or | byte) == 0)
 }
 
-/// The first byte and the text of a record whose unused bytes are zero.
-pub fn read_record(record: &[u8]) -> Option<(u8, &[u8])> {
+/// The first byte and the text of a record that has zeros between the text and the spare bytes.
+pub fn read_text(record: &[u8]) -> Option<(u8, &[u8])> {
     let length = record[1] as usize;
-    if !(1..=LABEL_MAXIMUM).contains(&length) || !all_zero(&record[2 + length..RECORD_BYTES]) {
+    if !(1..=LABEL_MAXIMUM).contains(&length) || !all_zero(&record[2 + length..SPARE_AT]) {
         return None;
     }
     Some((record[0], &record[2..2 + length]))
 }
 
+/// The first byte and the text of a record whose unused bytes are zero.
+pub fn read_record(record: &[u8]) -> Option<(u8, &[u8])> {
+    read_text(record).filter(|_| all_zero(&record[SPARE_AT..RECORD_BYTES]))
+}
+
+/// A record with zeros behind its text.
 pub fn write_record(record: &mut [u8], first: u8, text: &[u8]) {
     record.fill(0);
     record[0] = first;

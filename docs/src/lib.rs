@@ -13,6 +13,7 @@ pub mod step;
 pub mod table;
 pub mod testing;
 pub mod view;
+pub mod window;
 pub mod xml;
 
 pub use state::STATE_BYTES;

@@ -284,7 +284,7 @@ mod tests {
 
     #[test]
     fn a_position_after_own_counts_under_whichever_name() {
-        let tree = |text: &str, children| Tree { label: generate::label(text), origin: None, children };
+        let tree = |text: &str, children| Tree::new(generate::label(text), children);
         let leaf = |text: &str| tree(text, Vec::new());
         let nodes = flatten(&tree("r", vec![leaf("ann"), leaf("x"), tree("staff", vec![leaf("ann")]), leaf("bob"), leaf("ann")])).0;
         let own = ["ann", "staff"].map(generate::label);
@@ -303,7 +303,7 @@ mod tests {
 
     #[test]
     fn a_step_passes_in_either_case() {
-        let leaf = |text: &str| Tree { label: generate::label(text), origin: None, children: Vec::new() };
+        let leaf = |text: &str| Tree::new(generate::label(text), Vec::new());
         let nodes = flatten(&Tree { children: ["r12", "R12", "R-12", "ANN", "Room", "AZaz"].map(leaf).to_vec(), ..leaf("school") }).0;
         let own = ["ann"].map(generate::label);
         let selected = |text: &str| {

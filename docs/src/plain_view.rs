@@ -4,12 +4,13 @@
 //! The rules are tried from the last to the first, until read and position are decided; those of other rights, or of subjects that the user is not, are left out
 //! before the pass.
 
-use crate::label::{all_zero, is_label_byte, read_record, LABEL_MAXIMUM, RECORD_BYTES, RESTRICTED};
+use crate::label::{all_zero, is_label_byte, read_record, read_text, LABEL_MAXIMUM, RECORD_BYTES, RESTRICTED, SPARE_AT};
 use crate::path::STEPS_MAXIMUM;
 use crate::policy::{DELETE, INSERT, ISA_MAXIMUM, POSITION, READ, RULES_MAXIMUM, SUBJECTS_MAXIMUM, UPDATE};
 use crate::state::{Stage, ISA_AT, RULES_AT, RULE_BYTES, RULE_STEPS_AT, SESSION_BYTES, STATE_BYTES, SUBJECTS_AT};
 use crate::step::{AREA_SHORT, BAD_STORE, NO_FORM, NO_USER, WRONG_STAGE};
 use crate::table::{CAPACITY_MAXIMUM, COUNT_BYTES, LEVEL_MAXIMUM};
+use crate::window::{FIRST_DAY, LAST_DAY};
 use std::io::Write;
 
 /// A label in small letters with the zeros behind it: two are the same bytes where the labels are equal (document 02, card 6).
@@ -27,16 +28,34 @@ fn text(record: &[u8]) -> &[u8] {
 
 // --- 13's check ---
 
+/// The text of a label that is not RESTRICTED.
+fn text_ok(text: &[u8]) -> bool {
+    text.iter().all(|&byte| is_label_byte(byte)) && !text.eq_ignore_ascii_case(RESTRICTED.text())
+}
+
 /// A label that is not RESTRICTED, and zeros behind it.
 fn label_ok(record: &[u8]) -> bool {
-    read_record(record).is_some_and(|(_, text)| text.iter().all(|&byte| is_label_byte(byte)) && !text.eq_ignore_ascii_case(RESTRICTED.text()))
+    read_record(record).is_some_and(|(_, text)| text_ok(text))
+}
+
+/// The first and the last day of a node (document 02, card 7).
+fn window(record: &[u8]) -> (u16, u16) {
+    let number = |at: usize| u16::from_le_bytes([record[at], record[at + 1]]);
+    (number(SPARE_AT), number(SPARE_AT + 2))
+}
+
+/// Such a label, and a window; the root's is the whole year.
+fn node_ok(record: &[u8], root: bool) -> bool {
+    let (first, last) = window(record);
+    let window_ok = if root { (first, last) == (FIRST_DAY, LAST_DAY) } else { FIRST_DAY <= first && first <= last && last <= LAST_DAY };
+    window_ok && all_zero(&record[SPARE_AT + 4..]) && read_text(record).is_some_and(|(_, text)| text_ok(text))
 }
 
 fn records_ok(records: &[u8]) -> bool {
     let mut deepest = 0; // level that the next record may have
     for (number, record) in records.chunks_exact(RECORD_BYTES).enumerate() {
         let level = record[0] as usize;
-        if level > deepest.min(LEVEL_MAXIMUM) || (level == 0) != (number == 0) || !label_ok(record) {
+        if level > deepest.min(LEVEL_MAXIMUM) || (level == 0) != (number == 0) || !node_ok(record, number == 0) {
             return false;
         }
         deepest = level + 1;
@@ -114,24 +133,29 @@ fn policy(bytes: &[u8]) -> Option<Policy<'_>> {
 struct Store<'a> {
     stage: u8,
     user: Option<usize>,
+    day: u16,
     policy: Policy<'a>,
     records: &'a [u8],
 }
 
 fn store<'a>(state: &'a [u8], table: &'a [u8]) -> Option<Store<'a>> {
-    if state.len() != STATE_BYTES || state[0] > Stage::E as u8 || !all_zero(&state[2..SESSION_BYTES]) {
+    if state.len() != STATE_BYTES || state[0] > Stage::E as u8 || !all_zero(&state[4..SESSION_BYTES]) {
         return None;
     }
     let (stage, user) = (state[0], (state[1] as usize).checked_sub(1));
+    let day_before = u16::from_le_bytes([state[2], state[3]]); // a day is stored less one
+    if day_before >= LAST_DAY {
+        return None;
+    }
     let policy = policy(&state[SESSION_BYTES..])?;
     let user_known = user.is_none_or(|user| user < policy.subjects.len() / RECORD_BYTES);
     let rule_at_a = stage < Stage::B as u8 && !policy.rules.is_empty();
-    if !user_known || rule_at_a || user.is_some() != (stage == Stage::E as u8) {
+    if !user_known || rule_at_a || (user.is_some() && stage != Stage::E as u8) {
         return None;
     }
     let records = records(table)?;
     let root_taken = stage >= Stage::C as u8;
-    (root_taken != records.is_empty()).then_some(Store { stage, user, policy, records })
+    (root_taken != records.is_empty()).then_some(Store { stage, user, day: day_before + 1, policy, records })
 }
 
 // --- Rules and paths ---
@@ -299,8 +323,8 @@ impl Answer {
     }
 }
 
-/// The view of a user with these names: one pass over the records, each label folded once, and compared with the names once, if a rule uses `$`.
-fn view(records: &[u8], rules: &[Rule], names: &[Folded]) -> Vec<u8> {
+/// The view of a user with these names on a day: one pass over the records, each label folded once, and compared with the names once, if a rule uses `$`.
+fn view(records: &[u8], rules: &[Rule], names: &[Folded], day: u16) -> Vec<u8> {
     let mut chain = [Link { label: [0; LABEL_MAXIMUM], own: false }; LEVEL_MAXIMUM + 1]; // from the root to the node
     let uses_own = rules.iter().flat_map(|rule| &rule.path).any(|step| matches!(step.test, Test::Own));
     let mut hidden = LEVEL_MAXIMUM + 1; // the level of the highest node on the way that is not shown
@@ -308,6 +332,11 @@ fn view(records: &[u8], rules: &[Rule], names: &[Folded]) -> Vec<u8> {
     for record in records.chunks_exact(RECORD_BYTES) {
         let level = record[0] as usize;
         if level > hidden {
+            continue;
+        }
+        let (first, last) = window(record);
+        if day < first || last < day {
+            hidden = level;
             continue;
         }
         hidden = LEVEL_MAXIMUM + 1;
@@ -332,7 +361,7 @@ fn answer(state: &[u8], table: &[u8], line: &[u8]) -> Result<Vec<u8>, u8> {
     }
     let user = store.user.ok_or(NO_USER)?;
     let roles = store.policy.roles(user);
-    Ok(view(store.records, &store.policy.rules(roles), &store.policy.names(roles)))
+    Ok(view(store.records, &store.policy.rules(roles), &store.policy.names(roles), store.day))
 }
 
 /// `(view)` on lent bytes: the answer's length, or minus the refusal's number. Every other line is refused with 2.

@@ -128,9 +128,9 @@ mod tests {
 
     #[test]
     fn own_in_a_rule_passes_all_that_the_asked_subject_is() {
-        let under = |text: &str| Tree { label: label(text), origin: None, children: vec![Tree { label: label("x"), origin: None, children: Vec::new() }] };
+        let under = |text: &str| Tree::new(label(text), vec![Tree::new(label("x"), Vec::new())]);
         let names = ["10B", "10C", "sha", "Staff", "MEI"];
-        let root = Tree { label: label("school"), origin: None, children: names.map(under).to_vec() };
+        let root = Tree::new(label("school"), names.map(under).to_vec());
         let nodes = flatten(&root).0;
         let policy = school();
         let read_under = |subject: usize| {

@@ -3,10 +3,11 @@
 use crate::form::Form;
 use crate::label::{listed, Equality, Label, RESTRICTED};
 use crate::path::{select, select_by, Step, Test};
-use crate::policy::Policy;
+use crate::policy::{Policy, READ};
 use crate::state::Checks;
 use crate::table::{Node, Tree};
-use crate::view::View;
+use crate::view::{view, view_by, View};
+use crate::window::{Window, WHOLE_YEAR};
 
 /// How document 01 and the cards are read. All but the first are false, and stand here for the tests of the testers alone.
 #[derive(Clone, Copy, PartialEq, Eq, Debug)]
@@ -63,6 +64,24 @@ pub enum Reading {
     NoBlankCells,
     NoRowsForHiddenRoot,
     NoRestrictedRoom,
+    InWindowBelow,
+    LastDayExcluded,
+    WindowsTakeRead,
+    DayInViewAlone,
+    WindowsBelow,
+    WindowWithoutRead,
+    WindowWithoutUpdate,
+    WordsNotRedated,
+    RootRedated,
+    RenameResetsWindow,
+    InsertedTakesWindow,
+    DaysWhereSelected,
+    DayLogsIn,
+    DayNeedsUser,
+    LoginResetsDay,
+    ZerosIn13,
+    AnyRootIn13,
+    AnyDayIn13,
     AnyClosingTag,
     ClosingTagInAnyCase,
     TextDropped,
@@ -75,7 +94,7 @@ pub enum Reading {
 }
 
 /// Those that make demand 3 false
-pub const FALSE_READINGS: [(&str, Reading); 20] = [
+pub const FALSE_READINGS: [(&str, Reading); 25] = [
     ("rename-into-word", Reading::RenameIntoWord),
     ("rename-of-word", Reading::RenameOfWord),
     ("no-own-names", Reading::NoOwnNames),
@@ -96,10 +115,15 @@ pub const FALSE_READINGS: [(&str, Reading); 20] = [
     ("stored-lessons", Reading::StoredLessons),
     ("true-labels", Reading::TrueLabels),
     ("true-rooms", Reading::TrueRooms),
+    ("in-window-below", Reading::InWindowBelow),
+    ("last-day-excluded", Reading::LastDayExcluded),
+    ("windows-take-read", Reading::WindowsTakeRead),
+    ("day-in-view-alone", Reading::DayInViewAlone),
+    ("windows-below", Reading::WindowsBelow),
 ];
 
 /// Those that give two trees that look alike the same answers, though not the right ones
-pub const OTHER_ANSWERS: [(&str, Reading); 31] = [
+pub const OTHER_ANSWERS: [(&str, Reading); 44] = [
     ("last-hit", Reading::LastHit),
     ("none-for-one-hit", Reading::NoneForOneHit),
     ("room-for-all-hits", Reading::RoomForAllHits),
@@ -131,6 +155,19 @@ pub const OTHER_ANSWERS: [(&str, Reading); 31] = [
     ("no-blank-cells", Reading::NoBlankCells),
     ("no-rows-for-hidden-root", Reading::NoRowsForHiddenRoot),
     ("no-restricted-room", Reading::NoRestrictedRoom),
+    ("window-without-read", Reading::WindowWithoutRead),
+    ("window-without-update", Reading::WindowWithoutUpdate),
+    ("words-not-redated", Reading::WordsNotRedated),
+    ("root-redated", Reading::RootRedated),
+    ("rename-resets-window", Reading::RenameResetsWindow),
+    ("inserted-takes-window", Reading::InsertedTakesWindow),
+    ("days-where-selected", Reading::DaysWhereSelected),
+    ("day-logs-in", Reading::DayLogsIn),
+    ("day-needs-user", Reading::DayNeedsUser),
+    ("login-resets-day", Reading::LoginResetsDay),
+    ("zeros-in-13", Reading::ZerosIn13),
+    ("any-root-in-13", Reading::AnyRootIn13),
+    ("any-day-in-13", Reading::AnyDayIn13),
 ];
 
 /// Those of the solver's file
@@ -154,7 +191,13 @@ impl Reading {
         if self == Reading::Right {
             return policy.rights(nodes, user);
         }
-        policy.rights_by(nodes, user, |rule| self.selected_by_any(nodes, &rule.path, &self.names(policy, user, Some(rule.subject))))
+        let mut rights = policy.rights_by(nodes, user, |rule| self.selected_by_any(nodes, &rule.path, &self.names(policy, user, Some(rule.subject))));
+        if self == Reading::WindowsTakeRead {
+            for (rights, _) in rights.iter_mut().zip(nodes).filter(|(_, node)| node.window != WHOLE_YEAR) {
+                *rights &= !READ;
+            }
+        }
+        rights
     }
 
     /// The nodes that a path of a command selects for a user, with `$` as it is read.
@@ -234,7 +277,7 @@ fn small(label: &Label) -> Label {
 }
 
 fn small_tree(tree: &Tree) -> Tree {
-    Tree { label: small(&tree.label), origin: tree.origin, children: tree.children.iter().map(small_tree).collect() }
+    Tree { label: small(&tree.label), children: tree.children.iter().map(small_tree).collect(), ..*tree }
 }
 
 impl Reading {
@@ -257,7 +300,13 @@ impl Reading {
     }
 
     pub fn checks(self) -> Checks {
-        Checks { ban: self.equality(Compared::BanIn13), names: self.equality(Compared::NamesIn13) }
+        Checks {
+            ban: self.equality(Compared::BanIn13),
+            names: self.equality(Compared::NamesIn13),
+            window: if self == Reading::ZerosIn13 { window_or_zeros } else { window_of },
+            any_root: self == Reading::AnyRootIn13,
+            any_day: self == Reading::AnyDayIn13,
+        }
     }
 
     /// The view with the labels that are shown.
@@ -291,6 +340,59 @@ impl Reading {
             Form::Update(path, label) => Form::Update(path, small(&label)),
             Form::Insert(place, path, tree) => Form::Insert(place, path, small_tree(&tree)),
             form => form,
+        }
+    }
+}
+
+// --- Windows by date (document 02, card 7) ---
+
+fn window_of((first, last): (u16, u16)) -> Option<Window> {
+    Window::new(first, last)
+}
+
+/// Zeros, as tables had them before windows, for the whole year.
+fn window_or_zeros(days: (u16, u16)) -> Option<Window> {
+    if days == (0, 0) {
+        Some(WHOLE_YEAR)
+    } else {
+        window_of(days)
+    }
+}
+
+/// The view of all days without the nodes outside their window on one: what is below such a node stays.
+fn without_outside(view: &View, day: u16) -> View {
+    let mut kept = View { nodes: Vec::new(), stored: Vec::new() };
+    let mut place: Vec<Option<usize>> = Vec::new(); // of each node, or of the nearest kept one above it
+    for (node, stored) in view.nodes.iter().zip(&view.stored) {
+        let parent = node.parent.and_then(|parent| place[parent]);
+        if node.window.holds(day) {
+            place.push(Some(kept.nodes.len()));
+            kept.nodes.push(Node { parent, ..*node });
+            kept.stored.push(*stored);
+        } else {
+            place.push(parent);
+        }
+    }
+    kept
+}
+
+impl Reading {
+    /// What these rights show on a day.
+    pub fn view(self, nodes: &[Node], rights: &[u8], day: u16) -> View {
+        match self {
+            Reading::InWindowBelow => without_outside(&view_by(nodes, rights, |_| true), day),
+            Reading::LastDayExcluded => view_by(nodes, rights, |window| window.holds(day) && day < window.last),
+            Reading::DayInViewAlone => view_by(nodes, rights, |_| true),
+            _ => view(nodes, rights, day),
+        }
+    }
+
+    /// The reading of `(view)` alone.
+    pub fn of_view(self) -> Reading {
+        if self == Reading::DayInViewAlone {
+            Reading::Right
+        } else {
+            self
         }
     }
 }

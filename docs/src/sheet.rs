@@ -113,6 +113,7 @@ mod tests {
     use crate::testing::generate;
     use crate::testing::random::Random;
     use crate::view::view;
+    use crate::window::FIRST_DAY;
 
     /// The cell of the one node that a path selects in a view.
     fn cell_of(view: &View, path: &str) -> String {
@@ -131,7 +132,7 @@ mod tests {
         for _ in 0..3_000 {
             let (policy, reader) = generate::policy(&mut random);
             let nodes = flatten(&generate::week(&mut random, DAYS + 2, PERIODS + 2)).0;
-            let view = view(&nodes, &policy.rights(&nodes, reader));
+            let view = view(&nodes, &policy.rights(&nodes, reader), FIRST_DAY);
             let room = generate::room(&mut random, &view.nodes);
             let cells = |path: &dyn Fn(usize) -> String| -> String { (1..=DAYS).map(|day| cell_of(&view, &path(day))).collect() };
             let mut wanted = format!("  {}\n", cells(&|day| format!("/*/*[{day}]")));
@@ -149,7 +150,7 @@ mod tests {
 
     #[test]
     fn the_first_room_alone_decides_and_a_sixth_day_is_left_out() {
-        let leaf = |label: &str| Tree { label: generate::label(label), origin: None, children: Vec::new() };
+        let leaf = |label: &str| Tree::new(generate::label(label), Vec::new());
         let tree = |label: &str, children: Vec<Tree>| Tree { children, ..leaf(label) };
         let period = tree("p", vec![leaf("x"), tree("x", vec![leaf("late")])]);
         let mut days: Vec<Tree> = ["mon", "tue", "wed", "thu", "a-label-of-24-bytes-----", "sat"].map(leaf).to_vec();

@@ -3,6 +3,7 @@
 use crate::label::{all_zero, read_record, write_record, Equality, Label, RECORD_BYTES, RESTRICTED};
 use crate::path::{Step, Test, STEPS_MAXIMUM};
 use crate::policy::{Policy, Rule, DELETE, INSERT, ISA_MAXIMUM, POSITION, READ, RULES_MAXIMUM, SUBJECTS_MAXIMUM, UPDATE};
+use crate::window::{is_day, Window, FIRST_DAY};
 
 pub const SESSION_BYTES: usize = 8;
 pub const SUBJECTS_AT: usize = 8;
@@ -28,16 +29,20 @@ const STAGES: [Stage; 5] = [Stage::A, Stage::B, Stage::C, Stage::D, Stage::E];
 pub struct State {
     pub stage: Stage,
     pub user: Option<usize>,
+    pub day: u16,
     pub policy: Policy,
 }
 
 // --- Reading ---
 
-/// How 13 compares labels: with RESTRICTED, and names with one another.
+/// How 13 compares labels, with RESTRICTED and names with one another, and which windows and days it lets pass.
 #[derive(Clone, Copy)]
 pub struct Checks {
     pub ban: Equality,
     pub names: Equality,
+    pub window: fn((u16, u16)) -> Option<Window>,
+    pub any_root: bool, // whether a root may have any window
+    pub any_day: bool,  // whether a session may have any day
 }
 
 fn decode_step(record: &[u8], ban: Equality) -> Option<Step> {
@@ -105,21 +110,22 @@ fn decode_policy(bytes: &[u8], checks: Checks) -> Option<Policy> {
 
 /// The state that lent bytes hold, if they hold one.
 pub fn decode(bytes: &[u8], checks: Checks) -> Option<State> {
-    if bytes.len() != STATE_BYTES || !all_zero(&bytes[2..SESSION_BYTES]) {
+    if bytes.len() != STATE_BYTES || !all_zero(&bytes[4..SESSION_BYTES]) {
         return None;
     }
     let stage = *STAGES.get(bytes[0] as usize)?;
     let user = (bytes[1] as usize).checked_sub(1);
+    let day = u16::from_le_bytes([bytes[2], bytes[3]]).checked_add(FIRST_DAY).filter(|day| is_day(*day) || checks.any_day)?;
     let policy = decode_policy(&bytes[SESSION_BYTES..], checks)?;
     let user_known = match user {
         None => true,
         Some(subject) => subject < policy.subjects.len(),
     };
     let rule_at_a = !policy.rules.is_empty() && stage < Stage::B;
-    if !user_known || rule_at_a || user.is_some() != (stage == Stage::E) {
+    if !user_known || rule_at_a || (user.is_some() && stage != Stage::E) {
         return None;
     }
-    Some(State { stage, user, policy })
+    Some(State { stage, user, day, policy })
 }
 
 // --- Writing ---
@@ -144,6 +150,7 @@ pub fn encode(state: &State, bytes: &mut [u8]) {
     bytes.fill(0);
     bytes[0] = state.stage as u8;
     bytes[1] = state.user.map_or(0, |subject| subject as u8 + 1);
+    bytes[2..4].copy_from_slice(&(state.day - FIRST_DAY).to_le_bytes());
     let policy = &state.policy;
     let bytes = &mut bytes[SESSION_BYTES..];
     bytes[0] = policy.subjects.len() as u8;

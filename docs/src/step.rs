@@ -1,4 +1,4 @@
-//! One line on a state and a table (document 01, Lines to Who can be turned down; document 02, cards 1, 3, 5 and 6), and one document of the solver (card 2).
+//! One line on a state and a table (document 01, Lines to Who can be turned down; document 02, cards 1, 3, 5, 6 and 7), and one document of the solver (card 2).
 
 use crate::form::{read_form, Form, Place, LINE_MAXIMUM};
 use crate::label::{listed, Label, RESTRICTED};
@@ -8,7 +8,8 @@ use crate::reading::{Compared, Reading};
 use crate::sheet::Sheet;
 use crate::state::{self, Stage, State};
 use crate::table::{self, flatten, nest, nest_inserted, Node, Table, Tree, LEVEL_MAXIMUM};
-use crate::view::{view, View};
+use crate::view::View;
+use crate::window::{is_day, Window, FIRST_DAY, WHOLE_YEAR};
 use crate::xml::Document;
 
 pub const LINE_BYTES: u8 = 1;
@@ -25,6 +26,7 @@ pub const TABLE_FULL: u8 = 11;
 pub const AREA_SHORT: u8 = 12;
 pub const BAD_STORE: u8 = 13;
 pub const NO_DOCUMENT: u8 = 14;
+pub const BAD_DAY: u8 = 15;
 
 /// What 13 lets pass: a state, a table, and the two agreeing on the root.
 #[derive(Clone, Debug)]
@@ -39,7 +41,7 @@ pub fn read_store(state: &[u8], table: &[u8]) -> Option<Store> {
 
 fn read_store_by(state: &[u8], table: &[u8], reading: Reading) -> Option<Store> {
     let state = state::decode(state, reading.checks())?;
-    let table = table::decode(table, reading.checks().ban)?;
+    let table = table::decode(table, reading.checks())?;
     if (state.stage >= Stage::C) != table.nodes.is_empty() {
         Some(Store { state, table })
     } else {
@@ -132,7 +134,7 @@ fn refuse_nodes(nodes: &[Node], below: usize, free: usize, reading: Reading) -> 
 
 /// What a root line leaves.
 fn rooted(state: &State, label: Label) -> (State, Tree) {
-    (State { stage: Stage::C, ..state.clone() }, Tree { label, origin: None, children: Vec::new() })
+    (State { stage: Stage::C, ..state.clone() }, Tree::new(label, Vec::new()))
 }
 
 /// What a child line leaves.
@@ -159,7 +161,18 @@ fn child_line(store: &Store, tree: Tree, reading: Reading) -> Result<Accepted, u
 fn user_line(store: &Store, name: Label, reading: Reading) -> Result<Accepted, u8> {
     refuse_if(store.state.stage < Stage::C, WRONG_STAGE)?;
     let user = named(&store.state.policy, &name, reading)?;
-    let state = State { stage: Stage::E, user: Some(user), ..store.state.clone() };
+    let day = if reading == Reading::LoginResetsDay { FIRST_DAY } else { store.state.day };
+    let state = State { stage: Stage::E, user: Some(user), day, ..store.state.clone() };
+    Ok(ok(Some(state), None))
+}
+
+/// Sets the session's day, and leaves whoever is the user, or no user.
+fn day_line(store: &Store, day: u16, reading: Reading) -> Result<Accepted, u8> {
+    refuse_if(store.state.stage < Stage::C, WRONG_STAGE)?;
+    refuse_if(reading == Reading::DayNeedsUser && store.state.user.is_none(), NO_USER)?;
+    refuse_if(!is_day(day), BAD_DAY)?;
+    let logged_in = (reading == Reading::DayLogsIn && !store.state.policy.subjects.is_empty()).then_some(0);
+    let state = State { stage: Stage::E, user: store.state.user.or(logged_in), day, ..store.state.clone() };
     Ok(ok(Some(state), None))
 }
 
@@ -183,7 +196,7 @@ fn session<'a>(store: &'a Store, path: Option<&[u8]>, reading: Reading) -> Resul
     };
     let user = store.state.user.ok_or(NO_USER)?;
     let rights = reading.rights(&store.state.policy, &store.table.nodes, user);
-    let view = reading.shown(view(&store.table.nodes, &rights));
+    let view = reading.shown(reading.view(&store.table.nodes, &rights, store.state.day));
     Ok((Session { store, user, reading, rights, view }, path))
 }
 
@@ -308,7 +321,9 @@ impl Session<'_> {
             let stored = self.view.stored[*number];
             marks[stored] = self.may_relabel(stored, &label, &words);
         }
-        Ok(done(selected.len(), count(&marks), relabelled(nest(self.nodes()), &marks, label)))
+        let tree = relabelled(nest(self.nodes()), &marks, label);
+        let tree = if self.reading == Reading::RenameResetsWindow { redated(tree, &marks, WHOLE_YEAR) } else { tree };
+        Ok(done(selected.len(), count(&marks), tree))
     }
 
     /// Concerns each shown child of a selected node.
@@ -365,7 +380,11 @@ impl Session<'_> {
             }
         }
         refuse_if(count(&marks) * tree.size() > free, TABLE_FULL)?;
-        Ok(done(selected.len(), count(&marks), inserted(nest(self.nodes()), &marks, place, tree)))
+        let new = |beside: &Tree| match self.reading {
+            Reading::InsertedTakesWindow => Tree { window: beside.window, ..tree.clone() },
+            _ => tree.clone(),
+        };
+        Ok(done(selected.len(), count(&marks), inserted(nest(self.nodes()), &marks, place, &new)))
     }
 
     fn remove(&self, path: &[Step]) -> Accepted {
@@ -379,6 +398,38 @@ impl Session<'_> {
         let tree = removed(nest(self.nodes()), &marks);
         let counted = if self.reading == Reading::CountFreed { self.nodes().len() - tree.size() } else { count(&marks) };
         done(selected.len(), counted, tree)
+    }
+
+    /// A node of the stored tree may be given a window: read and update on it, and it is not the root. Its label may be a policy word.
+    fn may_redate(&self, stored: usize) -> bool {
+        let node = &self.nodes()[stored];
+        let needed = match self.reading {
+            Reading::WindowWithoutRead => UPDATE,
+            Reading::WindowWithoutUpdate => READ,
+            _ => READ | UPDATE,
+        };
+        let root = node.parent.is_none() && self.reading != Reading::RootRedated;
+        let word = self.reading == Reading::WordsNotRedated && self.is_word(&node.label, &self.words());
+        self.rights[stored] & needed == needed && !root && !word
+    }
+
+    fn window(&self, path: &[Step], first: u16, last: u16) -> Result<Accepted, u8> {
+        let selected = self.selected(path);
+        let window = Window::new(first, last);
+        let spared = self.reading == Reading::DaysWhereSelected && selected.is_empty();
+        refuse_if(window.is_none() && !spared, BAD_DAY)?;
+        let mut marks = vec![false; self.nodes().len()];
+        for number in &selected {
+            let stored = self.view.stored[*number];
+            marks[stored] = self.may_redate(stored);
+        }
+        let counted = count(&marks);
+        if self.reading == Reading::WindowsBelow {
+            for number in 1..marks.len() {
+                marks[number] |= self.nodes()[number].parent.is_some_and(|parent| marks[parent]);
+            }
+        }
+        Ok(done(selected.len(), counted, redated(nest(self.nodes()), &marks, window.unwrap_or(WHOLE_YEAR))))
     }
 
     fn hides_below(&self, stored: usize) -> bool {
@@ -429,28 +480,38 @@ fn removed(mut tree: Tree, marks: &[bool]) -> Tree {
     tree
 }
 
-fn inserted(mut tree: Tree, marks: &[bool], place: Place, new: &Tree) -> Tree {
+fn redated(mut tree: Tree, marks: &[bool], window: Window) -> Tree {
+    if marked(&tree, marks) {
+        tree.window = window;
+    }
+    tree.children = tree.children.into_iter().map(|child| redated(child, marks, window)).collect();
+    tree
+}
+
+/// What `new` gives for a marked node is put beside it, or below it.
+fn inserted(mut tree: Tree, marks: &[bool], place: Place, new: &dyn Fn(&Tree) -> Tree) -> Tree {
     let mut children = Vec::new();
-    for child in tree.children {
-        let here = marked(&child, marks);
-        if here && place == Place::Before {
-            children.push(new.clone());
+    for child in std::mem::take(&mut tree.children) {
+        let beside = if marked(&child, marks) { Some(new(&child)) } else { None };
+        if place == Place::Before {
+            children.extend(beside.clone());
         }
         children.push(inserted(child, marks, place, new));
-        if here && place == Place::After {
-            children.push(new.clone());
+        if place == Place::After {
+            children.extend(beside);
         }
     }
     tree.children = children;
     if marked(&tree, marks) && place == Place::Append {
-        tree.children.push(new.clone());
+        let below = new(&tree);
+        tree.children.push(below);
     }
     tree
 }
 
 // --- The line ---
 
-/// What a line does to a store that 13 lets pass: the smallest refusal from 1 to 12 that applies, or what is accepted.
+/// What a line does to a store that 13 lets pass: the first refusal of 1 to 10, 15, 11 and 12 that applies, or what is accepted.
 pub fn step(store: &Store, line: &[u8], area_length: usize, reading: Reading) -> Result<Accepted, u8> {
     refuse_if(line.len() > LINE_MAXIMUM || line.iter().any(|byte| !(32..=126).contains(byte)), LINE_BYTES)?;
     let line = reading.line(line);
@@ -461,7 +522,7 @@ pub fn step(store: &Store, line: &[u8], area_length: usize, reading: Reading) ->
         Form::Root(label) => root_line(store, label, reading)?,
         Form::Child(tree) => child_line(store, tree, reading)?,
         Form::User(name) => user_line(store, name, reading)?,
-        Form::View => answered(session(store, None, reading)?.0.view_answer()),
+        Form::View => answered(session(store, None, reading.of_view())?.0.view_answer()),
         Form::Query(text) => {
             let (session, path) = session(store, Some(text), reading)?;
             answered(session.query_answer(&path))
@@ -488,6 +549,11 @@ pub fn step(store: &Store, line: &[u8], area_length: usize, reading: Reading) ->
             session.remove(&path)
         }
         Form::Sheet(room) => answered(session(store, None, reading)?.0.sheet_answer(room)?),
+        Form::Day(day) => day_line(store, day, reading)?,
+        Form::Window(text, first, last) => {
+            let (session, path) = session(store, Some(text), reading)?;
+            session.window(&path, first, last)?
+        }
     };
     refuse_if(accepted.answer.len() > area_length, AREA_SHORT)?;
     Ok(accepted)
@@ -568,7 +634,7 @@ mod tests {
     use crate::testing::random::Random;
 
     fn empty_store(stage: Stage, policy: Policy, capacity: usize) -> Store {
-        Store { state: State { stage, user: None, policy }, table: Table { capacity, nodes: Vec::new() } }
+        Store { state: State { stage, user: None, day: FIRST_DAY, policy }, table: Table { capacity, nodes: Vec::new() } }
     }
 
     /// The store that a root line and child lines of any length leave.

@@ -107,7 +107,7 @@ impl<'a> Document<'a> {
 
     /// A node as last child of the innermost open element, or as root; its number.
     fn add(&mut self, label: Label) -> usize {
-        self.nodes.push(Node { level: self.open.len(), label, parent: self.open.last().copied() });
+        self.nodes.push(Node::new(self.open.len(), label, self.open.last().copied()));
         self.nodes.len() - 1
     }
 }

@@ -4,4 +4,4 @@ Every answer and every byte of state and table comes from the library. The modul
 other programs can import by itself.
 """
 
-__version__ = "0.5.0"
+__version__ = "0.6.0"

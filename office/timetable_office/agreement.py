@@ -12,7 +12,7 @@ from typing import Collection, NamedTuple, Sequence
 
 from timetable_office.errors import DisagreementError
 from timetable_office.library import COUNT_BYTES, RECORD_BYTES, RECORDS_MAXIMUM, Session
-from timetable_office.tree import Node, read_view
+from timetable_office.tree import Node, make_record, read_view
 from timetable_office.views import log_in, view_of
 
 LEVELS = 12
@@ -31,11 +31,11 @@ class Agreement:
     """Holds what is expected against what the library does, for the readers of one store."""
 
     def __init__(self, session: Session, nodes: Sequence[Node], used: Collection[str]) -> None:
-        """The nodes are those of the session's table; their labels and the policy's words are in use, folded."""
+        """The nodes are those of the session's table, each shown on all days; labels and words in use are folded."""
         self._session = session
         self._nodes = nodes
         self._mark = next(label for label in (f"new-{number}" for number in count()) if label not in used)
-        self._marks = [_record(level, self._mark) for level in range(LEVELS + 1)]
+        self._marks = [make_record(level, self._mark) for level in range(LEVELS + 1)]
         self._state = session.state
         self._table = session.table[: COUNT_BYTES + RECORD_BYTES * len(nodes)]
         places = range(COUNT_BYTES, len(self._table), RECORD_BYTES)
@@ -69,10 +69,6 @@ def _disagreement(form: str, reader: str) -> DisagreementError:
         "is told: the library is the one that counts. This is an error in timetable-office, or the library is of "
         "another version"
     )
-
-
-def _record(level: int, label: str) -> bytes:
-    return bytes([level, len(label)]) + label.encode("ascii").ljust(RECORD_BYTES - 2, b"\0")
 
 
 def _without(nodes: Sequence[Node], records: Sequence[bytes], removed: Sequence[bool]) -> list[bytes]:

@@ -19,7 +19,7 @@ from timetable_office.errors import DONE, INTERRUPTED, NOT_TAKEN, InputError, Li
 from timetable_office.export import export_document, export_lines, policy_lines
 from timetable_office.formats import LOG_FORMATS, VIEW_FORMATS
 from timetable_office.layout import load_library
-from timetable_office.library import LIBRARY_VARIABLE, RECORDS_MAXIMUM
+from timetable_office.library import LIBRARY_VARIABLE, RECORDS_MAXIMUM, Session
 from timetable_office.lines import STANDARD_INPUT, Lines, read_lines, read_source
 from timetable_office.publish import Published, publish_views
 from timetable_office.replace import replace_policy
@@ -27,8 +27,8 @@ from timetable_office.runs import Answered, RefusedLine, run_lines
 from timetable_office.sheets import Sheets, write_sheets
 from timetable_office.state import read_policy
 from timetable_office.store import WAIT_SECONDS, Contents, Store, create_store
-from timetable_office.tree import read_table, read_view
-from timetable_office.views import NO_TREE, declared_name, view_of
+from timetable_office.tree import FIRST_DAY, LAST_DAY, WHOLE_YEAR, read_table, read_view, read_windows
+from timetable_office.views import NO_TREE, declared_name, on_day, view_of
 from timetable_office.why import explain_nodes, why_json, why_text
 
 PROGRAM = "timetable-office"
@@ -211,9 +211,10 @@ def show(options: argparse.Namespace) -> int:
     """Shows what one subject sees. The store stays as it is."""
     library = load_library(options.library)
     with Store(options.store, options.wait) as store:
-        session = store.session(library)
+        session = on_day(store.session(library), options.day)
         name = declared_name(session, options.name)
         answer = view_of(session, name)
+    tell_day(options.store, session, options.day)
     put(VIEW_FORMATS[options.format](name, answer))
     if not read_view(answer):
         say(f"{name} is shown nothing")
@@ -229,8 +230,10 @@ def publish(options: argparse.Namespace) -> int:
             options.names,
             options.out,
             options.wait,
+            options.day,
             lambda total: show_progress(total, "view", 1),
         )
+        tell_day(options.store, store.session(library), options.day)
     for reader in done.readers:
         if reader.nodes == 0:
             say(f"{options.out}: note: {reader.name} is shown nothing")
@@ -248,6 +251,7 @@ def published_json(done: Published) -> str:
         "folder": done.folder,
         "publication": done.publication.mark,
         "time": done.publication.time.isoformat(timespec="seconds"),
+        "day": done.publication.day or FIRST_DAY,
         "store": done.digest,
         "readers": readers,
         "dropped": done.dropped,
@@ -259,7 +263,10 @@ def sheets(options: argparse.Namespace) -> int:
     """Writes the sheets of room doors as one reader sees them, all of them or none. The store stays as it is."""
     library = load_library(options.library)
     with Store(options.store, options.wait) as store:
-        done = write_sheets(lambda: store.session(library), options.name, options.rooms, options.out, options.wait)
+        done = write_sheets(
+            lambda: store.session(library), options.name, options.rooms, options.out, options.wait, options.day
+        )
+        tell_day(options.store, store.session(library), options.day)
     for sheet in done.sheets:
         if sheet.blank:
             say(f"{options.out}: note: the sheet of {sheet.room} is blank")
@@ -273,8 +280,20 @@ def sheets(options: argparse.Namespace) -> int:
 def sheets_json(done: Sheets) -> str:
     """The sheets that were written as JSON."""
     sheets = [sheet._asdict() for sheet in done.sheets]
-    made = {"folder": done.folder, "reader": done.reader, "sheets": sheets, "dropped": done.dropped}
+    made = {
+        "folder": done.folder,
+        "reader": done.reader,
+        "day": done.day or FIRST_DAY,
+        "sheets": sheets,
+        "dropped": done.dropped,
+    }
     return json.dumps(made, indent=2) + "\n"
+
+
+def tell_day(path: str, session: Session, day: int | None) -> None:
+    """Tells that a day was not asked for, where one day shows another tree than the next."""
+    if day is None and any(window != WHOLE_YEAR for window in read_windows(session.table)):
+        say(f"{path}: note: some nodes are shown on some days alone; this is day {FIRST_DAY}, and --day D is another")
 
 
 def tell_dropped(out: str, dropped: Sequence[str]) -> None:
@@ -375,6 +394,13 @@ def record_count(text: str) -> int:
     return int(digits)
 
 
+def day_number(text: str) -> int:
+    """A day of the year, for argparse."""
+    if not text.isdecimal() or not FIRST_DAY <= int(text) <= LAST_DAY:
+        raise argparse.ArgumentTypeError(f"days run from {FIRST_DAY} to {LAST_DAY}")
+    return int(text)
+
+
 def make_parser() -> argparse.ArgumentParser:
     """The command line."""
     common = argparse.ArgumentParser(add_help=False)
@@ -436,7 +462,7 @@ def make_parser() -> argparse.ArgumentParser:
         run,
         "give lines to a store",
         "Gives the lines of a file to a store and prints their answers. The first refused line ends it, and the store\n"
-        "stays as it was. A login lasts to the end of the run: the next one begins with nobody logged in.",
+        "stays as it was. A login and a day last to the end of the run: the next one begins with nobody logged in.",
     )
     add_file(made)
     made.add_argument("--keep-going", action="store_true", help="pass over refused lines, as timetable does")
@@ -461,6 +487,7 @@ def make_parser() -> argparse.ArgumentParser:
         "Shows what this one subject sees. The store stays as it is.",
     )
     made.add_argument("--as", dest="name", metavar="NAME", required=True, help="the subject whose view it is")
+    add_day(made)
     add_format(made, VIEW_FORMATS)
 
     made = command(
@@ -480,6 +507,7 @@ def make_parser() -> argparse.ArgumentParser:
         default=[],
         help="a subject whose view it is; give it once for each (all of them)",
     )
+    add_day(made)
     made.add_argument("--json", action="store_true", help="print what was published as JSON")
 
     made = command(
@@ -501,6 +529,7 @@ def make_parser() -> argparse.ArgumentParser:
         default=[],
         help="a room; give it once for each (all rooms that the subject is shown below a period)",
     )
+    add_day(made)
     made.add_argument("--json", action="store_true", help="print what was written as JSON")
 
     made = command(
@@ -567,6 +596,12 @@ def add_file(parser: argparse.ArgumentParser) -> None:
     """The list of lines that a command reads."""
     words = "a list of lines; - is standard input"
     parser.add_argument("file", metavar="FILE", nargs="?", default=STANDARD_INPUT, help=words)
+
+
+def add_day(parser: argparse.ArgumentParser) -> None:
+    """The option `--day`."""
+    words = f"the day of the year on which it is shown, {FIRST_DAY} to {LAST_DAY} ({FIRST_DAY})"
+    parser.add_argument("--day", metavar="D", type=day_number, help=words)
 
 
 def add_format(parser: argparse.ArgumentParser, formats: dict[str, Any]) -> None:

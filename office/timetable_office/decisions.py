@@ -4,6 +4,7 @@ Document 01: a rule applies to a subject that is its N, by isa lines or by itsel
 selects in the stored tree; the last applicable rule for a right wins, and with none there is no right. A node is shown
 if read or position is granted on it and its parent is shown. Document 02, card 5: `$` passes the name of all that the
 reader is, by isa lines or by itself. Card 6: labels are equal whatever the case of A to Z, so they are compared folded.
+Card 7: a node outside its window is not shown on that day, and windows alter no right; here all days are looked at.
 
 The library tells what a reader sees, and never why. Here the rules are matched a second time, and what follows for the
 view and for changes is held against what the library does for the same reader (`agreement`). Where they differ there is
@@ -20,6 +21,7 @@ from timetable_office.agreement import LEVELS, Agreement, Expected
 from timetable_office.library import Session
 from timetable_office.state import Policy, Rule, read_policy
 from timetable_office.tree import RESTRICTED, Node, folded, read_table
+from timetable_office.views import on_all_days
 
 RIGHTS = ("position", "read", "insert", "update", "delete")
 _STEP = re.compile(r"(//?)([^/]+)")
@@ -156,6 +158,8 @@ class Decider:
     """Decides for the readers of one store."""
 
     def __init__(self, session: Session) -> None:
+        # windows alter no right: what the rules say is told of all days
+        session = on_all_days(session)
         self.session = session
         self.policy = read_policy(session.state)
         self.nodes = read_table(session.table)

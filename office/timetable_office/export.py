@@ -3,10 +3,12 @@
 A `child` line gives a whole tree below the root, so by child lines alone a tree below the root has to fit 1,024 bytes.
 A larger one is given with its first nodes, in document order, and the others are added by `append` lines. Those need a
 login: a subject of this very policy who sees all that stands before and has insert where nodes are added. Without one
-nothing is exported, and the part that is too large is told.
+nothing is exported, and the part that is too large is told. So it is with windows, which `window` lines give to nodes
+on which a subject has read and update.
 
 A document has no such limit: `load` takes it where the policy has been given by its lines. A tree has one if its root
-and every node with nodes below it can be the name of an element, and no two neighbours both have to be texts.
+and every node with nodes below it can be the name of an element, no two neighbours both have to be texts, and all nodes
+are shown on all days.
 
 Lines and document are given to an empty store before they are shown, and have to leave the same policy and table.
 """
@@ -14,7 +16,7 @@ Lines and document are given to an empty store before they are shown, and have t
 from __future__ import annotations
 
 from bisect import bisect_right
-from typing import Iterator, Sequence
+from typing import Callable, Iterator, Sequence
 from xml.etree import ElementTree
 
 from timetable_office.errors import InputError
@@ -22,7 +24,7 @@ from timetable_office.library import LINE_MAXIMUM, Refused, Session
 from timetable_office.lines import Lines, split_lines
 from timetable_office.runs import run_lines
 from timetable_office.state import Stage, policy_part, read_policy, stage_of
-from timetable_office.tree import Node, read_table, subtree_end, tree_text
+from timetable_office.tree import WHOLE_YEAR, Node, Window, read_table, read_windows, subtree_end, tree_text
 from timetable_office.views import NO_TREE
 
 _ONE_DONE = b"(done 1 1)\n"
@@ -48,8 +50,10 @@ def export_lines(session: Session) -> list[bytes]:
         lines.append(b"(root " + nodes[0].label.encode("ascii") + b")")
         child_lines, left = _child_lines(nodes)
         lines += child_lines
-        if left:
-            lines += _append_lines(session, lines, nodes, left)
+        givers = _Givers(session, lines)
+        _append(givers, nodes, left)
+        _give_windows(givers, nodes, read_windows(session.table))
+        lines += givers.lines
     _check(session, lines)
     return lines
 
@@ -59,6 +63,11 @@ def export_document(session: Session) -> bytes:
     nodes = read_table(session.table)
     if not nodes:
         raise InputError(NO_TREE)
+    if any(window != WHOLE_YEAR for window in read_windows(session.table)):
+        raise InputError(
+            "the tree has no document: some nodes are shown on some days alone, which a document does not tell. "
+            "`export` without --xml gives their windows by lines"
+        )
     root = _element(nodes)
     ElementTree.indent(root)
     document = ElementTree.tostring(root, short_empty_elements=False) + b"\n"
@@ -154,34 +163,61 @@ def _appends(nodes: Sequence[Node], paths: Sequence[bytes], places: range) -> It
         start = end
 
 
-def _append_lines(
-    session: Session, before: Sequence[bytes], nodes: Sequence[Node], left: Sequence[range]
-) -> list[bytes]:
-    """Logins and append lines that complete the tree, each part by the first subject who may give it."""
-    made = session.library.session(records=session.records)
-    run_lines(made, _listed(before))
-    paths = _positions(nodes)
-    names = list(read_policy(session.state).subjects)
-    lines: list[bytes] = []
-    for places in left:
-        appends = list(_appends(nodes, paths, places))
-        for name in names:
+class _Givers:
+    """Lines that complete a tree, each part given by the first subject of the policy who may."""
+
+    def __init__(self, session: Session, before: Sequence[bytes]) -> None:
+        """The lines before are those of the policy, the root and its children."""
+        self._made = session.library.session(records=session.records)
+        run_lines(self._made, _listed(before))
+        # whoever is logged in is tried first for the next part, and need not log in again
+        self._names = list(read_policy(session.state).subjects)
+        self.lines: list[bytes] = []
+
+    def give(self, lines: Sequence[bytes], right: Callable[[bytes], bool]) -> bool:
+        """Whether some subject may give these lines, each of which does one thing, and leaves a right table by them."""
+        for name in self._names:
             login = f"(user {name})".encode("ascii")
-            tried = made.copy()
-            if _adds(tried, [login, *appends]) and read_table(tried.table)[: places.stop] == nodes[: places.stop]:
+            tried = self._made.copy()
+            if _adds(tried, [login, *lines]) and right(tried.table):
                 break
         else:
+            return False
+        self._made = tried
+        self.lines += lines if self.lines and self._names[0] == name else [login, *lines]
+        self._names.remove(name)
+        self._names.insert(0, name)
+        return True
+
+
+def _append(givers: _Givers, nodes: Sequence[Node], left: Sequence[range]) -> None:
+    """Adds the nodes that had no room in child lines."""
+    paths = _positions(nodes)
+    for places in left:
+        whole = nodes[: places.stop]
+        appends = list(_appends(nodes, paths, places))
+        if not givers.give(appends, lambda table, whole=whole: read_table(table)[: len(whole)] == whole):
             raise InputError(_too_large(nodes, places))
-        made = tried
-        # whoever is logged in is tried first for the next part, and need not log in again
-        lines += appends if lines and names[0] == name else [login, *appends]
-        names.remove(name)
-        names.insert(0, name)
-    return lines
+
+
+def _give_windows(givers: _Givers, nodes: Sequence[Node], windows: Sequence[Window]) -> None:
+    """Gives nodes their windows, last ones first: so none is hidden, or counted in another place, before its turn."""
+    paths = _positions(nodes)
+    for place in reversed(range(len(nodes))):
+        window = windows[place]
+        if window == WHOLE_YEAR:
+            continue
+        line = b"(window %s %d %d)" % (paths[place], *window)
+        if not givers.give([line], lambda table, place=place: read_windows(table)[place:] == list(windows[place:])):
+            raise InputError(
+                f"the tree is not exported: {nodes[place].label}, node {place + 1}, is shown on days {window[0]} to "
+                f"{window[1]} alone, and no subject of this policy sees all that stands before it and has read and "
+                "update on it, so no line gives it this window. A copy of the store's file keeps it."
+            )
 
 
 def _adds(session: Session, lines: Sequence[bytes]) -> bool:
-    """Whether the first line logs in, and each of the others adds one tree."""
+    """Whether the first line logs in, and each of the others adds one tree or gives one window."""
     try:
         session.line(lines[0])
         return all(session.line(line) == _ONE_DONE for line in lines[1:])

@@ -7,8 +7,8 @@ import os
 
 from timetable_office.errors import LibraryError
 from timetable_office.library import SHEET_BYTES, Library, Refused
-from timetable_office.state import STATE_BYTES, Stage, read_policy, stage_of, user_of
-from timetable_office.tree import Node, read_table, read_view
+from timetable_office.state import STATE_BYTES, Stage, day_of, read_policy, stage_of, user_of
+from timetable_office.tree import WHOLE_YEAR, Node, read_table, read_view, read_windows
 
 _POLICY = [
     b"(subject a)",
@@ -18,10 +18,14 @@ _POLICY = [
     b"(rule deny read /r/*/* b)",
     b"(rule accept read //C/$ a)",
     b"(rule accept position //d/* a)",
+    b"(rule accept update //a a)",
 ]
 # b is shown the node `a` by `$`, since b is a, and below `c` in either case
 _TREE = [b"(root r)", b"(child (c (a (b))))", b"(user B)"]
 _NODES = [Node(0, "r"), Node(1, "c"), Node(2, "a"), Node(3, "b")]
+# with them the last two nodes are hidden, and shown again
+_WINDOW, _DAY = (5, 366), 5
+_HIDING, _SHOWING = b"(window //a %d %d)" % _WINDOW, b"(day %d)" % _DAY
 
 
 def load_library(path: str | os.PathLike[str] | None = None) -> Library:
@@ -36,19 +40,23 @@ def load_library(path: str | os.PathLike[str] | None = None) -> Library:
     try:
         for line in _POLICY + _TREE:
             session.line(line)
-        view = read_view(session.line(b"(view)"))
+        views = [read_view(session.line(b"(view)"))]
+        for line in (_HIDING, _SHOWING):
+            session.line(line)
+            views.append(read_view(session.line(b"(view)")))
         sheet = session.line(b"(sheet b)")
     except Refused as refused:
         raise LibraryError(f"{library.path} is of another version: it does not take the usual lines") from refused
     state = session.state
     as_known = (
         read_policy(state).lines() == _POLICY
-        and (stage_of(state), user_of(state)) == (Stage.WORK, "b")
+        and (stage_of(state), user_of(state), day_of(state)) == (Stage.WORK, "b", _DAY)
         and read_table(session.table) == _NODES
+        and read_windows(session.table) == [WHOLE_YEAR, WHOLE_YEAR, _WINDOW, WHOLE_YEAR]
         and len(sheet) == SHEET_BYTES
     )
     if not as_known:
         raise LibraryError(f"{library.path} is of another version: its bytes are not laid out as in docs/FORMAT.md")
-    if view != _NODES:
+    if views != [_NODES, _NODES[:2], _NODES]:
         raise LibraryError(f"{library.path} is of another version: its views are not those of this one")
     return library

@@ -12,7 +12,7 @@ from timetable_office import refusals
 from timetable_office.errors import OfficeError
 from timetable_office.library import COUNT_BYTES, LINE_MAXIMUM, Session
 from timetable_office.state import Stage, read_policy, stage_of
-from timetable_office.tree import folded
+from timetable_office.tree import FIRST_DAY, LAST_DAY, folded
 
 STANDARD_INPUT = "-"
 _FORM = re.compile(rb"\(([a-z]+)[ )]")
@@ -91,6 +91,7 @@ def explain(text: bytes, number: int, session: Session) -> str:
         refusals.NO_USER: _explain_user,
         refusals.BAD_LABEL: _explain_label,
         refusals.TABLE_FULL: _explain_room,
+        refusals.BAD_DAY: _explain_day,
     }
     adviser = advisers.get(number)
     return adviser(text, session) if adviser else ""
@@ -141,7 +142,7 @@ def _explain_stage(text: bytes, session: Session) -> str:
     if form in ("subject", "isa", "rule") and stage >= Stage.ROOT:
         return "the policy is fixed once the root is there; `timetable-office policy` gives new rules to a stored tree"
     if form == "child" and stage == Stage.WORK:
-        return "child lines come before the first user line of a run"
+        return "child lines come before the first user or day line of a run"
     if stage < Stage.ROOT and form not in ("subject", "isa", "rule"):
         return "there is no root yet"
     return ""
@@ -187,3 +188,10 @@ def _explain_label(text: bytes, session: Session) -> str:
 def _explain_room(text: bytes, session: Session) -> str:
     used = int.from_bytes(session.table[:COUNT_BYTES], "little")
     return f"the table has {session.records:,} records, and {used:,} are in use"
+
+
+def _explain_day(text: bytes, session: Session) -> str:
+    words = text.removesuffix(b")").decode("ascii").split(" ")
+    days = words[1:] if form_of(text) == "day" else words[2:]
+    outside = [day for day in days if not FIRST_DAY <= int(day) <= LAST_DAY]
+    return f"{outside[0]} is no day of a year" if outside else f"day {days[0]} comes after day {days[1]}"

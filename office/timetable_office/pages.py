@@ -1,7 +1,8 @@
 """Pages for readers: a view as one HTML file that needs no server and no other file, and the index of such pages.
 
-A page is made from the answer to `(view)` alone, besides the reader's name and the time and mark of the publication. No
-digest of the store, and no count of it, is on a page: whoever guesses at a hidden label could test the guess with it.
+A page is made from the answer to `(view)` alone, besides the reader's name and the time, mark and day of the
+publication. No digest of the store, and no count of it, is on a page: whoever guesses at a hidden label could test the
+guess with it.
 
 The element `main` holds the labels of the view in document order, one element a label, and no other words.
 """
@@ -28,10 +29,11 @@ _MARK_DIGITS = 12
 
 
 class Publication(NamedTuple):
-    """What the pages of one publication share: its time, and a mark that is drawn by lot."""
+    """What the pages of one publication share: its time, a mark that is drawn by lot, and the day asked for."""
 
     time: datetime
     mark: str
+    day: int | None = None
 
 
 class Row(NamedTuple):
@@ -299,7 +301,8 @@ def _published(publication: Publication) -> str:
     time = publication.time
     words = f"{time.day} {time:%B %Y, %H:%M:%S} UTC"
     stamp = f'<time datetime="{time:%Y-%m-%dT%H:%M:%SZ}">{words}</time>'
-    return f"Published {stamp}, publication <code>{escape(publication.mark)}</code>."
+    day = "" if publication.day is None else f" for day {publication.day}"
+    return f"Published {stamp}{day}, publication <code>{escape(publication.mark)}</code>."
 
 
 @lru_cache

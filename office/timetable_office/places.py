@@ -13,7 +13,7 @@ from timetable_office.lines import split_lines
 from timetable_office.replace import replace_policy
 from timetable_office.state import Rule, read_policy
 from timetable_office.tree import Node, folded, read_table
-from timetable_office.views import log_in
+from timetable_office.views import log_in, on_all_days
 
 
 def parents(nodes: Sequence[Node]) -> list[int | None]:
@@ -59,10 +59,12 @@ def _new_labels() -> Iterator[str]:
 def select_stored(session: Session, reader: str, path: str) -> list[int]:
     """The places of the nodes that a path selects in the stored tree, as a command of a reader who is shown all of it.
 
-    The library selects them: on a copy of the store this reader may read and update every node, and renames those that
-    the path selects to a label that no node has. Subjects and isa lines stay, since `$` goes by them.
+    The library selects them: on a copy of the store, with all nodes in their windows, this reader may read and update
+    every node, and renames those that the path selects to a label that no node has. Subjects and isa lines stay, since
+    `$` goes by them.
     """
     log_in(session, reader)
+    session = on_all_days(session)
     nodes = read_table(session.table)
     labels = {folded(node.label) for node in nodes}
     mark = next(label for label in _new_labels() if label not in labels)

@@ -16,7 +16,7 @@ from timetable_office.pages import GENERATOR, Publication, Row, index, page, vie
 from timetable_office.state import read_policy
 from timetable_office.store import Contents
 from timetable_office.tree import read_view
-from timetable_office.views import declared_name, view_of
+from timetable_office.views import declared_name, on_day, view_of
 
 INDEX = "index.html"
 _KIND = "view"
@@ -51,18 +51,19 @@ def publish_views(
     names: Sequence[str],
     out: str,
     wait: float,
+    day: int | None = None,
     progress: Callable[[int], Callable[[int], None]] = lambda total: lambda count: None,
 ) -> Published:
-    """Publishes the views of these subjects, or of all if none is named, into the folder `out`.
+    """Publishes the views that these subjects, or all if none is named, have on a day, into the folder `out`.
 
     The store is read once; all views are of the state that it has then, and all are made before a page is written.
     `progress` is given the number of views, and what it returns the number of those that are written.
     """
     folder = Folder(out, _NAMES, _has_index)
     with folder.turn(wait):
-        publication = Publication(datetime.now(timezone.utc), secrets.token_hex(_MARK_BYTES))
+        publication = Publication(datetime.now(timezone.utc), secrets.token_hex(_MARK_BYTES), day)
         session = read()
-        views = _views(session, names)
+        views = _views(on_day(session, day), names)
         count_up = progress(len(views))
         readers, dropped = folder.replace(lambda new: _write_pages(new, views, publication, count_up))
     digest = Contents(session.state, session.table).digest().hex()

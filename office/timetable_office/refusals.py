@@ -44,10 +44,11 @@ TABLE: tuple[Refusal, ...] = (
         "the document is not of the kind that is taken: one root element, tags that match, "
         "labels as names and texts, and nothing else",
     ),
+    Refusal(15, "BAD_DAY", "a day is outside 1 to 366, or the first day is after the last"),
 )
 
 BAD_LINE, NO_FORM, WRONG_STAGE, BAD_PATH, BAD_NAME, RULE_BRACKET, POLICY_FULL = range(1, 8)
-NO_USER, BAD_LABEL, TOO_DEEP, TABLE_FULL, AREA_SHORT, BAD_STORE, NO_DOCUMENT = range(8, 15)
+NO_USER, BAD_LABEL, TOO_DEEP, TABLE_FULL, AREA_SHORT, BAD_STORE, NO_DOCUMENT, BAD_DAY = range(8, 16)
 
 _BY_NUMBER = {refusal.number: refusal for refusal in TABLE}
 

@@ -52,8 +52,8 @@ class Answered:
 class Run:
     """What came of a list of lines.
 
-    `state` and `table` are what a store keeps of it. A login lasts to the end of its run: the state is the last one
-    before work began, so that nobody is logged in when the next run begins.
+    `state` and `table` are what a store keeps of it. A login and a day last to the end of their run: the state is the
+    last one before work began, so that nobody is logged in when the next run begins, and it is day 1.
     """
 
     state: bytes

@@ -11,7 +11,7 @@ from timetable_office.folders import Folder, file_names, file_stem, write_file
 from timetable_office.library import SHEET_BYTES, Refused, Session
 from timetable_office.state import user_of
 from timetable_office.tree import RESTRICTED, folded, read_view
-from timetable_office.views import log_in
+from timetable_office.views import log_in, on_day
 
 _KIND = "sheet"
 _NAMES = re.compile(file_names(_KIND, "txt"))
@@ -33,18 +33,21 @@ class Sheets(NamedTuple):
 
     folder: str
     reader: str
+    day: int | None
     sheets: tuple[Sheet, ...]
     dropped: tuple[str, ...]
 
 
-def write_sheets(read: Callable[[], Session], name: str, rooms: Sequence[str], out: str, wait: float) -> Sheets:
-    """Writes the sheets of these rooms, or of all that the subject is shown if none is named, into the folder `out`.
+def write_sheets(
+    read: Callable[[], Session], name: str, rooms: Sequence[str], out: str, wait: float, day: int | None = None
+) -> Sheets:
+    """Writes the sheets that these rooms, or all that the subject is shown if none is named, have on a day into `out`.
 
     The store is read once; all sheets are of the state that it has then, and all are made before a file is written.
     """
     folder = Folder(out, _NAMES, _are_sheets)
     with folder.turn(wait):
-        reader = log_in(read(), name)
+        reader = log_in(on_day(read(), day), name)
         name = user_of(reader.state) or name
         shown = rooms_of(reader)
         # a room is called what the reader is shown, in whatever case it is typed
@@ -54,7 +57,7 @@ def write_sheets(read: Callable[[], Session], name: str, rooms: Sequence[str], o
             raise InputError(f"no room is shown to {name}, so there is no sheet to write")
         answers = {room: _sheet_of(reader, room) for room in wanted.values()}
         sheets, dropped = folder.replace(lambda new: _write_files(new, answers))
-    return Sheets(str(folder.path), name, tuple(sheets), dropped)
+    return Sheets(str(folder.path), name, day, tuple(sheets), dropped)
 
 
 def rooms_of(reader: Session) -> dict[str, str]:

@@ -1,4 +1,4 @@
-"""A state read by docs/FORMAT.md: its stage, its user and its policy. Nothing is ever written into a state here."""
+"""A state read by docs/FORMAT.md: its stage, user, day and policy. Nothing is ever written into a state here."""
 
 from __future__ import annotations
 
@@ -95,3 +95,8 @@ def user_of(state: bytes) -> str | None:
     if state[1] == 0:
         return None
     return read_label(state[_POLICY_AT + _SUBJECTS_AT + RECORD_BYTES * (state[1] - 1) :][:RECORD_BYTES])
+
+
+def day_of(state: bytes) -> int:
+    """The day of the session, which is stored less one."""
+    return int.from_bytes(state[2:4], "little") + 1

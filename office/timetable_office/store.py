@@ -24,7 +24,9 @@ from timetable_office.library import Library, Session
 from timetable_office.runs import Counts, Given
 
 APPLICATION_ID = 0x54744F66
-FORMAT_VERSION = 1
+FORMAT_VERSION = 2
+# of stores whose tables have no windows
+_WITHOUT_WINDOWS = 1
 WAIT_SECONDS = 5.0
 
 _SCHEMA = f"""
@@ -185,6 +187,11 @@ class Store:
         if application != APPLICATION_ID:
             raise StoreError(f"{self.path} is not a timetable store")
         (version,) = self._connection.execute("PRAGMA user_version").fetchone()
+        if version == _WITHOUT_WINDOWS:
+            raise StoreError(
+                f"{self.path} was made by a version before 0.6.0. Have that version print its lines, "
+                f"`timetable-office export {self.path}`, and give them to a new store; docs/FORMAT.md tells how"
+            )
         if version != FORMAT_VERSION:
             known = f"this version of timetable-office knows format {FORMAT_VERSION}"
             raise StoreError(f"{self.path} has format {version}; {known}")

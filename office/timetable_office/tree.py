@@ -4,6 +4,7 @@ from __future__ import annotations
 
 import re
 import string
+import struct
 from typing import NamedTuple, Sequence
 
 from timetable_office.errors import LibraryError
@@ -11,6 +12,11 @@ from timetable_office.library import COUNT_BYTES, RECORD_BYTES
 from timetable_office.state import read_label
 
 RESTRICTED = "RESTRICTED"
+# A node's window: the first and the last day on which it is shown (document 02, card 7).
+Window = tuple[int, int]
+FIRST_DAY, LAST_DAY = WHOLE_YEAR = (1, 366)
+_WINDOW = struct.Struct("<HH")
+_WINDOW_AT = 26
 _SMALL = str.maketrans(string.ascii_uppercase, string.ascii_lowercase)
 _PARTS = re.compile(rb"\(([^ ()]+)|\)")
 _END = re.compile(rb"\(end ([0-9]+)\)\Z")
@@ -28,12 +34,37 @@ class Node(NamedTuple):
     label: str
 
 
+def _places(table: bytes) -> range:
+    """Where the records in use begin."""
+    count = int.from_bytes(table[:COUNT_BYTES], "little")
+    return range(COUNT_BYTES, COUNT_BYTES + RECORD_BYTES * count, RECORD_BYTES)
+
+
 def read_table(table: bytes) -> list[Node]:
     """The nodes of a table that the library takes."""
-    count = int.from_bytes(table[:COUNT_BYTES], "little")
-    places = range(COUNT_BYTES, COUNT_BYTES + RECORD_BYTES * count, RECORD_BYTES)
-    records = (table[place : place + RECORD_BYTES] for place in places)
+    records = (table[place : place + RECORD_BYTES] for place in _places(table))
     return [Node(record[0], read_label(record)) for record in records]
+
+
+def read_windows(table: bytes) -> list[Window]:
+    """The windows of the nodes of a table that the library takes."""
+    found = (_WINDOW.unpack_from(table, place + _WINDOW_AT) for place in _places(table))
+    return [(first, last) for first, last in found]
+
+
+def all_year(table: bytes) -> bytes:
+    """The table with every node shown on all days."""
+    made = bytearray(table)
+    for place in _places(table):
+        _WINDOW.pack_into(made, place + _WINDOW_AT, *WHOLE_YEAR)
+    return bytes(made)
+
+
+def make_record(level: int, label: str) -> bytes:
+    """The record of a node that is shown on all days."""
+    made = bytearray(bytes([level, len(label)]) + label.encode("ascii").ljust(RECORD_BYTES - 2, b"\0"))
+    _WINDOW.pack_into(made, _WINDOW_AT, *WHOLE_YEAR)
+    return bytes(made)
 
 
 def read_view(answer: bytes) -> list[Node]:

@@ -7,7 +7,7 @@ from timetable_office.errors import InputError
 from timetable_office.library import Refused, Session
 from timetable_office.lines import suggest_name
 from timetable_office.state import read_policy, user_of
-from timetable_office.tree import folded
+from timetable_office.tree import all_year, folded
 
 NO_TREE = (
     "the store has no tree yet: `timetable-office run` gives it root and child lines, `timetable-office load` a file"
@@ -33,6 +33,22 @@ def log_in(session: Session, name: str) -> Session:
     if answer != _OK or logged_in is None or folded(logged_in) != folded(name):
         raise InputError(f"the login of {name} did not go through: the library has {logged_in or 'nobody'} logged in")
     return reader
+
+
+def on_day(session: Session, day: int | None) -> Session:
+    """A copy of the session on this day; without one it stays on its own."""
+    made = session.copy()
+    if day is not None:
+        try:
+            made.line(b"(day %d)" % day)
+        except Refused as refused:
+            raise InputError(NO_TREE if refused.number == refusals.WRONG_STAGE else str(refused)) from refused
+    return made
+
+
+def on_all_days(session: Session) -> Session:
+    """A copy of the session in which every node is shown on every day."""
+    return Session(session.library, session.state, all_year(session.table))
 
 
 def declared_name(session: Session, name: str) -> str:

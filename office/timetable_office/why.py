@@ -1,4 +1,5 @@
-"""Why a reader sees a node or not: the rule that decides each right on it, and the nodes above that hide it."""
+"""Why a reader sees a node or not: the rule that decides each right on it, the nodes above that hide it, and on which
+days it is there."""
 
 from __future__ import annotations
 
@@ -9,6 +10,7 @@ from timetable_office.decisions import RIGHTS, Decider, Decision, Decisions, See
 from timetable_office.errors import InputError
 from timetable_office.library import Session
 from timetable_office.places import node_paths, parents, select_stored, way_down
+from timetable_office.tree import WHOLE_YEAR, read_windows
 from timetable_office.views import declared_name
 
 _SEEN = {Seen.HIDDEN: "hidden", Seen.RESTRICTED: "restricted", Seen.LABEL: "label"}
@@ -23,11 +25,14 @@ def explain_nodes(session: Session, reader: str, path: str) -> dict[str, Any]:
     if not places:
         raise InputError(f"{path} selects no node of the stored tree")
     decider = Decider(session)
+    windows = read_windows(session.table)
     decisions = decider.decide(reader)
     paths, above = node_paths(decider.nodes), parents(decider.nodes)
     nodes = []
     for place in places:
-        hiding = [step for step in way_down(above, place) if not seen_by(decisions.verdict(step))]
+        way = way_down(above, place)
+        hiding = [step for step in way if not seen_by(decisions.verdict(step))]
+        dated = [step for step in way if windows[step] != WHOLE_YEAR]
         nodes.append(
             {
                 "path": paths[place],
@@ -39,6 +44,7 @@ def explain_nodes(session: Session, reader: str, path: str) -> dict[str, Any]:
                 "hidden_by": [
                     {"path": paths[step], "rights": _rights(decider, decisions, step, _SEEING)} for step in hiding
                 ],
+                "windows": [{"path": paths[step], "days": list(windows[step])} for step in dated],
             }
         )
     return {"reader": reader, "path": path, "nodes": nodes}
@@ -82,6 +88,10 @@ def _node_text(reader: str, node: dict[str, Any]) -> str:
         else:
             lines.append(f"  hidden by {hiding['path']}, on which there is neither position nor read:")
             lines += ["  " + line for line in _rights_lines(hiding["rights"])]
+    for dated in node["windows"]:
+        first, last = dated["days"]
+        where = "" if dated["path"] == node["path"] else f", as {dated['path']} is"
+        lines.append(f"  there on days {first} to {last} alone{where}")
     return "".join(line + "\n" for line in lines)
 
 

@@ -61,7 +61,7 @@ extern "C" {
 macro_rules! refusals {
     ($($number:literal $name:ident $reason:literal)*) => {
         /// Why a line or a document is refused. 13 is tested first, then the others in the order of their numbers,
-        /// except for 14, which comes after 4: the first that applies is given.
+        /// except for 14, which comes after 4, and 15, which comes after 10: the first that applies is given.
         ///
         /// Each of them says what follows "refused, since".
         #[derive(Clone, Copy, PartialEq, Eq, Hash, Debug)]
@@ -130,6 +130,7 @@ refusals! {
     13 BadStore "the lent state or table is not valid, or the two do not agree"
     14 NoDocument "the document is not of the kind that is taken: one root element, tags that match, \
                    labels as names and texts, and nothing else"
+    15 BadDay "a day is outside 1 to 366, or the first day is after the last"
 }
 
 impl fmt::Display for Refusal {
@@ -323,6 +324,7 @@ mod tests {
         assert_eq!(length_or_refusal(-1), Err(Refusal::BadLine));
         assert_eq!(length_or_refusal(-13), Err(Refusal::BadStore));
         assert_eq!(length_or_refusal(-14), Err(Refusal::NoDocument));
+        assert_eq!(length_or_refusal(-15), Err(Refusal::BadDay));
         assert_eq!(length_or_refusal(-99), Err(Refusal::Unknown(99)));
         assert_eq!(length_or_refusal(i64::MIN), Err(Refusal::Unknown(1 << 63)));
     }

@@ -104,6 +104,8 @@ fn each_refusal_comes_with_its_number_and_changes_nothing() {
         (&school, "(user SHA)".to_string(), Refusal::BadName),
         (&school, "(rename //mon RESTRICTED)".to_string(), Refusal::BadLabel),
         (&school, "(rename //MON Restricted)".to_string(), Refusal::BadLabel),
+        (&school, "(day 367)".to_string(), Refusal::BadDay),
+        (&school, "(window //mon 9 8)".to_string(), Refusal::BadDay),
         (&school, "(append //mon (x))".to_string(), Refusal::TableFull),
         (&deep, format!("(append //mon {levels})"), Refusal::TooDeep),
     ];

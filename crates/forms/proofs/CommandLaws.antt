@@ -5,12 +5,12 @@ use mathlib.Core.List.{List, [], _∷_, _++_}
 use native.Mathlib.Omega.{arith}
 use lib.ListN.{length, drop, length-append, length-drop}
 use lib.Seq.{take-at}
-use Rattle.forms.specs.Kind.{Kind, Label, Path, Tree, Sign, Right}
+use Rattle.forms.specs.Kind.{Kind, Label, Path, Tree, Sign, Right, Day}
 use Rattle.forms.specs.Layout.{shapeOf}
 use Rattle.forms.specs.Form.{partBytes, placeIn, heldAt, allHeldAt, readForm}
 use Rattle.forms.specs.Command.{Value, Values, Command, writeValue, writeValues, written, GoodValue, GoodValues, GoodCommand, heldOf, allHeldOf, formOf}
 use Rattle.forms.proofs.TreeTextLaws.{tree-complete}
-use Rattle.forms.proofs.FormTextLaws.{sign-reads, right-reads, part-after, values-stop, placesOf, placesIn, endOf, after-word, written-form}
+use Rattle.forms.proofs.FormTextLaws.{sign-reads, right-reads, day-reads, part-after, values-stop, placesOf, placesIn, endOf, after-word, written-form}
 
 -- The part of kind k at place a, after a space: it stands within the line and holds what it says, and the parts ks follow it
 pub record PartSaid (s : List ℕ) (a : ℕ) (k : Kind) (v : Value k) (ks : List Kind) (vs : Values ks) : Type 0 where
@@ -42,6 +42,7 @@ part-held s a Path v ks vs g h = h .holds
 part-held s a Tree v ks vs g h = tree-complete s (a + 1) v (writeValues ks vs) g (h .follows) .1
 part-held s a Sign v ks vs g h = sign-reads s (a + 1) v (writeValues ks vs) (h .follows) (values-stop ks vs .no-label) .1
 part-held s a Right v ks vs g h = right-reads s (a + 1) v (writeValues ks vs) (h .follows) (values-stop ks vs .no-label) .1
+part-held s a Day v ks vs g h = day-reads s (a + 1) v (writeValues ks vs) g (h .follows) (values-stop ks vs .no-digit)
 
 all-held : (ks : List Kind) (vs : Values ks) → GoodValues ks vs → (s : List ℕ) (a : ℕ) → drop a s ≡ writeValues ks vs
     → (e : ℕ → ℕ) (i : ℕ) → ((j : ℕ) → e (i + j) ≡ placeIn (placesOf a ks vs) j) → allHeldAt ks s e i ≡ allHeldOf ks vs

@@ -22,7 +22,7 @@ use Rattle.forms.specs.declared.reader.Progress.{Progress}
 use Rattle.forms.specs.Layout.{words, stageOf, shapeOf, wordAt}
 use Rattle.forms.specs.How.Codes.{LaidOut, codesOf, byNumber, textNumberAt, endBy, saysBy, areaBy}
 use Rattle.forms.specs.Part.{runEnd}
-use Rattle.forms.specs.Kind.{Kind, Label, Path, Tree, Sign, Right, codeOf, partEnd}
+use Rattle.forms.specs.Kind.{Kind, Label, Path, Tree, Sign, Right, Day, codeOf, partEnd}
 use Rattle.forms.specs.Word.{rights, rightAt, labelBytesAt}
 use Rattle.forms.specs.Form.{Places, are, none, _onTo_, closesLine, partsOf, placeIn, noForm, endsIn, readForm}
 use Rattle.forms.specs.How.Reader.{stoppedAt, heldTo, Reading, Whole, Came, Begun, Moves, areaAfter, areaIn, areaFrom, FormRead}
@@ -50,6 +50,7 @@ code-end Path s at = refl
 code-end Tree s at = refl
 code-end Sign s at = refl
 code-end Right s at = refl
+code-end Day s at = refl
 
 code-some : (k : Kind) → codeOf k ≡ 0 → ⊥
 code-some Label e = omega arith
@@ -57,6 +58,7 @@ code-some Path e = omega arith
 code-some Tree e = omega arith
 code-some Sign e = omega arith
 code-some Right e = omega arith
+code-some Day e = omega arith
 
 pub zeros : (m j : ℕ) → getD {A = ℕ} (replicate m 0) j 0 ≡ 0
 zeros zero j = refl

@@ -9,10 +9,11 @@ use lib.Dec.{T, eqb, leb}
 use lib.ListN.{length, getD, take, drop, length-drop, drop-of-length-le}
 use lib.Seq.{drop-append-seam, take-append-seam}
 use borrow.Author.Tests.{le-leb, lt-leb, leb-true, eqb-true, eqb-false}
-use Rattle.rights.specs.Bytes.{byteAt, all}
+use Rattle.rights.specs.Limits.{labelMax}
+use Rattle.rights.specs.Bytes.{byteAt, all, digitByte}
 use Rattle.rights.specs.Labels.{labelByte}
 use Rattle.rights.specs.Policy.{Right, position, read, insert, update, delete, bitOf}
-use Rattle.rights.specs.PathReader.{runAt}
+use Rattle.rights.specs.PathReader.{runAt, numberOf}
 use Rattle.rights.specs.declared.path.Read.{Read}
 use Rattle.rights.specs.declared.path.Read.the-variants.{At, Bad}
 use Rattle.rights.proofs.PathTexts.{and-left, and-right, cond-elim, Reads, reads-byte, reads-take, run-all, run-length, run-over, byte-here}
@@ -21,14 +22,14 @@ use Rattle.forms.specs.declared.layout.Word.the-variants as word
 use Rattle.forms.specs.Word.{accept, deny, signs, rights, sameText, among, labelBytesAt, signAt, rightAt}
 use Rattle.rights.proofs.RangeLaws.{on-range, beq-eq, lt-or-ge}
 use Rattle.forms.specs.Text.{lineByte}
-use Rattle.forms.specs.Part.{pathByte, labelEnd, runEnd, knownEnd}
-use Rattle.forms.specs.Kind.{Kind, Label, Path, Tree, Sign, Right as RightKind, isTree, partEnd}
+use Rattle.forms.specs.Part.{pathByte, labelEnd, dayDigits, dayEnd, dayAt, runEnd, knownEnd}
+use Rattle.forms.specs.Kind.{Kind, Label, Path, Tree, Sign, Right as RightKind, Day, isTree, partEnd}
 use Rattle.forms.specs.Tree.{_andThen_}
 use Rattle.forms.specs.Layout.{noStage, stageOf, letters, shapeOf, formWords, words, wordAt}
 use Rattle.forms.specs.Form.{onePart, Places, are, none, _onTo_, closesLine, partsOf, placeIn, ReadForm, noForm, formAt, endsIn, readForm}
-use Rattle.forms.specs.Command.{Value, Values, Command, command, writeRight, writeValue, writeValues, written, runByte, GoodPath, GoodValue, GoodValues, GoodCommand}
+use Rattle.forms.specs.Command.{Value, Values, Command, command, writeRight, writeValue, writeValues, written, runByte, GoodDay, GoodValue, GoodValues, GoodCommand}
 use Rattle.forms.proofs.WordLaws.{wordText, wordTexts, Every, among-is, among-or}
-use Rattle.forms.proofs.TreeTextLaws.{drop-over, label-reads, tree-complete, tree-sound, tree-unique, label-unique}
+use Rattle.forms.proofs.TreeTextLaws.{drop-over, short-reads, short-sound, label-reads, tree-complete, tree-sound, tree-unique, label-unique}
 
 -- A form that is written is read
 
@@ -36,11 +37,12 @@ use Rattle.forms.proofs.TreeTextLaws.{drop-over, label-reads, tree-comp
 pub record Stops (r : List ℕ) : Type 0 where
   pub no-label : labelByte (getD r 0 0) ≡ false
   pub no-path : pathByte (getD r 0 0) ≡ false
+  pub no-digit : digitByte (getD r 0 0) ≡ false
 
 pub values-stop : (ks : List Kind) (vs : Values ks) → Stops (writeValues ks vs)
-unfolding labelByte pathByte
-values-stop [] vs = record { no-label = refl; no-path = refl }
-values-stop (k ∷ ks) (v, vs) = record { no-label = refl; no-path = refl }
+unfolding labelByte pathByte digitByte
+values-stop [] vs = record { no-label = refl; no-path = refl; no-digit = refl }
+values-stop (k ∷ ks) (v, vs) = record { no-label = refl; no-path = refl; no-digit = refl }
 
 -- a byte of a path is one that the reader takes for one
 path-byte : (b : ℕ) → pathByte b ≡ runByte b
@@ -55,38 +57,42 @@ runs-same : (p : List ℕ) → all pathByte p ≡ all runByte p
 runs-same p = ap (λ f. all f p) (fun-ext path-byte)
 
 module _ (s : List ℕ) (at : ℕ) where
-  -- label bytes that something else follows
-  label-at : (w r : List ℕ) → all labelByte w ≡ true → drop at s ≡ w ++ r → labelByte (getD r 0 0) ≡ false → (labelBytesAt s at ≡ w) × (runAt labelByte s at ≡ length w)
-  label-at w r g e h =
-      let q : runAt labelByte s at ≡ length w = rw e (run-over labelByte w r g h) in
+  -- bytes of a class that something else follows
+  run-at : (f : ℕ → Bool) (w r : List ℕ) → all f w ≡ true → drop at s ≡ w ++ r → f (getD r 0 0) ≡ false → (take (runAt f s at) (drop at s) ≡ w) × (runAt f s at ≡ length w)
+  run-at f w r g e h =
+      let q : runAt f s at ≡ length w = rw e (run-over f w r g h) in
       (rw (q, e) (take-append-seam w r), q)
 
   run-reads : (f : ℕ → Bool) (w r : List ℕ) → 1 ≤ length w → all f w ≡ true → drop at s ≡ w ++ r → f (getD r 0 0) ≡ false → runEnd f s at ≡ At (at + length w)
   unfolding runEnd
   run-reads f w r l g e h =
-      let q : runAt f s at ≡ length w = rw e (run-over f w r g h) in
-      rw (q, le-leb 1 (length w) l)
+      rw (run-at f w r g e h .1, le-leb 1 (length w) l)
 
   pub sign-reads : (b : Bool) (r : List ℕ) → drop at s ≡ cond b accept deny ++ r → labelByte (getD r 0 0) ≡ false → (knownEnd (signAt s at) s at ≡ At (at + length (cond b accept deny))) × (eqb (signAt s at) 1 ≡ b)
   unfolding knownEnd signAt among sameText labelByte all
-  sign-reads true r e h = let q = label-at accept r refl e h in (rw (q .0) (run-reads labelByte accept r (omega arith) refl e h), rw (q .0))
-  sign-reads false r e h = let q = label-at deny r refl e h in (rw (q .0) (run-reads labelByte deny r (omega arith) refl e h), rw (q .0))
+  sign-reads true r e h = let q = run-at labelByte accept r refl e h in (rw (q .0) (run-reads labelByte accept r (omega arith) refl e h), rw (q .0))
+  sign-reads false r e h = let q = run-at labelByte deny r refl e h in (rw (q .0) (run-reads labelByte deny r (omega arith) refl e h), rw (q .0))
 
   pub right-reads : (a : Right) (r : List ℕ) → drop at s ≡ writeRight a ++ r → labelByte (getD r 0 0) ≡ false → (knownEnd (rightAt s at) s at ≡ At (at + length (writeRight a))) × (rightAt s at ≡ bitOf a)
   unfolding knownEnd rightAt among sameText labelByte all writeRight
-  right-reads position r e h = let q = label-at (writeRight position) r refl e h in (rw (q .0) (run-reads labelByte (writeRight position) r (omega arith) refl e h), rw (q .0))
-  right-reads read r e h = let q = label-at (writeRight read) r refl e h in (rw (q .0) (run-reads labelByte (writeRight read) r (omega arith) refl e h), rw (q .0))
-  right-reads insert r e h = let q = label-at (writeRight insert) r refl e h in (rw (q .0) (run-reads labelByte (writeRight insert) r (omega arith) refl e h), rw (q .0))
-  right-reads update r e h = let q = label-at (writeRight update) r refl e h in (rw (q .0) (run-reads labelByte (writeRight update) r (omega arith) refl e h), rw (q .0))
-  right-reads delete r e h = let q = label-at (writeRight delete) r refl e h in (rw (q .0) (run-reads labelByte (writeRight delete) r (omega arith) refl e h), rw (q .0))
+  right-reads position r e h = let q = run-at labelByte (writeRight position) r refl e h in (rw (q .0) (run-reads labelByte (writeRight position) r (omega arith) refl e h), rw (q .0))
+  right-reads read r e h = let q = run-at labelByte (writeRight read) r refl e h in (rw (q .0) (run-reads labelByte (writeRight read) r (omega arith) refl e h), rw (q .0))
+  right-reads insert r e h = let q = run-at labelByte (writeRight insert) r refl e h in (rw (q .0) (run-reads labelByte (writeRight insert) r (omega arith) refl e h), rw (q .0))
+  right-reads update r e h = let q = run-at labelByte (writeRight update) r refl e h in (rw (q .0) (run-reads labelByte (writeRight update) r (omega arith) refl e h), rw (q .0))
+  right-reads delete r e h = let q = run-at labelByte (writeRight delete) r refl e h in (rw (q .0) (run-reads labelByte (writeRight delete) r (omega arith) refl e h), rw (q .0))
+
+  pub day-reads : (d r : List ℕ) → GoodDay d → drop at s ≡ d ++ r → digitByte (getD r 0 0) ≡ false → dayAt s at ≡ numberOf 0 d
+  unfolding dayAt
+  day-reads d r g e h = let q = run-at digitByte d r (g .2) e h in rw (q .0, q .1, le-leb (length d) dayDigits (g .1))
 
   value-reads : (k : Kind) (v : Value k) (r : List ℕ) → GoodValue k v → drop at s ≡ writeValue k v ++ r → Stops r → partEnd k s at ≡ At (at + length (writeValue k v))
-  unfolding GoodValue writeValue
+  unfolding dayEnd GoodValue writeValue
   value-reads Label l r g e h = label-reads s at l r g e (h .no-label)
   value-reads Path p r g e h = run-reads pathByte p r (g .0) (runs-same p ∙ g .1) e (h .no-path)
   value-reads Tree t r g e h = tree-complete s at t r g e .0
   value-reads Sign b r g e h = sign-reads b r e (h .no-label) .0
   value-reads RightKind a r g e h = right-reads a r e (h .no-label) .0
+  value-reads Day d r g e h = short-reads s at digitByte dayDigits d r g e (h .no-digit)
 
 -- the places after the word, which ends at a place, and after each part
 abbrev pub placesOf : ℕ → (ks : List Kind) → Values ks → List ℕ
@@ -140,6 +146,8 @@ word-law word.Before = record { spelt = refl; found = refl; staged = refl; few =
 word-law word.After = record { spelt = refl; found = refl; staged = refl; few = refl; tree-last = refl }
 word-law word.Remove = record { spelt = refl; found = refl; staged = refl; few = refl; tree-last = refl }
 word-law word.Sheet = record { spelt = refl; found = refl; staged = refl; few = refl; tree-last = refl }
+word-law word.Day = record { spelt = refl; found = refl; staged = refl; few = refl; tree-last = refl }
+word-law word.Window = record { spelt = refl; found = refl; staged = refl; few = refl; tree-last = refl }
 word-law word.Other = record { spelt = refl; found = refl; staged = refl; few = refl; tree-last = refl }
 
 abbrev pub endOf : Command → ℕ
@@ -164,7 +172,7 @@ form-complete f g =
     let r : List ℕ = writeValues (shapeOf (f .word)) (f .values) in
     let x = word-law (f .word) in
     let stop = values-stop (shapeOf (f .word)) (f .values) .no-label in
-    let l = label-at (written f) 1 (letters (f .word)) r (x .spelt) refl stop in
+    let l = run-at (written f) 1 labelByte (letters (f .word)) r (x .spelt) refl stop in
     let w : wordAt (written f) 1 ≡ f .word = rw (l .0) (x .found) in
     record {
       word = w;
@@ -228,17 +236,8 @@ module _ (s : List ℕ) (at : ℕ) where
       ((λ _. (position, refl)), ((λ _. (read, refl)), ((λ _. (insert, refl)), ((λ _. (update, refl)), ((λ _. (delete, refl)), tt))))) (λ e. absurd (e refl))
 
   value-sound : (k : Kind) (j : ℕ) → partEnd k s at ≡ At j → ValueRead k j
-  unfolding labelEnd knownEnd GoodValue writeValue
-  value-sound Label j =
-      cond-elim (leb 1 (runAt labelByte s at) && leb (runAt labelByte s at) 24)
-      (λ b e. same-place (ValueRead Label) e (
-      let q = run-length labelByte (drop at s) in
-      record {
-        is = labelBytesAt s at;
-        good = (rw q (leb-true _ _ (and-left (leb 1 (runAt labelByte s at)) (leb (runAt labelByte s at) 24) b)), rw q (leb-true _ _ (and-right (leb 1 (runAt labelByte s at)) (leb (runAt labelByte s at) 24) b)), run-all labelByte (drop at s));
-        text = reads-take s at (runAt labelByte s at);
-      }))
-      λ _. never-read
+  unfolding labelEnd dayEnd knownEnd GoodValue writeValue
+  value-sound Label j = λ e. let x = short-sound s at labelByte labelMax j e in record { is = x .0; good = x .1; text = x .2 }
   value-sound Path j = λ e. let x = run-sound pathByte j e in record { is = x .is; good = (x .some, sym (runs-same (x .is)) ∙ x .of); text = x .text }
   value-sound Tree j = λ e. let t = tree-sound s at j e in record { is = t .is; good = t .good; text = t .text }
   value-sound Sign j =
@@ -247,6 +246,7 @@ module _ (s : List ℕ) (at : ℕ) where
   value-sound RightKind j =
       cond-elim (eqb (rightAt s at) 0) (λ _. never-read)
       λ b e. let x = run-sound labelByte j e in let y = right-of (eqb-false _ _ b) in record { is = y .0; good = tt; text = rw (sym (y .1) ∙ sym (x .run-is)) (x .text) }
+  value-sound Day j = λ e. let x = short-sound s at digitByte dayDigits j e in record { is = x .0; good = x .1; text = x .2 }
 
 pub never-are : {C : Type 0} {es : List ℕ} → none ≡ are es → C
 never-are e = absurd (let z : _≡_ {A = ℕ} 0 1 = cc in omega arith)
@@ -366,6 +366,7 @@ value-same Path x y g h e = e
 value-same Tree x y g h e = tree-unique x y g h e
 value-same Sign x y g h e = sign-back x ∙ ap (λ (w : List ℕ). eqb (length w) 6) e ∙ sym (sign-back y)
 value-same RightKind x y g h e = right-back x ∙ ap rightNamed e ∙ sym (right-back y)
+value-same Day x y g h e = e
 
 value-unique : (k : Kind) (x y : Value k) (r v : List ℕ) → GoodValue k x → GoodValue k y → Stops r → Stops v → writeValue k x ++ r ≡ writeValue k y ++ v → (x ≡ y) × (r ≡ v)
 value-unique k x y r v g h a b e =

@@ -3,11 +3,16 @@ use Prim.Native.Nat.{ℕ}
 use mathlib.Core.Path.{_≡_, refl}
 use mathlib.Core.Bool.{Bool, cond}
 use mathlib.Core.List.{List, _++_}
-use Rattle.rights.specs.Bytes.{bytes}
+use Rattle.rights.specs.Bytes.{bytes, digitByte, run}
+use Rattle.rights.specs.Labels.{labelByte}
+use Rattle.rights.specs.PathReader.{numberOf}
 use Rattle.rights.specs.Policy.{Right}
 use Rattle.rights.specs.Tree.{Tree, writeTree}
 use Rattle.forms.specs.declared.layout.Word.the-variants as word
-use Rattle.forms.specs.Layout.{stageA, stageB, stageC, stageD, stageE}
+use Rattle.forms.specs.Word.{among, sameText}
+use Rattle.forms.specs.Part.{runEnd, dayEnd, dayAt}
+use Rattle.forms.specs.Layout.{stageA, stageB, stageC, stageD, stageE, wordAt}
+use Rattle.forms.specs.Form.{noForm, partsOf, endsIn, readForm}
 use Rattle.forms.specs.Command.{Command, command, stageFor, writeRight, writeValue, written}
 
 -- the command belongs to the stage g and is written so
@@ -77,3 +82,16 @@ remove-text p = (refl, refl)
 pub sheet-text : (l : List ℕ) → Stands stageE (command word.Sheet (l, tt)) (bytes "(sheet " ++ (l ++ bytes ")"))
 unfolding written writeValue
 sheet-text l = (refl, refl)
+
+pub day-text : (d : List ℕ) → Stands stageE (command word.Day (d, tt)) (bytes "(day " ++ (d ++ bytes ")"))
+unfolding written writeValue
+day-text d = (refl, refl)
+
+pub window-text : (p f t : List ℕ) → Stands stageE (command word.Window (p, (f, (t, tt)))) (bytes "(window " ++ (p ++ (bytes " " ++ (f ++ (bytes " " ++ (t ++ bytes ")"))))))
+unfolding written writeValue
+window-text p f t = (refl, refl)
+
+-- "A day is typed as 1 to 3 digits": zeros may lead, a fourth digit or none is no form
+pub day-digits : (readForm (bytes "(day 007)") ≡ record { word = word.Day; parts = (7, tt) }) × (readForm (bytes "(day 0007)") ≡ noForm) × (readForm (bytes "(day )") ≡ noForm)
+unfolding readForm endsIn wordAt among sameText runEnd run labelByte partsOf dayEnd dayAt digitByte numberOf
+day-digits = (refl, refl, refl)

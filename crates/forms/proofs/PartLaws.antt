@@ -2,39 +2,27 @@
 use Prim.Native.Nat.{ℕ, _+_, _≤_, _<_}
 use mathlib.Core.Path.{_≡_, refl, sym, ap, _∙_}
 use mathlib.Core.List.{List}
-use mathlib.Core.Bool.{Bool}
+use mathlib.Core.Bool.{Bool, _&&_, and-true}
 use native.Mathlib.Omega.{arith}
 use lib.Dec.{leb, eqb}
-use lib.ListN.{length}
+use lib.ListN.{length, take, drop}
 use borrow.Author.Tests.{le-leb, lt-leb, leb-true, leb-false, ne-eqb}
-use Rattle.rights.specs.Bytes.{byteAt}
+use Rattle.rights.specs.Bytes.{byteAt, digitByte}
 use Rattle.rights.specs.Labels.{labelByte}
-use Rattle.rights.specs.PathReader.{runAt}
+use Rattle.rights.specs.PathReader.{runAt, numberOf}
 use Rattle.rights.specs.How.Reading.{Onward, Ends}
 use Rattle.rights.specs.declared.path.Read.{Read}
 use Rattle.rights.specs.declared.path.Read.the-variants.{At, Bad}
 use Rattle.rights.proofs.ListLaws.{byCase}
 use Rattle.rights.proofs.PathLaws.{bad-onward, at-onward}
-use Rattle.forms.specs.Part.{labelEnd, runEnd, knownEnd}
+use Rattle.rights.proofs.PathTexts.{and-left, and-right, cond-elim}
+use Rattle.forms.specs.Part.{shortEnd, labelEnd, dayDigits, dayEnd, dayAt, runEnd, knownEnd}
 use Rattle.forms.specs.declared.part.PartRead.{PartRead}
 use Rattle.forms.specs.Word.{signs, rights, signAt, rightAt}
 use Rattle.forms.specs.How.Codes.{textNumberAt, byNumber, endBy, saysBy}
 use Rattle.forms.specs.How.Reader.{movedTo, knownTo, PartPassed}
 use Rattle.forms.proofs.WordLaws.{sign-numbered, right-numbered}
 use Rattle.forms.specs.Tree.{openEnd}
-
-module _ (s : List ℕ) (at n : ℕ) (e : n ≡ runAt labelByte s at) where
-  pub label-none : n < 1 → labelEnd s at ≡ Bad
-  unfolding labelEnd
-  label-none l = rw (← e, lt-leb 1 n l)
-
-  pub label-long : 24 < n → labelEnd s at ≡ Bad
-  unfolding labelEnd
-  label-long l = rw (← e, le-leb 1 n (omega arith), lt-leb n 24 l)
-
-  pub label-good : 1 ≤ n → n ≤ 24 → labelEnd s at ≡ At (at + n)
-  unfolding labelEnd
-  label-good l m = rw (← e, le-leb 1 n l, le-leb n 24 m)
 
 -- a run that reading moved over
 pub moved-run : (f : ℕ → Bool) (s : List ℕ) (at e : ℕ) → Ends f s at e → Onward (runEnd f s at) (movedTo at e) (at + 1) (length s)
@@ -44,6 +32,27 @@ moved-run f s at e x =
     byCase (leb e at)
     (λ b. rw (b, lt-leb 1 (runAt f s at) (omega (arith, leb-true e at b))) (bad-onward (at + 1) (length s) refl))
     (λ b. rw (b, le-leb 1 (runAt f s at) (omega (arith, leb-false e at b))) (at-onward (at + 1) (length s) e (ap At (sym q)) (omega (arith, leb-false e at b)) (x .to)))
+
+-- a run of at most so many bytes, and a longer one
+module _ (f : ℕ → Bool) (most : ℕ) (s : List ℕ) (at : ℕ) where
+  pub short-long : most < runAt f s at → shortEnd f most s at ≡ Bad
+  short-long l = rw (le-leb 1 (runAt f s at) (omega arith), lt-leb (runAt f s at) most l)
+
+  short-run : runAt f s at ≤ most → shortEnd f most s at ≡ runEnd f s at
+  unfolding runEnd
+  short-run l = rw (le-leb (runAt f s at) most l, and-true (leb 1 (runAt f s at)))
+
+  pub short-moved : (e : ℕ) → Ends f s at e → runAt f s at ≤ most → Onward (shortEnd f most s at) (movedTo at e) (at + 1) (length s)
+  short-moved e x l = rw (short-run l) (moved-run f s at e x)
+
+  -- one that was read
+  pub short-is : (e : ℕ) → shortEnd f most s at ≡ At e → (e ≡ at + runAt f s at) × (1 ≤ runAt f s at) × (runAt f s at ≤ most)
+  short-is e =
+      cond-elim (leb 1 (runAt f s at) && leb (runAt f s at) most)
+      (λ b q.
+      let z : e ≡ at + runAt f s at = cc in
+      (z, leb-true _ _ (and-left (leb 1 (runAt f s at)) (leb (runAt f s at) most) b), leb-true _ _ (and-right (leb 1 (runAt f s at)) (leb (runAt f s at) most) b)))
+      (λ _ q. absurd (let z : _≡_ {A = ℕ} 0 1 = cc in omega arith))
 
 module _ (s : List ℕ) (at e : ℕ) (x : Ends labelByte s at e) where
   pub run-none : e ≤ at → runEnd labelByte s at ≡ Bad
@@ -69,6 +78,16 @@ module _ (s : List ℕ) (at : ℕ) (r : PartRead) where
 
 pub silent-passed : (k : ℕ) (s : List ℕ) (at : ℕ) (r : PartRead) (w : Read) → (r .end ≡ w) × (r .says ≡ 0) → Onward (endBy k s at) w (at + 1) (length s) → saysBy k s at ≡ 0 → PartPassed k s at r
 silent-passed k s at r w e o z = record { end = rw (e .0) o; says = e .1 ∙ sym z }
+
+-- a day whose digits were passed, and digits that are too many
+module _ (s : List ℕ) (at : ℕ) (r : PartRead) where
+  pub day-passed : (e : ℕ) → r .end ≡ movedTo at e → r .says ≡ numberOf 0 (take (runAt digitByte s at) (drop at s)) → Ends digitByte s at e → runAt digitByte s at ≤ dayDigits → PartPassed 6 s at r
+  unfolding endBy saysBy dayEnd dayAt
+  day-passed e p q x l = record { end = rw p (short-moved digitByte dayDigits s at e x l); says = rw (le-leb (runAt digitByte s at) dayDigits l) q }
+
+  pub day-long : (r .end ≡ Bad) × (r .says ≡ 0) → dayDigits < runAt digitByte s at → PartPassed 6 s at r
+  unfolding endBy saysBy dayEnd dayAt
+  day-long e l = silent-passed 6 s at r Bad e (bad-onward (at + 1) (length s) (short-long digitByte dayDigits s at l)) (rw (lt-leb (runAt digitByte s at) dayDigits l))
 
 module _ (s : List ℕ) (at : ℕ) where
   pub open-not : (byteAt s at ≡ 40 → ⊥) → openEnd s at ≡ Bad

@@ -17,7 +17,7 @@ use Rattle.rights.specs.declared.path.Read.the-variants.{At}
 use Rattle.rights.proofs.ListLaws.{byCase, rest-of}
 use Rattle.rights.proofs.RecordLaws.{pasted-none}
 use Rattle.forms.specs.Part.{runEnd}
-use Rattle.forms.specs.Kind.{Kind, Label, Path, Tree, Sign, Right, isTree, partEnd}
+use Rattle.forms.specs.Kind.{Kind, Label, Path, Tree, Sign, Right, Day, isTree, partEnd}
 use Rattle.forms.specs.Layout.{shapeOf, wordAt}
 use Rattle.forms.specs.Tree.{recordsOf}
 use Rattle.forms.specs.Form.{Held, nodesOr, Places, are, none, _onTo_, onePart, partsOf, placeIn, noForm, heldAt, allHeldAt, endsIn, readForm, nodesHeld, treeIn}
@@ -78,6 +78,7 @@ module _ (s a : List ℕ) where
   put-next Tree = put-tree
   put-next Sign = put-later Sign refl (λ h ns. refl)
   put-next Right = put-later Right refl (λ h ns. refl)
+  put-next Day = put-later Day refl (λ h ns. refl)
 
   parts-put : (ks : List Kind) (at : ℕ) (es : List ℕ) → treeLast ks ≡ true → partsOf ks s at ≡ are es → Put ks at es
   unfolding partsOf areaAfter recordsOf

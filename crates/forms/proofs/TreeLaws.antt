@@ -2,12 +2,12 @@
 use Prim.Native.Nat.{ℕ, zero, suc, _+_, _-_, _*_, _≤_, _<_}
 use mathlib.Core.Path.{_≡_, refl, sym, ap, _∙_}
 use mathlib.Core.List.{List, [], _∷_}
-use mathlib.Core.Bool.{_&&_}
 use native.Mathlib.Omega.{arith}
 use native.Mathlib.Nat.{add-zero}
-use lib.Dec.{eqb, leb}
+use lib.Dec.{eqb}
 use lib.ListN.{length, take, drop, length-take, length-drop}
-use borrow.Author.Tests.{ne-eqb, eqb-true, leb-true}
+use borrow.Author.Tests.{ne-eqb, eqb-true}
+use Rattle.rights.specs.Limits.{labelMax}
 use Rattle.rights.specs.Bytes.{byteAt}
 use Rattle.rights.specs.Labels.{labelByte}
 use Rattle.rights.specs.PathReader.{runAt}
@@ -17,13 +17,13 @@ use Rattle.rights.specs.declared.path.Read.{Read}
 use Rattle.rights.specs.declared.path.Read.the-variants.{At, Bad}
 use Rattle.rights.proofs.ListLaws.{byCase, rest-of}
 use Rattle.rights.proofs.PathLaws.{past}
-use Rattle.rights.proofs.PathTexts.{and-left, and-right}
 use Rattle.rights.proofs.RecordLaws.{pasted-pasted, pasted-none}
 use Rattle.rights.proofs.RecordOfLaws.{length-node}
 use Rattle.forms.specs.Part.{labelEnd}
 use Rattle.rights.specs.Nodes.{node}
 use Rattle.forms.specs.Tree.{openEnd, tailEnd, tailNodes, treeEnd, treeNodes, recordsOf, held}
 use Rattle.forms.specs.How.Reader.{TailEnd, TailPut}
+use Rattle.forms.proofs.PartLaws.{short-is}
 
 pub rest-length : (s : List ℕ) (e : ℕ) → length (take (length s - e) (drop e s)) ≡ length s - e
 rest-length s e = rw (rest-of s e, length-drop e s)
@@ -39,14 +39,9 @@ pub opened : (s : List ℕ) (at e : ℕ) → openEnd s at ≡ At e → Opened s 
 unfolding openEnd labelEnd
 opened s at e p =
     byCase (eqb (byteAt s at) 40)
-    (λ q. byCase (leb 1 (runAt labelByte s (at + 1)) && leb (runAt labelByte s (at + 1)) 24)
-    (λ w.
-    let a = leb-true 1 (runAt labelByte s (at + 1)) (and-left (leb 1 (runAt labelByte s (at + 1))) (leb (runAt labelByte s (at + 1)) 24) w) in
-    let b = leb-true (runAt labelByte s (at + 1)) 24 (and-right (leb 1 (runAt labelByte s (at + 1))) (leb (runAt labelByte s (at + 1)) 24) w) in
-    let u = rw (q, w) at p in
-    let z : e ≡ at + 1 + runAt labelByte s (at + 1) = cc in
-    record { paren = eqb-true _ _ q; end = z; some = omega arith; few = omega arith })
-    (λ w. absurd (let u = rw (q, w) at p in let z : _≡_ {A = ℕ} 0 1 = cc in omega arith)))
+    (λ q.
+    let x = short-is labelByte labelMax s (at + 1) e (rw q at p) in
+    record { paren = eqb-true _ _ q; end = x .0; some = omega (arith, x .0, x .1); few = omega (arith, x .0, x .2) })
     (λ q. absurd (let u = rw q at p in let z : _≡_ {A = ℕ} 0 1 = cc in omega arith))
 
 -- Where a tail ends

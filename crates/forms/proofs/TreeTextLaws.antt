@@ -2,7 +2,7 @@
 use Prim.Native.Nat.{ℕ, zero, suc, _+_, _-_, _*_, _≤_}
 use mathlib.Core.Path.{_≡_, refl, sym, ap, _∙_}
 use mathlib.Core.List.{List, [], _∷_, _++_, append-assoc, append-nil}
-use mathlib.Core.Bool.{true, false}
+use mathlib.Core.Bool.{Bool, true, false}
 use native.Mathlib.Omega.{arith}
 use native.Mathlib.Numerals.{add-one}
 use native.Mathlib.Nat.{add-zero}
@@ -10,17 +10,19 @@ use lib.Dec.{eqb}
 use lib.ListN.{length, getD, take, drop, length-append, length-drop}
 use lib.Seq.{drop-drop, drop-append-seam, take-append-seam}
 use borrow.Author.Tests.{ne-eqb, le-leb, eqb-true, eqb-false}
+use Rattle.rights.specs.Limits.{labelMax}
 use Rattle.rights.specs.Bytes.{byteAt, all, run}
 use Rattle.rights.specs.Labels.{labelByte}
 use Rattle.rights.specs.PathReader.{runAt}
 use Rattle.rights.specs.declared.path.Read.{Read}
 use Rattle.rights.specs.declared.path.Read.the-variants.{At, Bad}
 use Rattle.rights.proofs.PathTexts.{cond-elim, Reads, reads-more, reads-byte, reads-take, run-all, run-length, run-over, byte-here}
-use Rattle.forms.specs.Part.{labelEnd}
+use Rattle.forms.specs.Part.{shortEnd, labelEnd}
 use Rattle.rights.specs.Nodes.{Node, node}
 use Rattle.forms.specs.Tree.{_andThen_, openEnd, tailEnd, tailNodes, treeEnd, treeNodes}
 use Rattle.rights.specs.Tree.{Tree, tree, Trees, none, more, writeTree, writeTrees, nodesOf, nodesIn}
-use Rattle.forms.specs.TreeText.{GoodLabel, GoodTree, GoodTrees}
+use Rattle.forms.specs.TreeText.{Short, GoodLabel, GoodTree, GoodTrees}
+use Rattle.forms.proofs.PartLaws.{short-is}
 use Rattle.forms.proofs.TreeLaws.{Opened, opened}
 
 -- A tree that is written is read
@@ -29,11 +31,21 @@ module _ (s : List ℕ) (at : ℕ) where
   pub drop-over : (w r : List ℕ) → drop at s ≡ w ++ r → drop (at + length w) s ≡ r
   drop-over w r e = rw (← (drop-drop (length w) at s), e) (drop-append-seam w r)
 
+  -- a run of at most so many bytes: one that is written is read, and one that is read was written
+  pub short-reads : (f : ℕ → Bool) (most : ℕ) (l r : List ℕ) → Short f most l → drop at s ≡ l ++ r → f (getD r 0 0) ≡ false → shortEnd f most s at ≡ At (at + length l)
+  short-reads f most l r g e h =
+      let q : runAt f s at ≡ length l = rw e (run-over f l r (g .2) h) in
+      rw (q, le-leb 1 (length l) (g .0), le-leb (length l) most (g .1))
+
+  pub short-sound : (f : ℕ → Bool) (most j : ℕ) → shortEnd f most s at ≡ At j → (w : List ℕ) × Short f most w × Reads s at w j
+  short-sound f most j e =
+      let x = short-is f most s at j e in
+      let q = run-length f (drop at s) in
+      (take (runAt f s at) (drop at s), (rw q (x .1), rw q (x .2), run-all f (drop at s)), rw (x .0) (reads-take s at (runAt f s at)))
+
   pub label-reads : (l r : List ℕ) → GoodLabel l → drop at s ≡ l ++ r → labelByte (getD r 0 0) ≡ false → labelEnd s at ≡ At (at + length l)
   unfolding labelEnd
-  label-reads l r g e h =
-      let q : runAt labelByte s at ≡ length l = rw e (run-over labelByte l r (g .2) h) in
-      rw (q, le-leb 1 (length l) (g .0), le-leb (length l) 24 (g .1))
+  label-reads = short-reads labelByte labelMax
 
 pub open-reads : (s : List ℕ) (at : ℕ) (l r : List ℕ) → GoodLabel l → drop at s ≡ 40 ∷ (l ++ r) → labelByte (getD r 0 0) ≡ false → openEnd s at ≡ At (at + 1 + length l)
 unfolding openEnd

@@ -8,13 +8,13 @@ use Rattle.rights.specs.Bytes.{byteAt}
 use Rattle.rights.specs.Labels.{labelByte}
 use Rattle.rights.specs.Nodes.{Node}
 use Rattle.rights.specs.declared.path.Read.{Read}
-use Rattle.rights.specs.declared.path.Read.the-variants.{At, Bad}
+use Rattle.rights.specs.declared.path.Read.the-variants.{Bad}
 use Rattle.forms.specs.declared.layout.Word.{Word}
 use Rattle.forms.specs.declared.layout.Word.the-variants.{Other}
 use Rattle.forms.specs.Word.{signAt, rightAt}
 use Rattle.forms.specs.Layout.{shapeOf, wordAt}
-use Rattle.forms.specs.Part.{runEnd}
-use Rattle.forms.specs.Kind.{Kind, Label, Path, Tree, Sign, Right, partEnd}
+use Rattle.forms.specs.Part.{runEnd, dayAt}
+use Rattle.forms.specs.Kind.{Kind, Label, Path, Tree, Sign, Right, Day, partEnd}
 use Rattle.forms.specs.Tree.{_andThen_, treeNodes}
 
 -- "Parts are parted by one space": a space and a part
@@ -48,13 +48,14 @@ placeIn es i = getD es i 0
 abbrev pub partBytes : List ℕ → ℕ → ℕ → List ℕ
 partBytes line a b = take (b - (a + 1)) (drop (a + 1) line)
 
--- What is held of a part of each kind: the bytes of a label or a path, a tree's nodes, whether a sign accepts, the bit of a right
+-- What is held of a part of each kind: the bytes of a label or a path, a tree's nodes, whether a sign accepts, the bit of a right, the number of a day
 abbrev pub Held : Kind → Type 0
 Held Label = List ℕ
 Held Path = List ℕ
 Held Tree = List Node
 Held Sign = Bool
 Held Right = ℕ
+Held Day = ℕ
 
 abbrev pub AllHeld : List Kind → Type 0
 AllHeld [] = Unit {0}
@@ -76,6 +77,7 @@ heldAt Path s a b = partBytes s a b
 heldAt Tree s a b = treeNodes s (a + 1)
 heldAt Sign s a b = eqb (signAt s (a + 1)) 1
 heldAt Right s a b = rightAt s (a + 1)
+heldAt Day s a b = dayAt s (a + 1)
 
 abbrev pub allHeldAt : (ks : List Kind) → List ℕ → (ℕ → ℕ) → ℕ → AllHeld ks
 allHeldAt [] s e i = tt
@@ -104,6 +106,7 @@ nodesOr Path p ns = ns
 nodesOr Tree t ns = t
 nodesOr Sign b ns = ns
 nodesOr Right r ns = ns
+nodesOr Day d ns = ns
 
 abbrev pub nodesHeld : (ks : List Kind) → AllHeld ks → List Node
 nodesHeld [] hs = []

@@ -6,7 +6,7 @@ use Rattle.rights.specs.Bytes.{bytes}
 use Rattle.forms.specs.declared.layout.Word.{Word}
 use Rattle.forms.specs.declared.layout.Word.the-variants as word
 use Rattle.forms.specs.Word.{among, labelBytesAt}
-use Rattle.forms.specs.Kind.{Kind, Label, Path, Tree, Sign, Right}
+use Rattle.forms.specs.Kind.{Kind, Label, Path, Tree, Sign, Right, Day}
 
 -- "Stages, in order" A to E, by number
 abbrev pub stageA : ℕ
@@ -55,6 +55,9 @@ layout word.After = row stageE (bytes "after") (Path ∷ Tree ∷ [])
 layout word.Remove = row stageE (bytes "remove") (Path ∷ [])
 -- document 02, card 3
 layout word.Sheet = row stageE (bytes "sheet") (Label ∷ [])
+-- document 02, card 7
+layout word.Day = row stageE (bytes "day") (Day ∷ [])
+layout word.Window = row stageE (bytes "window") (Path ∷ Day ∷ Day ∷ [])
 -- no form
 layout word.Other = row noStage [] []
 
@@ -86,6 +89,8 @@ formWords =
     ∷ word.After
     ∷ word.Remove
     ∷ word.Sheet
+    ∷ word.Day
+    ∷ word.Window
     ∷ []
 
 abbrev pub words : List (List ℕ × Word)

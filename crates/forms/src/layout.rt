@@ -1,4 +1,5 @@
 // The words that begin a form, each with its stage and the kinds of the parts that follow it (document 01, "Lines").
+use crate::kind::DAY;
 use crate::kind::END;
 use crate::kind::LABEL;
 use crate::kind::PATH;
@@ -31,6 +32,8 @@ pub enum Word {
     After,
     Remove,
     Sheet,
+    Day,
+    Window,
     Other,
 }
 
@@ -125,6 +128,16 @@ pub(crate) fn numbered_layout(n: u64) -> Layout
             word: Word::Sheet,
             stage: STAGE_E,
             kinds: [LABEL, END, END, END, END],
+        },
+        7954788 => Layout {
+            word: Word::Day,
+            stage: STAGE_E,
+            kinds: [DAY, END, END, END, END],
+        },
+        131320310032759 => Layout {
+            word: Word::Window,
+            stage: STAGE_E,
+            kinds: [PATH, DAY, DAY, END, END],
         },
         _ => Layout {
             word: Word::Other,

@@ -9,7 +9,8 @@ ghost use Rattle.rights.specs.How.Reading.{Ends, Onward};
 ghost use Rattle.forms.specs.Part.{pathByte, labelEnd, runEnd};
 ghost use Rattle.forms.specs.How.Reader.{movedTo, knownTo};
 
-// The place after a part, and what the form holds of it besides its place: a sign's number, a right's bit, how many nodes a tree has, 0 for a label or a path.
+// The place after a part, and what the form holds of it besides its place: a sign's number, a right's bit, a day's number, how many nodes a tree has,
+// 0 for a label or a path.
 pub struct PartRead {
     pub end: Read,
     pub says: usize,
@@ -40,27 +41,23 @@ fn path_run_end(s: &[u8], at: usize) -> usize
     i
 }
 
+// The place that reading came to from `from`, if it moved on.
+pub(crate) fn moved(from: usize, to: usize) -> Read
+    ensures { λ r. ⌜ r ≡ movedTo from to ⌝ }
+{
+    if to <= from { Read::Bad } else { Read::At(to) }
+}
+
 // A label of 1 to 24 bytes.
 pub fn label_part_end(s: &[u8], at: usize) -> Read
     requires { ⌜ at ≤ length (now s) ⌝ }
     ensures { λ r. ⌜ Onward (labelEnd (now (s .entry)) at) r (at + 1) (length (now (s .entry))) ⌝ }
 {
     let e = label_end(s, at);
-    let n = e - at;
-    if n < 1 {
+    if LABEL_MAX < e - at {
         return Read::Bad;
     }
-    if LABEL_MAX < n {
-        return Read::Bad;
-    }
-    Read::At(e)
-}
-
-// The place that reading came to from `from`, if it moved on.
-pub(crate) fn moved(from: usize, to: usize) -> Read
-    ensures { λ r. ⌜ r ≡ movedTo from to ⌝ }
-{
-    if to <= from { Read::Bad } else { Read::At(to) }
+    moved(at, e)
 }
 
 // A run of one or more bytes that passes as a path.

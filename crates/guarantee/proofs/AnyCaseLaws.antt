@@ -61,6 +61,8 @@ SameTyped word.Before (p, (u, _)) (q, (v, _)) = SamePath p q × (u ≡ v)
 SameTyped word.After (p, (u, _)) (q, (v, _)) = SamePath p q × (u ≡ v)
 SameTyped word.Remove (p, _) (q, _) = SamePath p q
 SameTyped word.Sheet (l, _) (k, _) = SameLabel l k
+SameTyped word.Day (d, _) (e, _) = d ≡ e
+SameTyped word.Window (p, (f, (l, _))) (q, (g, (k, _))) = SamePath p q × (f ≡ g) × (l ≡ k)
 SameTyped word.Other _ _ = Unit {0}
 
 -- the same letters in the text of each value
@@ -101,6 +103,9 @@ module _ (s t : List ℕ) where
   clause-any-case word.After (p, (u, _)) (q, (v, _)) e = (rw (same-form (e .0), same-marks (e .0), e .1), (path-letters (e .0), (rw (e .1), tt)))
   clause-any-case word.Remove (p, _) (q, _) e = (rw (same-form e, same-marks e), (path-letters e, tt))
   clause-any-case word.Sheet (l, _) (k, _) e = (rw (sheet-any-case l k e (viewIn s t)), (same-folded l k e, tt))
+  clause-any-case word.Day (d, _) (c, _) e = (rw e, (ap foldedLabel e, tt))
+  clause-any-case word.Window (p, (f, (l, _))) (q, (g, (k, _))) e =
+      (rw (same-form (e .0), same-marks (e .0), e .1, e .2), (path-letters (e .0), (ap foldedLabel (e .1), (ap foldedLabel (e .2), tt))))
   clause-any-case word.Other _ _ e = (refl, tt)
 
 joined : (a b c d : List ℕ) → foldedLabel a ≡ foldedLabel c → foldedLabel b ≡ foldedLabel d → foldedLabel (a ++ b) ≡ foldedLabel (c ++ d)

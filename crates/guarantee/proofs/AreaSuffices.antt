@@ -2,15 +2,16 @@
 -- hold, and 657 for a sheet, none is refused with 12 (include/timetable.h, TIMETABLE_AREA_BYTES). Assumes nothing.
 use Prim.Native.Nat.{ℕ, _+_, _*_, _≤_, _<_}
 use mathlib.Core.Path.{_≡_, refl, sym, ap, _∙_}
-use mathlib.Core.Bool.{true, false, not, false≢true}
+use mathlib.Core.Bool.{true, false, not, _||_, false≢true}
 use mathlib.Core.List.{List, [], _∷_, _++_}
 use native.Mathlib.Omega.{arith}
-use borrow.Author.Tests.{leb-true, le-ltb}
-use lib.Dec.{leb, ltb}
+use borrow.Author.Tests.{eqb-true, leb-true, le-ltb}
+use lib.Dec.{eqb, leb, ltb}
 use lib.ListN.{length}
 use Rattle.rights.specs.Bytes.{within}
 use Rattle.rights.specs.Table.{capacity}
 use Rattle.rights.proofs.ListLaws.{byCase}
+use Rattle.rights.proofs.BoolLaws.{or-split}
 use Rattle.rights.proofs.TableLaws.{both}
 use Rattle.views.proofs.TableLaws.{facts}
 use Rattle.forms.specs.Form.{readForm}
@@ -47,15 +48,20 @@ spared-both : (n : ℕ) (cs ds : List Check) → Spared n cs → Spared n ds →
 spared-both n [] ds p q = q
 spared-both n (c ∷ cs) ds p q = (p .0, spared-both n cs ds (p .1) q)
 
-own-spared : (n : ℕ) → 11 < n → (cs : List Check) → own cs ≡ true → Spared n cs
-own-spared n h [] e = tt
-own-spared n h (c ∷ cs) e =
-    let f = both (within 2 11 (c .number)) (own cs) e in
-    (λ i. absurd (omega (arith, leb-true (c .number) 11 (both (leb 2 (c .number)) _ (f .0) .1))), own-spared n h cs (f .1))
+own-spared : (n : ℕ) → 11 < n → n < 15 → (cs : List Check) → own cs ≡ true → Spared n cs
+own-spared n h k [] e = tt
+own-spared n h k (c ∷ cs) e =
+    let f = both (within 2 11 (c .number) || eqb (c .number) 15) (own cs) e in (
+      λ i. absurd
+          (or-split (within 2 11 (c .number)) (eqb (c .number) 15) (f .0)
+          (λ q. omega (arith, leb-true (c .number) 11 (both (leb 2 (c .number)) _ q .1)))
+          (λ q. omega (arith, eqb-true (c .number) 15 q))),
+      own-spared n h k cs (f .1),
+    )
 
 -- a form's own checks, and the last one
-last-spared : (n room : ℕ) (w : Work) → 11 < n → own (w .checks) ≡ true → (areaShort ≡ n → ltb room (length (w .text)) ≡ false) → Spared n (checksIn room w)
-last-spared n room w h e f = spared-both n (w .checks) (areaCheck room (length (w .text)) ∷ []) (own-spared n h (w .checks) e) (f, tt)
+last-spared : (n room : ℕ) (w : Work) → 11 < n → n < 15 → own (w .checks) ≡ true → (areaShort ≡ n → ltb room (length (w .text)) ≡ false) → Spared n (checksIn room w)
+last-spared n room w h k e f = spared-both n (w .checks) (areaCheck room (length (w .text)) ∷ []) (own-spared n h k (w .checks) e) (f, tt)
 
 module _ (s t line : List ℕ) (room : ℕ) (ok : storeOk s t ≡ true) where
   own-work : own (lineWork s t line .checks) ≡ true
@@ -76,7 +82,7 @@ module _ (s t line : List ℕ) (room : ℕ) (ok : storeOk s t ≡ true) where
             λ e. absurd (omega arith),
             (
               λ e. absurd (omega arith),
-              last-spared badStore room (lineWork s t line) (omega arith) own-work (λ e. absurd (omega arith)),
+              last-spared badStore room (lineWork s t line) (omega arith) (omega arith) own-work (λ e. absurd (omega arith)),
             ),
           ),
         ),
@@ -93,7 +99,7 @@ module _ (s t line : List ℕ) (room : ℕ) (ok : storeOk s t ≡ true) where
             λ e. absurd (omega arith),
             (
               λ e. absurd (omega arith),
-              last-spared areaShort room (lineWork s t line) (omega arith) own-work (λ e. fits),
+              last-spared areaShort room (lineWork s t line) (omega arith) (omega arith) own-work (λ e. fits),
             ),
           ),
         ),

@@ -6,7 +6,7 @@ use mathlib.Core.List.{List, [], _∷_, map}
 use lib.ListN.{drop}
 use Rattle.guarantee.specs.Alike.{Input, outcome}
 use Rattle.guarantee.specs.Cases.{replies, newState, newTable, input, Case, CaseAnswered, Starred}
-use Rattle.guarantee.specs.Cases.{exampleAnswered, exampleRenamed, bracketHolds, bracketCounts, noRules, rootRemoved, lessonRemoved, levels, fewRecords, hiddenChild, wordsOfOthers, ReadRight, firstRoom, doorSheet, formTutor, eitherCase, CardsAnswered}
+use Rattle.guarantee.specs.Cases.{exampleAnswered, exampleRenamed, bracketHolds, bracketCounts, noRules, rootRemoved, lessonRemoved, levels, fewRecords, hiddenChild, wordsOfOthers, ReadRight, firstRoom, doorSheet, formTutor, eitherCase, oneTerm, untilFirstOfMay, untilYearsEnd, DayTold, CardsAnswered}
 use Rattle.rights.specs.Bytes.{digitByte, run, all, every}
 use Rattle.rights.specs.Labels.{labelByte, folded, sameLabel}
 use Rattle.rights.specs.Path.{passes}
@@ -29,7 +29,7 @@ use Rattle.answers.specs.Answer.{hitLines, childLines, viewText}
 use Rattle.answers.specs.Sheet.{cell, days, labelled, lesson, rowText, headRow, row, sheetText}
 use Rattle.forms.specs.Word.{sameText, among, signAt, rightAt}
 use Rattle.forms.specs.Layout.{wordAt}
-use Rattle.forms.specs.Part.{pathByte, labelEnd, runEnd, knownEnd}
+use Rattle.forms.specs.Part.{pathByte, labelEnd, dayEnd, dayAt, runEnd, knownEnd}
 use Rattle.forms.specs.Tree.{openEnd, tailEnd, treeEnd, tailNodes, treeNodes, recordsOf}
 use Rattle.forms.specs.Form.{partsOf, endsIn, readForm}
 use Rattle.lines.specs.PolicyEdit.{subjectFrom, subjectNamed, isaHeld, bracketed, hasBracket, stepList, stepsIn, pathRestricted, stepRecords, withLine}
@@ -75,7 +75,7 @@ small-passes = refl
 
 -- what the lines of a row give from a new store, where 13 is not computed
 unfoldable pub given : Case → List Reply
-unfolding passedReplies passed digitByte run all labelByte sameLabel passes readTest readStep numberOf isPosition readPosition closes readBrackets readSteps unslashed brackets steps pathOf decimal writeTest some passesOwn policyWord testOf namesFrom isaFrom stepsFrom rulesFrom policyOf recordOf isBy reaches decide rightsBy chains levelAt labelAt filter withNumber each stretch nodeSet filtered xpathSelected recordsFrom storedFrom atParent nearestFirst shownAfter keep eachFrom dropBelow putBehind remove insertBehind rename chunks raise join changed deepest tooDeep inTable hitLines childLines viewText sameText among wordAt signAt rightAt pathByte labelEnd openEnd tailEnd treeEnd tailNodes treeNodes recordsOf partsOf endsIn readForm subjectFrom subjectNamed isaHeld bracketed hasBracket stepList stepsIn pathRestricted stepRecords withLine lineByte lineOk checked performed treeRestricted folded padded standsFor subjectsWhere runEnd knownEnd cell days labelled lesson rowText headRow row sheetText
+unfolding passedReplies passed digitByte run all labelByte sameLabel passes readTest readStep numberOf isPosition readPosition closes readBrackets readSteps unslashed brackets steps pathOf decimal writeTest some passesOwn policyWord testOf namesFrom isaFrom stepsFrom rulesFrom policyOf recordOf isBy reaches decide rightsBy chains levelAt labelAt filter withNumber each stretch nodeSet filtered xpathSelected recordsFrom storedFrom atParent nearestFirst shownAfter keep eachFrom dropBelow putBehind remove insertBehind rename chunks raise join changed deepest tooDeep inTable hitLines childLines viewText sameText among wordAt signAt rightAt pathByte labelEnd dayEnd dayAt openEnd tailEnd treeEnd tailNodes treeNodes recordsOf partsOf endsIn readForm subjectFrom subjectNamed isaHeld bracketed hasBracket stepList stepsIn pathRestricted stepRecords withLine lineByte lineOk checked performed treeRestricted folded padded standsFor subjectsWhere runEnd knownEnd cell days labelled lesson rowText headRow row sheetText
 given c = passedReplies newState (newTable (c .capacity)) (map input (c .turns))
 
 abbrev Gives : Case → Type 0
@@ -172,10 +172,26 @@ either-case : Gives eitherCase
 unfolding given
 either-case = refl
 
+one-term : Gives oneTerm
+unfolding given
+one-term = refl
+
+until-first-of-may : Gives untilFirstOfMay
+unfolding given
+until-first-of-may = refl
+
+until-years-end : Gives untilYearsEnd
+unfolding given
+until-years-end = refl
+
+pub day-told : DayTold
+day-told = answered untilFirstOfMay small-passes until-first-of-may and answered untilYearsEnd small-passes until-years-end and tt
+
 pub cards-answered : CardsAnswered
 cards-answered =
     answered firstRoom small-passes first-room
     and answered doorSheet new-passes door-sheet
     and answered formTutor small-passes form-tutor
     and answered eitherCase small-passes either-case
+    and answered oneTerm small-passes one-term
     and tt

@@ -1,7 +1,7 @@
 -- Demand 3, its first sentence (document 01, "What demand 3 compares"; specs/Demand3.antt): two stores that look the same to a reader give the same answers to every
 -- list of lines, and look the same after each. Assumes nothing.
-use Prim.Native.Nat.{ℕ, _≤_, _<_}
-use mathlib.Core.Path.{_≡_, refl, ap, sym, _∙_, subst}
+use Prim.Native.Nat.{ℕ, suc, _≤_, _<_}
+use mathlib.Core.Path.{_≡_, refl, ap, ap₂, sym, _∙_, subst}
 use mathlib.Core.Bool.{true}
 use mathlib.Core.List.{List, [], _∷_}
 use mathlib.Core.Logic.{_⊎_, inl, inr}
@@ -17,7 +17,7 @@ use Rattle.views.specs.Nodes.{Nested}
 use Rattle.views.specs.Shown.{Stored, stored, shown, view}
 use Rattle.answers.specs.Answer.{okText}
 use Rattle.lines.specs.PolicyEdit.{subjectNamed}
-use Rattle.lines.specs.State.{stageC, stageE, stage, policyIn, storeOk}
+use Rattle.lines.specs.State.{stageC, stageE, stage, dayIn, policyIn, storeOk}
 use Rattle.lines.specs.Effect.{performed}
 use Rattle.lines.specs.Outcome.{Reply, says, refuses, Outcome, answerOf, areaAfter, Made}
 use Rattle.lines.specs.declared.line.Answer.the-variants as answer
@@ -27,7 +27,7 @@ use Rattle.lines.specs.Clause.{workOf}
 use Rattle.store.specs.Line.{inStage, step}
 use Rattle.lines.specs.declared.policy_edit.Found.the-variants as found
 use Rattle.rights.proofs.LabelLaws.{same-self as label-self}
-use Rattle.lines.proofs.StateLaws.{store-held}
+use Rattle.lines.proofs.StateLaws.{store-held, day-logged}
 use Rattle.guarantee.specs.Alike.{SamePolicy, shownTo, Behind, Alike, UserIs, Input, outcome, LogsIn}
 use Rattle.guarantee.specs.Demand3.{Call, Promised, SameAnswer, AnswersAlike}
 use Rattle.guarantee.proofs.SamePolicy.{same-named, same-rights-on}
@@ -43,22 +43,22 @@ store-nested s t e = table-nested t (store-held s t e .table)
 
 -- The two suppositions are the equality of the low projections, for a declared reader.
 module _ (u : ℕ) (s t s' t' : List ℕ) (declared : u < length (policyIn s .names)) where
-  pub alike-low : Alike u s t s' t' → lowOf (policyIn s) u (records t) ≡ lowOf (policyIn s) u (records t')
+  pub alike-low : Alike u s t s' t' → lowOf (policyIn s) u (dayIn s) (records t) ≡ lowOf (policyIn s) u (dayIn s) (records t')
   alike-low a =
       let r = same-rights-on (policyIn s) (policyIn s') (a .start .policy) u (records t') in
-      low-of-alike (policyIn s) u declared (records t) (records t') (store-nested s t (a .start .passes)) (store-nested s' t' (a .start .passes'))
-      (a .looks ∙ sym (ap (λ ss. view (stored t' ss)) r))
-      (subst (λ ss. Behind (policyIn s) (shownTo u s t) (keep (shown (stored t' ss)) (stored t' ss))) (sym r) (a .behind))
+      low-of-alike (policyIn s) u (dayIn s) declared (records t) (records t') (store-nested s t (a .start .passes)) (store-nested s' t' (a .start .passes'))
+      (a .looks ∙ sym (ap₂ (λ d ss. view (stored d t' ss)) (a .start .day) r))
+      (subst (λ xs. Behind (policyIn s) (shownTo u s t) (keep (shown xs) xs)) (sym (ap₂ (λ d ss. stored d t' ss) (a .start .day) r)) (a .behind))
 
-  pub low-alike : storeOk s t ≡ true → storeOk s' t' ≡ true → stageC ≤ stage s → stageC ≤ stage s' → SamePolicy (policyIn s) (policyIn s')
-      → lowOf (policyIn s) u (records t) ≡ lowOf (policyIn s) u (records t') → Alike u s t s' t'
-  low-alike ok ok' g g' p e =
+  pub low-alike : storeOk s t ≡ true → storeOk s' t' ≡ true → stageC ≤ stage s → stageC ≤ stage s' → SamePolicy (policyIn s) (policyIn s') → dayIn s ≡ dayIn s'
+      → lowOf (policyIn s) u (dayIn s) (records t) ≡ lowOf (policyIn s) u (dayIn s) (records t') → Alike u s t s' t'
+  low-alike ok ok' g g' p today e =
       let r = same-rights-on (policyIn s) (policyIn s') p u (records t') in
-      let b = alike-of-low (policyIn s) u declared (records t) (records t') (store-nested s t ok) (store-nested s' t' ok') e in
+      let b = alike-of-low (policyIn s) u (dayIn s) declared (records t) (records t') (store-nested s t ok) (store-nested s' t' ok') e in
       record {
-        start = record { passes = ok; passes' = ok'; rooted = g; rooted' = g'; policy = p };
-        looks = b .0 ∙ ap (λ ss. view (stored t' ss)) r;
-        behind = subst (λ ss. Behind (policyIn s) (shownTo u s t) (keep (shown (stored t' ss)) (stored t' ss))) r (b .1);
+        start = record { passes = ok; passes' = ok'; rooted = g; rooted' = g'; policy = p; day = today };
+        looks = b .0 ∙ ap₂ (λ d ss. view (stored d t' ss)) today r;
+        behind = subst (λ xs. Behind (policyIn s) (shownTo u s t) (keep (shown xs) xs)) (ap₂ (λ d ss. stored d t' ss) today r) (b .1);
       }
 
 -- A store with the root line taken is alike to itself, for every reader.
@@ -68,7 +68,7 @@ behind-self P (x ∷ xs) = ((λ a b. inl (label-self (label (x .bytes)))), behin
 
 pub alike-self : (u : ℕ) (s t : List ℕ) → storeOk s t ≡ true → stageC ≤ stage s → Alike u s t s t
 alike-self u s t ok g = record {
-  start = record { passes = ok; passes' = ok; rooted = g; rooted' = g; policy = same-self (policyIn s) };
+  start = record { passes = ok; passes' = ok; rooted = g; rooted' = g; policy = same-self (policyIn s); day = refl };
   looks = refl;
   behind = behind-self (policyIn s) (shownTo u s t);
 }
@@ -78,10 +78,11 @@ module _ (u : ℕ) (s t s' t' : List ℕ) (a : Alike u s t s' t') (i : Input) wh
   abbrev Next : Type 0
   Next = Alike u (outcome s t i .state) (outcome s t i .table) (outcome s' t' i .state) (outcome s' t' i .table)
 
-  -- a line that leaves the low projections equal leaves the stores alike
+  -- a line that leaves the low projections and the days equal leaves the stores alike, if the day is what it was
   next-alike : u < length (policyIn s .names)
-      → lowOf (policyIn s) u (records (outcome s t i .table)) ≡ lowOf (policyIn s) u (records (outcome s' t' i .table)) → Next
-  next-alike d e =
+      → lowOf (policyIn s) u (dayIn s) (records (outcome s t i .table)) ≡ lowOf (policyIn s) u (dayIn s) (records (outcome s' t' i .table))
+      → dayIn (outcome s t i .state) ≡ dayIn (outcome s' t' i .state) → dayIn (outcome s t i .state) ≡ dayIn s → Next
+  next-alike d e both-days stays =
       let k : policyIn (outcome s t i .state) ≡ policyIn s = ap policyOf (policy-kept s t (i .line) (i .room) (a .start .rooted)) in
       let k' : policyIn (outcome s' t' i .state) ≡ policyIn s' = ap policyOf (policy-kept s' t' (i .line) (i .room) (a .start .rooted')) in
       low-alike u (outcome s t i .state) (outcome s t i .table) (outcome s' t' i .state) (outcome s' t' i .table)
@@ -91,7 +92,8 @@ module _ (u : ℕ) (s t s' t' : List ℕ) (a : Alike u s t s' t') (i : Input) wh
       (rooted-kept s t (i .line) (i .room) (a .start .rooted))
       (rooted-kept s' t' (i .line) (i .room) (a .start .rooted'))
       (subst (λ (P : Policy). SamePolicy P (policyIn (outcome s' t' i .state))) (sym k) (subst (λ (Q : Policy). SamePolicy (policyIn s) Q) (sym k') (a .start .policy)))
-      (subst (λ (P : Policy). lowOf P u (records (outcome s t i .table)) ≡ lowOf P u (records (outcome s' t' i .table))) (sym k) e)
+      both-days
+      (rw (k, stays) e)
 
   -- the other run logs in the subject that this one does
   logs-too : outcome s t i .reply ≡ outcome s' t' i .reply → (v : ℕ)
@@ -107,7 +109,7 @@ module _ (u : ℕ) (s t s' t' : List ℕ) (a : Alike u s t s' t') (i : Input) wh
   -- A line of the user u
   pub record Goes : Type 0 where
     pub reply : outcome s t i .reply ≡ outcome s' t' i .reply
-    pub alike : Next
+    pub alike : dayIn (outcome s t i .state) ≡ dayIn s → Next
     pub user : UserIs u (outcome s t i .state)
     pub user' : UserIs u (outcome s' t' i .state)
 
@@ -115,11 +117,11 @@ module _ (u : ℕ) (s t s' t' : List ℕ) (a : Alike u s t s' t') (i : Input) wh
       → (outcome s t i .reply ≡ refuses tableFull → ⊥) → (outcome s' t' i .reply ≡ refuses tableFull → ⊥) → Goes
   user-line w w' other full full' =
       let d = user-declared u s t (a .start .passes) w in
-      let tied : Tied u s t s' t' = record { passes = a .start .passes; passes' = a .start .passes'; user = w; user' = w'; policy = a .start .policy; low = alike-low u s t s' t' d a } in
+      let tied : Tied u s t s' t' = record { passes = a .start .passes; passes' = a .start .passes'; user = w; user' = w'; policy = a .start .policy; day = a .start .day; low = alike-low u s t s' t' d a } in
       let m = match-step u s t s' t' tied (i .room) (i .line) full full' in
       record {
         reply = m .reply;
-        alike = next-alike d (m .low);
+        alike = next-alike d (m .low) (m .today);
         user = user-is-kept s t (i .line) (i .room) u w other;
         user' = user-is-kept s' t' (i .line) (i .room) u w' (λ v l. other v (logs-too (m .reply) v l));
       }
@@ -155,11 +157,14 @@ module _ (u : ℕ) (s t s' t' : List ℕ) (a : Alike u s t s' t') (i : Input) wh
       let k : policyIn (outcome s t i .state) ≡ policyIn s = ap policyOf (policy-kept s t (i .line) (i .room) (a .start .rooted)) in
       let n = user-declared u (outcome s t i .state) (outcome s t i .table) (store-kept s t (i .line) (i .room) (a .start .passes)) w in
       let d : u < length (policyIn s .names) = subst (λ (P : Policy). u < length (P .names)) k n in
-      let z = logged-in s t (i .line) (i .room) u l .1 in
-      let z' = logged-in s' t' (i .line) (i .room) u l' .1 in
+      let z = logged-in s t (i .line) (i .room) u l in
+      let z' = logged-in s' t' (i .line) (i .room) u l' in
       record {
         reply = said ∙ sym e;
-        alike = next-alike d (ap (λ x. lowOf (policyIn s) u (records x)) z ∙ alike-low u s t s' t' d a ∙ sym (ap (λ x. lowOf (policyIn s) u (records x)) z'));
+        alike =
+            next-alike d
+            (ap (λ x. lowOf (policyIn s) u (dayIn s) (records x)) (z .1) ∙ alike-low u s t s' t' d a ∙ sym (ap (λ x. lowOf (policyIn s) u (dayIn s) (records x)) (z' .1)))
+            (ap dayIn (z .0) ∙ day-logged s 4 (suc u) ∙ a .start .day ∙ sym (ap dayIn (z' .0) ∙ day-logged s' 4 (suc u)));
         user = w;
         user' = user-is-logged s' t' (i .line) (i .room) u l';
       }
@@ -190,7 +195,7 @@ module _ (u : ℕ) (s t s' t' : List ℕ) (a : Alike u s t s' t') (c d : Call) (
 
   pub record CallsAlike : Type 0 where
     pub answer : SameAnswer c d
-    pub alike : Alike u (c .state) (c .table) (d .state) (d .table)
+    pub alike : dayIn (c .state) ≡ dayIn s → Alike u (c .state) (c .table) (d .state) (d .table)
     pub user : UserIs u (c .state)
     pub user' : UserIs u (d .state)
 
@@ -220,5 +225,9 @@ pub answers-alike : AnswersAlike
 answers-alike u s t s' t' a [] ds r r' e b = tt
 answers-alike u s t s' t' a (c ∷ cs) [] r r' e b = tt
 answers-alike u s t s' t' a (c ∷ cs) (d ∷ ds) r r' e b = λ other full full'.
-    let g = calls-alike u s t s' t' a c d (r .0) (r' .0) (e .0) (e .1) b other full full' in
-    (g .answer, g .alike, (g .user, g .user'), answers-alike u (c .state) (c .table) (d .state) (d .table) (g .alike) cs ds (r .1) (r' .1) (e .2) (inl (g .user, g .user')))
+    let g = calls-alike u s t s' t' a c d (r .0) (r' .0) (e .0) (e .1) b other full full' in (
+      g .answer,
+      λ stays.
+          let a' = g .alike stays in
+          (a', (g .user, g .user'), answers-alike u (c .state) (c .table) (d .state) (d .table) a' cs ds (r .1) (r' .1) (e .2) (inl (g .user, g .user'))),
+    )

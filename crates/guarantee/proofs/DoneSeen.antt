@@ -18,7 +18,7 @@ use Rattle.rights.specs.Marks.{eachFrom}
 use Rattle.views.specs.Shown.{atParent, nearestFirst}
 use Rattle.views.specs.How.Numbers.{isShownAt}
 use Rattle.views.specs.declared.done.Change.{Change}
-use Rattle.views.specs.declared.done.Change.the-variants.{Rename, Update, Append, Before, After, Remove}
+use Rattle.views.specs.declared.done.Change.the-variants.{Rename, Update, Append, Before, After, Remove, Window}
 use Rattle.guarantee.proofs.Scan.{seen, spread, shown-level}
 
 -- what a change asks of a node, its parent apart
@@ -94,6 +94,7 @@ not-done Append x a b e f = rw f
 not-done Before x a b e f = rw f
 not-done After x a b e f = rw f
 not-done Remove x a b e f = rw f
+not-done Window x a b e f = rw f
 
 -- two lists of nodes before have the same parent for every node of a level up to d
 abbrev Agree : ℕ → List (ℕ × Bool) → List (ℕ × Bool) → Type 0

@@ -1,5 +1,5 @@
 -- Each form of a line: where its checks pass its effect is sound; on two stores that are alike to the user its work is alike; its own checks have the numbers 2 to
--- 11, and its answer has room. All go by form, in one law with one clause a form; all else that is said of a line goes by its effect. Assumes nothing.
+-- 11 and 15, and its answer has room. All go by form, in one law with one clause a form; all else that is said of a line goes by its effect. Assumes nothing.
 use Prim.Native.Nat.{ℕ, _+_, _≤_}
 use mathlib.Core.Path.{_≡_, refl, ap, ap₂, subst}
 use mathlib.Core.Bool.{Bool, true, false, _||_, false≢true}
@@ -23,11 +23,11 @@ use Rattle.forms.specs.Layout.{stageOf, shapeOf}
 use Rattle.forms.specs.Form.{AllHeld, ReadForm, noForm, readForm}
 use Rattle.forms.specs.Tree.{recordsOf}
 use Rattle.lines.specs.PolicyEdit.{subjectNamed, isUnknown, numberIn}
-use Rattle.lines.specs.State.{stageE, stage, policyIn, storeOk}
+use Rattle.lines.specs.State.{stageE, stage, dayIn, policyIn, storeOk}
 use Rattle.lines.specs.Effect.{login, Work}
 use Rattle.lines.specs.Refusal.{check, Passed}
 use Rattle.lines.specs.UserView.{noUser, doneIn}
-use Rattle.lines.specs.Work.{changeAt, answerTo, onView, workUser, workView, workAsk, workRename, workInsert, workRemove, workSheet}
+use Rattle.lines.specs.Work.{changeAt, answerTo, onView, workUser, workView, workAsk, workRename, workInsert, workRemove, workSheet, workDay, workWindow}
 use Rattle.lines.specs.declared.queries.Ask.{Ask}
 use Rattle.lines.specs.declared.queries.Ask.the-variants as ask
 use Rattle.lines.specs.Clause.{workOf}
@@ -36,8 +36,8 @@ use Rattle.store.proofs.FormParts.{AllFit, form-fits}
 use Rattle.guarantee.proofs.AnswerMost.{Room, ok-most, count-most, shows-most, ask-most, sheet-most, own}
 use Rattle.guarantee.proofs.SamePolicy.{same-named, same-word}
 use Rattle.guarantee.proofs.Sound.{EffectSound}
-use Rattle.guarantee.proofs.FormSound.{rename-frees, update-frees, subject-sound, isa-sound, rule-sound, root-sound, child-sound, user-sound, rename-sound, insert-sound, remove-sound}
-use Rattle.guarantee.proofs.LineAlike.{Tied, CheckAlike, ChecksAlike, EffectAlike, readings, logins, insertions, renamings, removals, WorkAlike, user-both, view-both, marks-both, text-both, deep-both, done-both}
+use Rattle.guarantee.proofs.FormSound.{rename-frees, update-frees, subject-sound, isa-sound, rule-sound, root-sound, child-sound, user-sound, rename-sound, insert-sound, remove-sound, day-sound, window-sound}
+use Rattle.guarantee.proofs.LineAlike.{Tied, CheckAlike, ChecksAlike, EffectAlike, readings, logins, datings, insertions, renamings, removals, redatings, WorkAlike, user-both, view-both, marks-both, text-both, deep-both, done-both}
 
 -- The works of the user's forms on two stores that are alike
 
@@ -46,7 +46,7 @@ same n b = (refl, inl refl)
 
 module _ (u : ℕ) (s t s' t' : List ℕ) (h : Tied u s t s' t') where
   abbrev Alike : Work → Work → Type 0
-  Alike w w' = WorkAlike (policyIn s) u t t' w w'
+  Alike w w' = WorkAlike (policyIn s) u (dayIn s) t t' w w'
 
   has-user : (n : ℕ) → CheckAlike (check n (noUser s)) (check n (noUser s'))
   has-user n = (refl, inl (user-both u s t s' t' h))
@@ -59,7 +59,7 @@ module _ (u : ℕ) (s t s' t' : List ℕ) (h : Tied u s t s' t') where
         checks = ((refl, inl (ap isUnknown q)), tt);
         text = refl;
         effect =
-            subst (λ f. EffectAlike (policyIn s) u t t' (login (numberIn (subjectNamed (policyIn s) name))) (login (numberIn f))) q
+            subst (λ f. EffectAlike (policyIn s) u (dayIn s) t t' (login (numberIn (subjectNamed (policyIn s) name))) (login (numberIn f))) q
             (logins (numberIn (subjectNamed (policyIn s) name)));
       }
 
@@ -107,6 +107,18 @@ module _ (u : ℕ) (s t s' t' : List ℕ) (h : Tied u s t s' t') where
     effect = removals (doneIn change.Remove s t path) (doneIn change.Remove s' t' path) (done-both u s t s' t' h change.Remove path);
   }
 
+  day-alike : (d : ℕ) → Alike (workDay d) (workDay d)
+  unfolding ChecksAlike
+  day-alike d = record { checks = (same _ _, tt); text = refl; effect = datings d }
+
+  window-alike : (path : List ℕ) (f l : ℕ) → Alike (workWindow s t path f l) (workWindow s' t' path f l)
+  unfolding ChecksAlike
+  window-alike path f l = record {
+    checks = (same _ _, (has-user _, (same _ _, tt)));
+    text = text-both u s t s' t' h change.Window path;
+    effect = redatings f l (doneIn change.Window s t path) (doneIn change.Window s' t' path) (done-both u s t s' t' h change.Window path);
+  }
+
   none-alike : Alike (workOf noForm s t) (workOf noForm s' t')
   unfolding ChecksAlike
   none-alike = record { checks = (same _ _, tt); text = refl; effect = readings }
@@ -115,13 +127,14 @@ module _ (u : ℕ) (s t s' t' : List ℕ) (h : Tied u s t s' t') where
 
 pub record FormLaw (f : ReadForm) : Type 0 where
   pub sound : (s t : List ℕ) → storeOk s t ≡ true → inStage (stageOf (f .word)) (stage s) ≡ true → Passed (workOf f s t .checks) → EffectSound f s t (workOf f s t .effect)
-  pub alike : (u : ℕ) (s t s' t' : List ℕ) → Tied u s t s' t' → inStage (stageOf (f .word)) stageE ≡ true → WorkAlike (policyIn s) u t t' (workOf f s t) (workOf f s' t')
+  pub alike : (u : ℕ) (s t s' t' : List ℕ) → Tied u s t s' t' → inStage (stageOf (f .word)) stageE ≡ true
+      → WorkAlike (policyIn s) u (dayIn s) t t' (workOf f s t) (workOf f s' t')
   pub own : (s t : List ℕ) → own (workOf f s t .checks) ≡ true
   pub most : (s t : List ℕ) → storeOk s t ≡ true → (n : ℕ) → Room t n → length (workOf f s t .text) ≤ n
 
 module _ (line : List ℕ) where
   -- the lines before stage E are out of a user's reach
-  early : {P : Policy} {u : ℕ} {t t' : List ℕ} {w w' : Work} → false ≡ true → WorkAlike P u t t' w w'
+  early : {P : Policy} {u d : ℕ} {t t' : List ℕ} {w w' : Work} → false ≡ true → WorkAlike P u d t t' w w'
   early i = absurd (false≢true i)
 
   form-law : (w : Word) (ps : AllHeld (shapeOf w)) → AllFit line (shapeOf w) ps → FormLaw (record { word = w; parts = ps })
@@ -220,6 +233,18 @@ module _ (line : List ℕ) where
     alike = λ u s t s' t' h i. sheet-alike u s t s' t' h l;
     own = λ s t. refl;
     most = λ s t ok. sheet-most s t l;
+  }
+  form-law word.Day (d, tt) w = record {
+    sound = λ s t ok i p. day-sound s t ok d i p;
+    alike = λ u s t s' t' h i. day-alike u s t s' t' h d;
+    own = λ s t. refl;
+    most = λ s t ok. ok-most t;
+  }
+  form-law word.Window (p, (f, (l, tt))) w = record {
+    sound = λ s t ok i q. window-sound s t ok p f l i q;
+    alike = λ u s t s' t' h i. window-alike u s t s' t' h p f l;
+    own = λ s t. refl;
+    most = λ s t ok. count-most s t ok change.Window p;
   }
   form-law word.Other tt w = record {
     sound = λ s t ok i p. tt;

@@ -6,7 +6,7 @@ use mathlib.Core.List.{List, [], _∷_}
 use native.Mathlib.Omega.{arith}
 use borrow.Author.Tests.{eq-eqb, ne-eqb, leb-true, leb-false, not-true, not-false}
 use lib.Dec.{leb, ltb, eqb}
-use lib.ListN.{length, getD}
+use lib.ListN.{length, getD, drop}
 use Rattle.rights.specs.Labels.{sameLabel, restricted}
 use Rattle.rights.specs.Path.{Path}
 use Rattle.rights.specs.PathReader.{Got, got, bad, pathOf}
@@ -15,21 +15,22 @@ use Rattle.rights.specs.PolicyBytes.{subjectCount, isaCount, ruleCount, subject
 use Rattle.rights.specs.PolicyCheck.{bitOk}
 use Rattle.rights.specs.Record.{nameRecord}
 use Rattle.rights.specs.Rights.{holds}
-use Rattle.rights.specs.Table.{count, records, recordsFrom, recordAt, recordOk, recordsOk, level, label, tableOk}
-use Rattle.rights.proofs.TableLaws.{both}
+use Rattle.rights.specs.Table.{count, records, recordsFrom, recordAt, recordOk, recordsOk, level, label, dayOk, windowOk, tableOk}
+use Rattle.rights.proofs.TableLaws.{both, sound}
 use Rattle.rights.proofs.RecordOfLaws.{length-name}
 use Rattle.rights.proofs.XPathLists.{or-right}
 use Rattle.views.specs.Change.{lower, hasRoom}
 use Rattle.views.specs.Done.{Asked, isRoot, renamable, does, askedOf}
 use Rattle.rights.specs.Marks.{bit, eachFrom}
 use Rattle.rights.specs.Nodes.{Node}
+use Rattle.views.specs.Nodes.{All}
 use Rattle.views.specs.How.Pass.{AtDone}
 use Rattle.views.specs.declared.done.Change.{Change}
 use Rattle.views.specs.declared.done.Change.the-variants as change
 use Rattle.views.specs.declared.insert.Place.{Place}
 use Rattle.views.specs.declared.insert.Place.the-variants as place
 use Rattle.views.proofs.TableLaws.{facts}
-use Rattle.views.proofs.TableKept.{loosen}
+use Rattle.views.proofs.TableKept.{loosen, records-kept}
 use Rattle.forms.specs.declared.layout.Word.the-variants as word
 use Rattle.forms.specs.Tree.{recordsOf}
 use Rattle.forms.specs.TreeText.{GoodLabel}
@@ -39,7 +40,7 @@ use Rattle.lines.specs.State.{stageD, stage, policyBytes, policyIn, storeOk}
 use Rattle.lines.specs.Refusal.{Passed}
 use Rattle.views.specs.Shown.{shown}
 use Rattle.lines.specs.UserView.{rightsIn, storedIn, notPath, selectedIn, doneIn}
-use Rattle.lines.specs.Work.{treeRestricted, rootAlone, changeAt, insertChecks, workSubject, workIsa, workRule, workRoot, workChild, workUser, workRename, workInsert}
+use Rattle.lines.specs.Work.{treeRestricted, rootAlone, changeAt, insertChecks, workSubject, workIsa, workRule, workRoot, workChild, workUser, workRename, workInsert, workDay, workWindow}
 use Rattle.lines.specs.declared.policy_edit.Found.{Found}
 use Rattle.lines.specs.declared.policy_edit.Found.the-variants as found
 use Rattle.lines.proofs.EditBytes.{line-byte}
@@ -53,7 +54,7 @@ use Rattle.lines.proofs.StoredSteps.{or-none}
 use Rattle.store.specs.Line.{inStage}
 use Rattle.store.proofs.FormParts.{TreePart}
 use Rattle.store.proofs.TreeNodesLaws.{label-ok}
-use Rattle.guarantee.proofs.Sound.{NoWord, PolicySound, RootSound, InsertSound, RenameSound, RemoveSound, LoginSound}
+use Rattle.guarantee.proofs.Sound.{NoWord, Whole, PolicySound, RootSound, InsertSound, RenameSound, RemoveSound, RedateSound, LoginSound, DaySound}
 use Rattle.guarantee.proofs.TreeRecords.{tree-ok}
 
 -- The stages in which a form is taken
@@ -104,6 +105,9 @@ Spares c = (a : Asked) → isRoot a ≡ true → does c a ≡ false
 spares-remove : Spares change.Remove
 spares-remove a e = simp (e, and-false)
 
+spares-window : Spares change.Window
+spares-window a e = simp (e, and-false)
+
 spares-beside : (at : Place) → lower at ≡ 0 → Spares (changeAt at)
 spares-beside place.Append h a e = absurd (omega (arith, h))
 spares-beside place.After h a e = simp (e, and-false)
@@ -150,6 +154,21 @@ each-free c r P t ss bs ms (suc n) i = ((λ d. r (askedOf (policyWord P) t ss bs
 
 done-free : (c : Change) → Frees c → (s t path : List ℕ) → AtDone (NoWord (policyIn s)) (doneIn c s t path) (records t)
 done-free c r s t path = each-free c r (policyIn s) t (rightsIn s t) (shown (storedIn s t)) (selectedIn s t path) (count t) 0
+
+-- each record of a table is whole
+all-whole : (low high : ℕ) (rs : List (List ℕ)) → recordsOk low high rs ≡ true → All (λ r. length r ≡ 32) rs → All Whole rs
+unfolding recordsOk
+all-whole low high [] e a = tt
+all-whole low high (r ∷ rs) e a =
+    let f = both (recordOk low high r) (recordsOk 1 (level r + 1) rs) e in
+    ((a .0, sound low high r (f .0) .short-label), all-whole 1 (level r + 1) rs (f .1) (a .1))
+
+records-whole : (t : List ℕ) → tableOk t ≡ true → All Whole (records t)
+records-whole t ok = let k = records-kept t ok in all-whole 0 0 (records t) (k .0) (k .1)
+
+all-done : (Q : List ℕ → Type 0) (ms : List Bool) (rs : List (List ℕ)) → All Q rs → AtDone Q ms rs
+all-done Q ms [] a = tt
+all-done Q ms (r ∷ rs) a = ((λ e. a .0), all-done Q (drop 1 ms) rs (a .1))
 
 -- Each form
 
@@ -250,6 +269,17 @@ module _ (s t : List ℕ) (ok : storeOk s t ≡ true) where
       let k = behind-root 4 (stage s) refl i in
       inserted line at (doneIn (changeAt at) s t path) ns (stage s) k k (held .stages) refl w
       (λ e. root-spared (changeAt at) (spares-beside at e) s t path (held .table)) (p .1 .1 .0) (p .1 .1 .1)
+
+  pub day-sound : (d : ℕ) → inStage 4 (stage s) ≡ true → Passed (workDay d .checks) → DaySound s d
+  day-sound d i p = record { rooted = behind-root 4 (stage s) refl i; day = not-false (dayOk d) (p .0) }
+
+  pub window-sound : (p : List ℕ) (f l : ℕ) → inStage 4 (stage s) ≡ true → Passed (workWindow s t p f l .checks) → RedateSound s t f l (doneIn change.Window s t p)
+  window-sound p f l i q = record {
+    rooted = behind-root 4 (stage s) refl i;
+    window = not-false (windowOk f l) (q .1 .1 .0);
+    spared = root-spared change.Window spares-window s t p (held .table);
+    whole = all-done Whole (doneIn change.Window s t p) (records t) (records-whole t (held .table));
+  }
 
   pub remove-sound : (p : List ℕ) → inStage 4 (stage s) ≡ true → RemoveSound (formOf (command word.Remove (p, tt))) s t (doneIn change.Remove s t p)
   remove-sound p i = record {

@@ -8,7 +8,7 @@ use mathlib.Core.List.{List, [], _∷_, _++_, map, Sublistᴰ, Sublistᴰ·slnil
 use mathlib.Core.Option.{Option, none, some}
 use native.Mathlib.Omega.{arith}
 use Rattle.rights.specs.Table.{records, level}
-use Rattle.views.specs.Change.{chunks, raise, relabel, insertMarked}
+use Rattle.views.specs.Change.{chunks, raise, relabel, redate, rename, insertMarked}
 use Rattle.views.specs.Nodes.{tags, All}
 use Rattle.views.specs.declared.done.Change.the-variants as change
 use Rattle.views.specs.declared.insert.Place.{Place}
@@ -19,7 +19,7 @@ use Rattle.views.proofs.NodeLaws.{remove-only}
 use Rattle.forms.specs.declared.layout.Word.the-variants as word
 use Rattle.forms.specs.Form.{ReadForm, readForm}
 use Rattle.forms.specs.Command.{command, formOf}
-use Rattle.lines.specs.Effect.{Effect, policy, root, insertion, renaming, removal, login, reading, nodesAfter, recordsAfter}
+use Rattle.lines.specs.Effect.{Effect, policy, root, insertion, renaming, removal, redating, login, dating, reading, nodesAfter, recordsAfter}
 use Rattle.lines.specs.Outcome.{Reply, says, refuses}
 use Rattle.lines.specs.UserView.{doneIn}
 use Rattle.lines.specs.Clause.{workOf}
@@ -54,7 +54,9 @@ module _ {E N : Type 0} (lev : E → ℕ) (lev' : N → ℕ) (f : E → N) (same
         map-insert at (λ l. new (raise l (chunks m tree))) (λ l. new' (raise l (chunks m tree))) (λ l. brought (raise l (chunks m tree))) ms ns
     map-after (renaming l ms) ns = map-rename lev lev' f same (on (relabel l)) (on' (relabel l)) (goes (relabel l)) ms ns
     map-after (removal ms) ns = map-remove lev lev' f same ms ns
+    map-after (redating d l ms) ns = map-rename lev lev' f same (on (redate d l)) (on' (redate d l)) (goes (redate d l)) ms ns
     map-after (login u) ns = refl
+    map-after (dating d) ns = refl
     map-after reading ns = refl
 
 -- The records of the nodes that are followed are the table's
@@ -110,8 +112,9 @@ tags-insert h e place.After m tree ms g ns =
 tags-insert h e place.Before m tree ms g ns =
     tags-insertInFront taggedLevel h (λ n. new (raise (taggedLevel n) (chunks m tree))) (λ n. none-new h e (raise (taggedLevel n) (chunks m tree))) ms ns
 
-tags-relabel : (l : List ℕ) (ms : List Bool) (ns : List Tagged) → tags tagOf (afterEffect (renaming l ms) ns) ≡ tags tagOf ns
-tags-relabel l ms ns = tags-rename taggedLevel tagOf (recorded (relabel l)) (λ n. refl) ms ns
+-- a node with another record is the same node
+tags-recorded : (g : List ℕ → List ℕ) (ms : List Bool) (ns : List Tagged) → tags tagOf (rename taggedLevel (recorded g) ms ns) ≡ tags tagOf ns
+tags-recorded g ms ns = tags-rename taggedLevel tagOf (recorded g) (λ n. refl) ms ns
 
 same : {a b : List ℕ} → a ≡ b → Sublistᴰ a b
 same {b = b} e = rw e (Sublistᴰ·refl b)
@@ -120,9 +123,11 @@ tags-effect : (e : Effect) (ns : List Tagged) → Sublistᴰ (tags tagOf (afterE
 tags-effect (policy p g) ns = Sublistᴰ·refl _
 tags-effect (root l) ns = rw (none-new tagOf (λ r. refl) (nodeRecord 0 l ∷ [])) (Sublistᴰ·nil-sublist _)
 tags-effect (insertion at ms m tree g) ns = same (tags-insert tagOf (λ r. refl) at m tree ms g ns)
-tags-effect (renaming l ms) ns = same (tags-relabel l ms ns)
+tags-effect (renaming l ms) ns = same (tags-recorded (relabel l) ms ns)
 tags-effect (removal ms) ns = tags-remove taggedLevel tagOf ms ns
+tags-effect (redating f l ms) ns = same (tags-recorded (redate f l) ms ns)
 tags-effect (login u) ns = Sublistᴰ·refl _
+tags-effect (dating d) ns = Sublistᴰ·refl _
 tags-effect reading ns = Sublistᴰ·refl _
 
 tags-reply : (r : Reply) (e : Effect) (ns : List Tagged) → Sublistᴰ (tags tagOf (afterReply r e ns)) (tags tagOf ns)
@@ -146,9 +151,11 @@ tags-same : (f : ReadForm) (s t : List ℕ) → stageC ≤ stage s → ((p : Lis
 tags-same f s t h k (policy p g) x ns = refl
 tags-same f s t h k (root l) x ns = absurd (omega (arith, x .early))
 tags-same f s t h k (insertion at ms m tree g) x ns = tags-insert tagOf (λ r. refl) at m tree ms g ns
-tags-same f s t h k (renaming l ms) x ns = tags-relabel l ms ns
+tags-same f s t h k (renaming l ms) x ns = tags-recorded (relabel l) ms ns
 tags-same f s t h k (removal ms) x ns = absurd (k (x .path) (x .form))
+tags-same f s t h k (redating d l ms) x ns = tags-recorded (redate d l) ms ns
 tags-same f s t h k (login u) x ns = refl
+tags-same f s t h k (dating d) x ns = refl
 tags-same f s t h k reading x ns = refl
 
 pub nodes-kept : NodesKept

@@ -10,7 +10,6 @@ use lib.ListN.{length, take, length-map}
 use lib.Seq.{take-all}
 use Rattle.rights.specs.Marks.{markCount}
 use Rattle.rights.specs.Nodes.{Node, node}
-use Rattle.rights.specs.Record.{noSpare}
 use Rattle.rights.specs.Table.{count, records, tableOk}
 use Rattle.rights.specs.Held.{nodeIn, storedNodes}
 use Rattle.rights.specs.Tree.{Tree, tree, none, nodesOf, sizeOf}
@@ -60,7 +59,7 @@ nodes-back : (ns : List Node) → UpTo 255 ns → map nodeIn (nodeRecords ns) �
 nodes-back [] u = refl
 nodes-back (node l x ∷ ns) u =
     let e : held l ≡ l = omega (arith, u .0) in
-    ap₂ (λ (n : Node) (r : List Node). n ∷ r) (ap₂ node (level-made (held l) x noSpare ∙ e) (label-made (held l) x noSpare)) (nodes-back ns (u .1))
+    ap₂ (λ (n : Node) (r : List Node). n ∷ r) (ap₂ node (level-made (held l) x _ ∙ e) (label-made (held l) x _)) (nodes-back ns (u .1))
 
 short-line : (line : List ℕ) → lineOk line ≡ true → length line ≤ 1024
 unfolding lineOk
@@ -95,7 +94,7 @@ module _ (s t line : List ℕ) (room : ℕ) (text : List ℕ) (answered : step s
       let sound : RootSound s t l = subst (λ (f : Effect). EffectSound (readForm line) s t f) e (taken .sound) in
       let a = table-after (readForm line) s t (store-held s t (taken .passes) .table) (root l) sound in
       let t' : step s t line room .table ≡ tableAfter (root l) t = ap (λ (o : Outcome). o .table) (taken .is) ∙ ap (λ (f : Effect). tableAfter f t) e in (
-        rw t' (ap (map nodeIn) (a .held) ∙ ap₂ (λ (k : ℕ) (x : List ℕ). node k x ∷ []) (level-made 0 l noSpare) (label-made 0 l noSpare)),
+        rw t' (ap (map nodeIn) (a .held) ∙ ap₂ (λ (k : ℕ) (x : List ℕ). node k x ∷ []) (level-made 0 l _) (label-made 0 l _)),
         answer-is s t line room text answered ∙ ap (λ (f : ReadForm). workOf f s t .text) q,
       )
 

@@ -10,18 +10,20 @@ use lib.ListN.{length, take, drop}
 use Rattle.rights.specs.Policy.{Policy, policyWord}
 use Rattle.rights.specs.Rights.{rightsBy, chains, rightsOn}
 use Rattle.rights.specs.Table.{records, level, label, tableOk}
+use Rattle.views.proofs.NestedLaws.{done-from}
 use Rattle.views.proofs.RelabelLaws.{level-relabel, label-relabel}
-use Rattle.views.specs.Change.{insertBehind, chunks, raise, relabel}
+use Rattle.views.proofs.RedateLaws.{level-redate, label-redate}
+use Rattle.views.specs.Change.{insertBehind, rename, chunks, raise, relabel, redate}
 use Rattle.views.specs.Nodes.{Nested, put, tags, Above, Front}
 use Rattle.views.specs.How.Pass.{AtDone}
 use Rattle.views.specs.declared.insert.Place.{Place}
 use Rattle.views.specs.declared.insert.Place.the-variants as place
 use Rattle.views.proofs.KeptLaws.{tags-remove, tags-insertBehind, tags-insertInFront, tags-rename}
-use Rattle.lines.specs.Effect.{insertion, renaming, removal}
+use Rattle.lines.specs.Effect.{insertion, renaming, removal, redating}
 use Rattle.guarantee.specs.Identity.{Tagged, taggedLevel, new, afterEffect}
 use Rattle.guarantee.proofs.Chains.{cellLevel, chain, cells, Keeps, cells-remove, cells-insertBehind, cells-insertInFront, cells-rename}
 use Rattle.guarantee.proofs.LowTable.{chain-keys}
-use Rattle.guarantee.proofs.Sound.{NoWord}
+use Rattle.guarantee.proofs.Sound.{NoWord, Whole}
 use Rattle.guarantee.proofs.TableAfter.{table-nested}
 use Rattle.guarantee.proofs.Keys.{Key, keyOf, rightsByKeys, rights-by-keys}
 
@@ -126,23 +128,33 @@ module _ (P : Policy) (u : ℕ) (declared : u < length (P .names)) where
   keeps : (l : List ℕ) → policyWord P l ≡ false → (n : Tagged) → NoWord P (n .0) → Keeps taggedLevel keyed (λ x. (relabel l (x .0), x .1)) n
   keeps l e n h = (level-relabel l (n .0), rw (label-relabel l (n .0), e, h))
 
-  keeps-done : (l : List ℕ) → policyWord P l ≡ false → (bs : List Bool) (ns : List Tagged) → AtDone (λ n. NoWord P (n .0)) bs ns
-      → AtDone (Keeps taggedLevel keyed (λ x. (relabel l (x .0), x .1))) bs ns
-  keeps-done l e bs [] a = tt
-  keeps-done l e bs (n ∷ ns) a = ((λ d. keeps l e n (a .0 d)), keeps-done l e (drop 1 bs) ns (a .1))
+  -- another record for a node, its level and the key of its label kept, leaves all rights
+  kept-rewritten : (f : List ℕ → List ℕ) (ms : List Bool) (ns : List Tagged) → AtDone (Keeps taggedLevel keyed (λ x. (f (x .0), x .1))) ms ns
+      → keptRights P u (rename taggedLevel (λ x. (f (x .0), x .1)) ms ns) ≡ keptRights P u ns
+  kept-rewritten f ms ns a =
+      kept-cells (rename taggedLevel (λ x. (f (x .0), x .1)) ms ns)
+      ∙ ap (tags held) (cells-rename taggedLevel keyed (λ x. (f (x .0), x .1)) [] ms ns a)
+      ∙ tags-rename (cellLevel taggedLevel keyed) held (λ p. ((f (p .0 .0), p .0 .1), p .1)) (λ p. same (p .0 .0) (p .0 .1) (p .1)) ms (cells taggedLevel keyed [] ns)
+      ∙ sym (kept-cells ns)
+    where
+      same : (r : List ℕ) (o : Option ℕ) (k : List Key) → held ((f r, o), k) ≡ held ((r, o), k)
+      same r none k = refl
+      same r (some i) k = refl
 
-  -- a renaming leaves all rights: neither the old label nor the new one is a policy word
+  -- a renaming does: neither the old label nor the new one is a policy word
   pub kept-rename : (l : List ℕ) (ms : List Bool) (ns : List Tagged) → policyWord P l ≡ false → AtDone (λ n. NoWord P (n .0)) ms ns
       → keptRights P u (afterEffect (renaming l ms) ns) ≡ keptRights P u ns
   kept-rename l ms ns e a =
-      kept-cells (afterEffect (renaming l ms) ns)
-      ∙ ap (tags held) (cells-rename taggedLevel keyed (λ x. (relabel l (x .0), x .1)) [] ms ns (keeps-done l e ms ns a))
-      ∙ tags-rename (cellLevel taggedLevel keyed) held (λ p. ((relabel l (p .0 .0), p .0 .1), p .1)) (λ p. same (p .0 .0) (p .0 .1) (p .1)) ms (cells taggedLevel keyed [] ns)
-      ∙ sym (kept-cells ns)
-    where
-      same : (r : List ℕ) (o : Option ℕ) (k : List Key) → held ((relabel l r, o), k) ≡ held ((r, o), k)
-      same r none k = refl
-      same r (some i) k = refl
+      kept-rewritten (relabel l) ms ns
+      (done-from taggedLevel (λ n. NoWord P (n .0)) (Keeps taggedLevel keyed (λ x. (relabel l (x .0), x .1))) (keeps l e) ms ns a)
+
+  -- "Windows .. alter no right."
+  pub kept-redate : (f l : ℕ) (ms : List Bool) (ns : List Tagged) → AtDone (λ n. Whole (n .0)) ms ns
+      → keptRights P u (afterEffect (redating f l ms) ns) ≡ keptRights P u ns
+  kept-redate f l ms ns a =
+      kept-rewritten (redate f l) ms ns
+      (done-from taggedLevel (λ n. Whole (n .0)) (Keeps taggedLevel keyed (λ x. (redate f l (x .0), x .1)))
+      (λ n h. (level-redate f l (n .0) (h .0), ap (keyOf P) (label-redate f l (n .0) (h .0) (h .1)))) ms ns a)
 
 -- What the records of a table give for the nodes that are followed
 
@@ -156,6 +168,10 @@ nodes-nested t ns ok e = nested-tagged 0 ns (rw e (table-nested t ok))
 done-tagged : (Q : List ℕ → Type 0) (bs : List Bool) (ns : List Tagged) → AtDone Q bs (map (λ n. n .0) ns) → AtDone (λ n. Q (n .0)) bs ns
 done-tagged Q bs [] a = tt
 done-tagged Q bs (n ∷ ns) a = (a .0, done-tagged Q (drop 1 bs) ns (a .1))
+
+pub nodes-whole : (t : List ℕ) (ms : List Bool) (ns : List Tagged) → map (λ n. n .0) ns ≡ records t → AtDone Whole ms (records t)
+    → AtDone (λ n. Whole (n .0)) ms ns
+nodes-whole t ms ns e a = done-tagged Whole ms ns (rw e a)
 
 pub nodes-free : (P : Policy) (t : List ℕ) (ms : List Bool) (ns : List Tagged) → map (λ n. n .0) ns ≡ records t → AtDone (NoWord P) ms (records t)
     → AtDone (λ n. NoWord P (n .0)) ms ns

@@ -18,7 +18,7 @@ use Rattle.views.specs.Shown.{Stored, storedFrom, shown, view}
 use Rattle.xml.proofs.DocumentLaws.{one-tree, document-good}
 use Rattle.lines.specs.Outcome.{Reply, says, refuses, refusal}
 use Rattle.lines.specs.Refusal.{checked, wrongStage, badStore}
-use Rattle.lines.specs.State.{stageC, stage, policyIn, storeOk}
+use Rattle.lines.specs.State.{stageC, stage, dayIn, policyIn, storeOk}
 use Rattle.lines.proofs.TreeLineLaws.{no-records}
 use Rattle.store.specs.Load.{loadedStage}
 use Rattle.store.specs.LoadXml.{loadXml}
@@ -27,7 +27,7 @@ use Rattle.store.proofs.LoadXmlLaws.{load-accepted, load-refused}
 use Rattle.guarantee.specs.Alike.{SamePolicy, storedFor, shownTo, Behind}
 use Rattle.guarantee.specs.Loading.{LoadsTree, treeFor, treeShownTo, LoadedAlike, LoadedAnswers, LoadPasses, LoadInWork, LoadBetween, NoneKept, LoadGuarantee}
 use Rattle.guarantee.proofs.SamePolicy.{same-rights-on}
-use Rattle.guarantee.proofs.StoreKept.{policy-staged}
+use Rattle.lines.proofs.StateLaws.{policy-staged, day-staged}
 use Rattle.guarantee.proofs.Accepted.{accepted-said}
 use Rattle.guarantee.proofs.Demand3.{demand3}
 
@@ -62,6 +62,7 @@ pub record Left (u : Tree) (s t s' t' : List ℕ) : Type 0 where
   pub passes : storeOk s' t' ≡ true
   pub rooted : stageC ≤ stage s'
   pub policy : policyIn s' ≡ policyIn s
+  pub day : dayIn s' ≡ dayIn s
   pub held : records t' ≡ map nodeBytes (nodesOf 0 u)
 
 rooted-by : (u : Tree) → stageC ≤ loadedStage u
@@ -81,6 +82,7 @@ left-by u s t s' t' c =
       passes = rw (m .state, m .table) (h .passes);
       rooted = rw (m .state ∙ es) (rooted-by v);
       policy = ap policyIn (m .state ∙ es) ∙ ap policyOf (policy-staged s (loadedStage v));
+      day = ap dayIn (m .state ∙ es) ∙ day-staged s (loadedStage v);
       held = ap records (m .table) ∙ h .held ∙ ap (λ (w : Tree). map nodeBytes (nodesOf 0 w)) (one-tree (c .xml) v u (h .document) (c .document));
     }
 
@@ -90,20 +92,20 @@ none-kept u s t s' t' c = let x = left-by u s t s' t' c in ap (λ (k : ℕ). rec
 
 -- The stored nodes are those of the tree, with the rights that the policy gives on them
 
-stored-tree : (n : ℕ) (u : Tree) (s t s' t' : List ℕ) → Left u s t s' t' → storedFor n s' t' ≡ treeFor (policyIn s) n u
-stored-tree n u s t s' t' x = ap₂ (λ (P : Policy) (rs : List (List ℕ)). storedFrom 0 rs (rightsOn P n rs)) (x .policy) (x .held)
+stored-tree : (n : ℕ) (u : Tree) (s t s' t' : List ℕ) → Left u s t s' t' → storedFor n s' t' ≡ treeFor (dayIn s) (policyIn s) n u
+stored-tree n u s t s' t' x = λ i. storedFrom (x .day i) 0 (x .held i) (rightsOn (x .policy i) n (x .held i))
 
 abbrev shownOf : List Stored → List Stored
 shownOf xs = keep (shown xs) xs
 
 loaded-alike : LoadedAlike
-loaded-alike n u u' s t sₗ tₗ s' t' sₗ' tₗ' c c' p a =
+loaded-alike n u u' s t sₗ tₗ s' t' sₗ' tₗ' c c' p today a =
     let x = left-by u s t sₗ tₗ c in
     let x' = left-by u' s' t' sₗ' tₗ' c' in
     let r = same-rights-on (policyIn s) (policyIn s') p n (map nodeBytes (nodesOf 0 u')) in
     let e = stored-tree n u s t sₗ tₗ x in
-    let e' : storedFor n sₗ' tₗ' ≡ treeFor (policyIn s) n u' =
-    stored-tree n u' s' t' sₗ' tₗ' x' ∙ sym (ap (storedFrom 0 (map nodeBytes (nodesOf 0 u'))) r) in
+    let e' : storedFor n sₗ' tₗ' ≡ treeFor (dayIn s) (policyIn s) n u' =
+    stored-tree n u' s' t' sₗ' tₗ' x' ∙ sym (ap₂ (λ (d : ℕ) (ss : List ℕ). storedFrom d 0 (map nodeBytes (nodesOf 0 u')) ss) today r) in
     record {
       start = record {
         passes = x .passes;
@@ -111,17 +113,18 @@ loaded-alike n u u' s t sₗ tₗ s' t' sₗ' tₗ' c c' p a =
         rooted = x .rooted;
         rooted' = x' .rooted;
         policy = subst (λ (P : Policy). SamePolicy P (policyIn sₗ')) (sym (x .policy)) (subst (SamePolicy (policyIn s)) (sym (x' .policy)) p);
+        day = x .day ∙ today ∙ sym (x' .day);
       };
       looks = ap view e ∙ a .looks ∙ sym (ap view e');
       behind =
           subst (λ (P : Policy). Behind P (shownTo n sₗ tₗ) (shownTo n sₗ' tₗ')) (sym (x .policy))
           (subst (λ (xs : List Stored). Behind (policyIn s) (shownOf xs) (shownTo n sₗ' tₗ')) (sym e)
-          (subst (λ (xs : List Stored). Behind (policyIn s) (treeShownTo (policyIn s) n u) (shownOf xs)) (sym e') (a .behind)));
+          (subst (λ (xs : List Stored). Behind (policyIn s) (treeShownTo (dayIn s) (policyIn s) n u) (shownOf xs)) (sym e') (a .behind)));
     }
 
 loaded-answers : LoadedAnswers
-loaded-answers n u u' s t sₗ tₗ s' t' sₗ' tₗ' c c' p a cs ds r r' l b =
-    demand3 .answers-alike n sₗ tₗ sₗ' tₗ' (loaded-alike n u u' s t sₗ tₗ s' t' sₗ' tₗ' c c' p a) cs ds r r' l b
+loaded-answers n u u' s t sₗ tₗ s' t' sₗ' tₗ' c c' p today a cs ds r r' l b =
+    demand3 .answers-alike n sₗ tₗ sₗ' tₗ' (loaded-alike n u u' s t sₗ tₗ s' t' sₗ' tₗ' c c' p today a) cs ds r r' l b
 
 pub load-guarantee : LoadGuarantee
 load-guarantee = record {

@@ -18,7 +18,7 @@ use Rattle.rights.specs.Table.{records, level, label}
 use Rattle.rights.proofs.ListLaws.{byCase}
 use Rattle.views.specs.Done.{doneMarks, inTable}
 use Rattle.views.specs.Nodes.{Nested}
-use Rattle.views.specs.Shown.{Stored, storedFrom, storedLevel, grants, granted, isShown, shownAfter, shown, view}
+use Rattle.views.specs.Shown.{Stored, storedFrom, storedLevel, grants, inWindow, showable, isShown, shownAfter, shown, view}
 use Rattle.views.specs.How.Numbers.{isShownAt, depthAfter, shownFrom}
 use Rattle.views.specs.declared.done.Change.{Change}
 use Rattle.rights.proofs.LabelLaws.{same-folded, folded-same}
@@ -130,21 +130,11 @@ module _ (P : Policy) (u : ℕ) where
   abbrev pub grantBy : List Key → Bool
   grantBy c = grants (rightsByKeys P u c)
 
-  abbrev pub lowOf : List (List ℕ) → List PublicRecord
-  lowOf rs = low level keyIn labelBy grantBy rs
-
   abbrev RecordCell : Type 0
   RecordCell = Cell level keyIn
 
   abbrev heldCell : RecordCell → Held
   heldCell p = (p .0, rightsByKeys P u (p .1))
-
-  -- the stored nodes of a tree of records, and those that are shown
-  abbrev pub storedBy : List (List ℕ) → List Stored
-  storedBy rs = storedFrom 0 rs (rightsOn P u rs)
-
-  abbrev pub shownOf : List (List ℕ) → List Stored
-  shownOf rs = keep (shown (storedBy rs)) (storedBy rs)
 
   abbrev pub publicSet : PublicRecord → ℕ
   publicSet p = rightsByKeys P u (p .chain)
@@ -157,152 +147,163 @@ module _ (P : Policy) (u : ℕ) where
   unfolding chain
   chain-keys c r = map-snoc (keyOf P) (take (level r) c) (label r) ∙ ap (λ l. l ++ (keyIn r ∷ [])) (map-take (keyOf P) (level r) c)
 
-  module _ (declared : u < length (P .names)) where
-    set-keys : (c : List (List ℕ)) (r : List ℕ) → rightsBy P u (take (level r) c ++ (label r ∷ [])) ≡ rightsByKeys P u (chain level keyIn (map (keyOf P) c) r)
-    set-keys c r = rights-by-keys P u (take (level r) c ++ (label r ∷ [])) ∙ ap (rightsByKeys P u) (chain-keys c r)
+  -- the low projection of a tree of records on a day, its stored nodes, and those that are shown
+  module _ (day : ℕ) where
+    abbrev pub lowOf : List (List ℕ) → List PublicRecord
+    lowOf rs = low level keyIn labelBy grantBy (inWindow day) rs
 
-    -- the stored nodes and the nodes with their key chains: shown alike, and the same records with the same rights
-    shown-cells-by : (i : ℕ) (before : List (ℕ × Bool)) (c : List (List ℕ)) (k : List Key) (rs : List (List ℕ)) → map (keyOf P) c ≡ k
-        → shownAfter storedLevel granted before (storedFrom i rs (map (rightsBy P u) (chains c rs)))
-        ≡ shownAfter (cellLevel level keyIn) (cellGrant level keyIn labelBy grantBy) before (cells level keyIn k rs)
-    unfolding shownAfter storedFrom chains cells
-    shown-cells-by i before c k [] e = refl
-    shown-cells-by i before c k (r ∷ rs) e =
-        rw (← e, set-keys c r)
-        (ap (λ l. isShown (cellLevel level keyIn) (cellGrant level keyIn labelBy grantBy) before (r, chain level keyIn (map (keyOf P) c) r) ∷ l)
-        (shown-cells-by (suc i) _ (take (level r) c ++ (label r ∷ [])) (chain level keyIn (map (keyOf P) c) r) rs (chain-keys c r)))
+    abbrev pub storedBy : List (List ℕ) → List Stored
+    storedBy rs = storedFrom day 0 rs (rightsOn P u rs)
 
-    held-cells : (bs : List Bool) (i : ℕ) (c : List (List ℕ)) (k : List Key) (rs : List (List ℕ)) → map (keyOf P) c ≡ k
-        → map heldOf (keep bs (storedFrom i rs (map (rightsBy P u) (chains c rs)))) ≡ map heldCell (keep bs (cells level keyIn k rs))
-    unfolding keep storedFrom chains cells
-    held-cells [] i c k rs e = refl
-    held-cells (b ∷ bs) i c k [] e = refl
-    held-cells (true ∷ bs) i c k (r ∷ rs) e =
-        rw (← e, set-keys c r)
-        (ap (λ l. (r, rightsByKeys P u (chain level keyIn (map (keyOf P) c) r)) ∷ l)
-        (held-cells bs (suc i) (take (level r) c ++ (label r ∷ [])) (chain level keyIn (map (keyOf P) c) r) rs (chain-keys c r)))
-    held-cells (false ∷ bs) i c k (r ∷ rs) e =
-        rw (← e)
-        (held-cells bs (suc i) (take (level r) c ++ (label r ∷ [])) (chain level keyIn (map (keyOf P) c) r) rs (chain-keys c r))
+    abbrev pub shownOf : List (List ℕ) → List Stored
+    shownOf rs = keep (shown (storedBy rs)) (storedBy rs)
 
-    held-shown : (rs : List (List ℕ)) → Nested level 0 rs → map heldOf (shownOf rs) ≡ map heldCell (shownCells level keyIn labelBy grantBy rs)
-    held-shown rs w =
-        held-cells (shown (storedBy rs)) 0 [] [] rs refl
-        ∙ ap (λ bs. map heldCell (keep bs (cells level keyIn [] rs))) (shown-cells-by 0 [] [] [] rs refl)
-        ∙ ap (map heldCell) (sym (shown-cells level keyIn labelBy grantBy rs w))
+    module _ (declared : u < length (P .names)) where
+      set-keys : (c : List (List ℕ)) (r : List ℕ) → rightsBy P u (take (level r) c ++ (label r ∷ [])) ≡ rightsByKeys P u (chain level keyIn (map (keyOf P) c) r)
+      set-keys c r = rights-by-keys P u (take (level r) c ++ (label r ∷ [])) ∙ ap (rightsByKeys P u) (chain-keys c r)
 
-    abbrev cellNode : RecordCell → Node
-    cellNode p = node (level (p .0)) (labelBy (p .1) (p .0))
+      -- the stored nodes and the nodes with their key chains: shown alike, and the same records with the same rights
+      shown-cells-by : (i : ℕ) (before : List (ℕ × Bool)) (c : List (List ℕ)) (k : List Key) (rs : List (List ℕ)) → map (keyOf P) c ≡ k
+          → shownAfter storedLevel showable before (storedFrom day i rs (map (rightsBy P u) (chains c rs)))
+          ≡ shownAfter (cellLevel level keyIn) (cellGrant level keyIn labelBy grantBy (inWindow day)) before (cells level keyIn k rs)
+      unfolding shownAfter storedFrom chains cells
+      shown-cells-by i before c k [] e = refl
+      shown-cells-by i before c k (r ∷ rs) e =
+          rw (← e, set-keys c r)
+          (ap (λ l. isShown (cellLevel level keyIn) (cellGrant level keyIn labelBy grantBy (inWindow day)) before (r, chain level keyIn (map (keyOf P) c) r) ∷ l)
+          (shown-cells-by (suc i) _ (take (level r) c ++ (label r ∷ [])) (chain level keyIn (map (keyOf P) c) r) rs (chain-keys c r)))
 
-    view-cells : (rs : List (List ℕ)) → Nested level 0 rs → view (storedBy rs) ≡ map cellNode (shownCells level keyIn labelBy grantBy rs)
-    view-cells rs w =
-        sym (map-map (λ (x : Held). node (level (x .0)) (heldLabel x)) heldOf (shownOf rs))
-        ∙ ap (map (λ (x : Held). node (level (x .0)) (heldLabel x))) (held-shown rs w)
-        ∙ map-map (λ (x : Held). node (level (x .0)) (heldLabel x)) heldCell (shownCells level keyIn labelBy grantBy rs)
+      held-cells : (bs : List Bool) (i : ℕ) (c : List (List ℕ)) (k : List Key) (rs : List (List ℕ)) → map (keyOf P) c ≡ k
+          → map heldOf (keep bs (storedFrom day i rs (map (rightsBy P u) (chains c rs)))) ≡ map heldCell (keep bs (cells level keyIn k rs))
+      unfolding keep storedFrom chains cells
+      held-cells [] i c k rs e = refl
+      held-cells (b ∷ bs) i c k [] e = refl
+      held-cells (true ∷ bs) i c k (r ∷ rs) e =
+          rw (← e, set-keys c r)
+          (ap (λ l. (r, rightsByKeys P u (chain level keyIn (map (keyOf P) c) r)) ∷ l)
+          (held-cells bs (suc i) (take (level r) c ++ (label r ∷ [])) (chain level keyIn (map (keyOf P) c) r) rs (chain-keys c r)))
+      held-cells (false ∷ bs) i c k (r ∷ rs) e =
+          rw (← e)
+          (held-cells bs (suc i) (take (level r) c ++ (label r ∷ [])) (chain level keyIn (map (keyOf P) c) r) rs (chain-keys c r))
 
-    -- The view is read off the low projection.
-    pub view-low : (rs : List (List ℕ)) → Nested level 0 rs → view (storedBy rs) ≡ nodesOf (lowOf rs)
-    view-low rs w =
-        view-cells rs w
-        ∙ sym (map-map (λ (p : PublicRecord). node (p .level) (p .carried)) (publicOf level keyIn labelBy grantBy) (shownCells level keyIn labelBy grantBy rs))
-        ∙ ap nodesOf (sym (low-shown level keyIn labelBy grantBy rs))
+      held-shown : (rs : List (List ℕ)) → Nested level 0 rs → map heldOf (shownOf rs) ≡ map heldCell (shownCells level keyIn labelBy grantBy (inWindow day) rs)
+      held-shown rs w =
+          held-cells (shown (storedBy rs)) 0 [] [] rs refl
+          ∙ ap (λ bs. map heldCell (keep bs (cells level keyIn [] rs))) (shown-cells-by 0 [] [] [] rs refl)
+          ∙ ap (map heldCell) (sym (shown-cells level keyIn labelBy grantBy (inWindow day) rs w))
 
-    keys-behind : (ps qs : List RecordCell) → HeldBehind P (map heldCell ps) (map heldCell qs) → KeysBehind level keyIn labelBy grantBy restricted ps qs
-    keys-behind [] qs h = tt
-    keys-behind (x ∷ ps) [] h = tt
-    keys-behind (x ∷ ps) (y ∷ qs) h = ((λ a b. key-same P (label (x .0)) (label (y .0)) (h .0 a b)), keys-behind ps qs (h .1))
+      abbrev cellNode : RecordCell → Node
+      cellNode p = node (level (p .0)) (labelBy (p .1) (p .0))
 
-    behind-keys : (ps qs : List RecordCell) → KeysBehind level keyIn labelBy grantBy restricted ps qs → HeldBehind P (map heldCell ps) (map heldCell qs)
-    behind-keys [] qs h = tt
-    behind-keys (x ∷ ps) [] h = tt
-    behind-keys (x ∷ ps) (y ∷ qs) h = ((λ a b. same-key P (label (x .0)) (label (y .0)) (h .0 a b)), behind-keys ps qs (h .1))
+      view-cells : (rs : List (List ℕ)) → Nested level 0 rs → view (storedBy rs) ≡ map cellNode (shownCells level keyIn labelBy grantBy (inWindow day) rs)
+      view-cells rs w =
+          sym (map-map (λ (x : Held). node (level (x .0)) (heldLabel x)) heldOf (shownOf rs))
+          ∙ ap (map (λ (x : Held). node (level (x .0)) (heldLabel x))) (held-shown rs w)
+          ∙ map-map (λ (x : Held). node (level (x .0)) (heldLabel x)) heldCell (shownCells level keyIn labelBy grantBy (inWindow day) rs)
 
-    -- what a node carries tells its key, unless it is RESTRICTED
-    tells : (c d : List Key) (x y : List ℕ) → labelBy c x ≡ labelBy d y → (keyIn x ≡ keyIn y) ⊎ (labelBy c x ≡ restricted)
-    tells c d x y e = byCase (holds read (rightsByKeys P u c))
-        (λ p. byCase (holds read (rightsByKeys P u d))
-        (λ q. inl (ap (keyOf P) (rw (p, q) at e)))
-        (λ q. inr (rw q at e)))
-        (λ p. inr (rw p))
+      -- The view is read off the low projection.
+      pub view-low : (rs : List (List ℕ)) → Nested level 0 rs → view (storedBy rs) ≡ nodesOf (lowOf rs)
+      view-low rs w =
+          view-cells rs w
+          ∙ sym (map-map (λ (p : PublicRecord). node (p .level) (p .carried)) (publicOf level keyIn labelBy grantBy (inWindow day)) (shownCells level keyIn labelBy grantBy (inWindow day) rs))
+          ∙ ap nodesOf (sym (low-shown level keyIn labelBy grantBy (inWindow day) rs))
 
-    module _ (rs qs : List (List ℕ)) (w : Nested level 0 rs) (v : Nested level 0 qs) where
-      -- Trees that look the same, no policy word differing behind RESTRICTED, have the same low projection;
-      pub low-of-alike : view (storedBy rs) ≡ view (storedBy qs) → Behind P (shownOf rs) (shownOf qs) → lowOf rs ≡ lowOf qs
-      low-of-alike e h =
-          let a = shownCells level keyIn labelBy grantBy rs in
-          let b = shownCells level keyIn labelBy grantBy qs in
-          let pair : Node → ℕ × List ℕ = λ n. (levelOf n, labelOf n) in
-          let n : map cellNode a ≡ map cellNode b = sym (view-cells rs w) ∙ e ∙ view-cells qs v in
-          let l : map (look level keyIn labelBy grantBy) a ≡ map (look level keyIn labelBy grantBy) b = sym (map-map pair cellNode a) ∙ ap (map pair) n ∙ map-map pair cellNode b in
-          let k : HeldBehind P (map heldCell a) (map heldCell b) = rw (← held-shown rs w, ← held-shown qs v) (to-held P (shownOf rs) (shownOf qs) h) in
-          low-alike level keyIn labelBy grantBy restricted tells rs qs l (keys-behind a b k)
+      keys-behind : (ps qs : List RecordCell) → HeldBehind P (map heldCell ps) (map heldCell qs) → KeysBehind level keyIn labelBy grantBy (inWindow day) restricted ps qs
+      keys-behind [] qs h = tt
+      keys-behind (x ∷ ps) [] h = tt
+      keys-behind (x ∷ ps) (y ∷ qs) h = ((λ a b. key-same P (label (x .0)) (label (y .0)) (h .0 a b)), keys-behind ps qs (h .1))
 
-      -- and back.
-      pub alike-of-low : lowOf rs ≡ lowOf qs → (view (storedBy rs) ≡ view (storedBy qs)) × Behind P (shownOf rs) (shownOf qs)
-      alike-of-low e =
-          let a = shownCells level keyIn labelBy grantBy rs in
-          let b = shownCells level keyIn labelBy grantBy qs in
-          let r = alike-low level keyIn labelBy grantBy restricted rs qs e in
-          let k : HeldBehind P (map heldOf (shownOf rs)) (map heldOf (shownOf qs)) = rw (held-shown rs w, held-shown qs v) (behind-keys a b (r .1)) in
-          (view-low rs w ∙ ap nodesOf e ∙ sym (view-low qs v), from-held P (shownOf rs) (shownOf qs) k)
+      behind-keys : (ps qs : List RecordCell) → KeysBehind level keyIn labelBy grantBy (inWindow day) restricted ps qs → HeldBehind P (map heldCell ps) (map heldCell qs)
+      behind-keys [] qs h = tt
+      behind-keys (x ∷ ps) [] h = tt
+      behind-keys (x ∷ ps) (y ∷ qs) h = ((λ a b. same-key P (label (x .0)) (label (y .0)) (h .0 a b)), behind-keys ps qs (h .1))
 
-    -- What a change does
+      -- what a node carries tells its key, unless it is RESTRICTED
+      tells : (c d : List Key) (x y : List ℕ) → labelBy c x ≡ labelBy d y → (keyIn x ≡ keyIn y) ⊎ (labelBy c x ≡ restricted)
+      tells c d x y e = byCase (holds read (rightsByKeys P u c))
+          (λ p. byCase (holds read (rightsByKeys P u d))
+          (λ q. inl (ap (keyOf P) (rw (p, q) at e)))
+          (λ q. inr (rw q at e)))
+          (λ p. inr (rw p))
 
-    abbrev shownPublic : ℕ → List PublicRecord → List Bool
-    shownPublic d ps = shownFrom publicLevel (publicGrant grantBy) d ps
+      module _ (rs qs : List (List ℕ)) (w : Nested level 0 rs) (v : Nested level 0 qs) where
+        -- Trees that look the same, no policy word differing behind RESTRICTED, have the same low projection;
+        pub low-of-alike : view (storedBy rs) ≡ view (storedBy qs) → Behind P (shownOf rs) (shownOf qs) → lowOf rs ≡ lowOf qs
+        low-of-alike e h =
+            let a = shownCells level keyIn labelBy grantBy (inWindow day) rs in
+            let b = shownCells level keyIn labelBy grantBy (inWindow day) qs in
+            let pair : Node → ℕ × List ℕ = λ n. (levelOf n, labelOf n) in
+            let n : map cellNode a ≡ map cellNode b = sym (view-cells rs w) ∙ e ∙ view-cells qs v in
+            let l : map (look level keyIn labelBy grantBy (inWindow day)) a ≡ map (look level keyIn labelBy grantBy (inWindow day)) b = sym (map-map pair cellNode a) ∙ ap (map pair) n ∙ map-map pair cellNode b in
+            let k : HeldBehind P (map heldCell a) (map heldCell b) = rw (← held-shown rs w, ← held-shown qs v) (to-held P (shownOf rs) (shownOf qs) h) in
+            low-alike level keyIn labelBy grantBy (inWindow day) restricted tells rs qs l (keys-behind a b k)
 
-    abbrev publicItems : ℕ → List Bool → List PublicRecord → List Item
-    publicItems d ms ps = allItems publicLevel (publicGrant grantBy) publicSet publicWord d ms ps
+        -- and back.
+        pub alike-of-low : lowOf rs ≡ lowOf qs → (view (storedBy rs) ≡ view (storedBy qs)) × Behind P (shownOf rs) (shownOf qs)
+        alike-of-low e =
+            let a = shownCells level keyIn labelBy grantBy (inWindow day) rs in
+            let b = shownCells level keyIn labelBy grantBy (inWindow day) qs in
+            let r = alike-low level keyIn labelBy grantBy (inWindow day) restricted rs qs e in
+            let k : HeldBehind P (map heldOf (shownOf rs)) (map heldOf (shownOf qs)) = rw (held-shown rs w, held-shown qs v) (behind-keys a b (r .1)) in
+            (view-low rs w ∙ ap nodesOf e ∙ sym (view-low qs v), from-held P (shownOf rs) (shownOf qs) k)
 
-    abbrev tableItems : List (List ℕ) → List ℕ → List Bool → List Bool → List Item
-    tableItems rs ss bs ms = items (policyWord P) rs ss bs (inTable bs ms)
+      -- What a change does
 
-    -- one record more, shown or not
-    items-more : (b : Bool) (d : ℕ) (ms : List Bool) (h : List Key) (r : List ℕ) (rs : List (List ℕ)) (ss : List ℕ) (ps : List PublicRecord)
-        → ((e : ℕ) (ns : List Bool) → tableItems rs ss (shownPublic e ps) ns ≡ publicItems e ns ps)
-        → tableItems (r ∷ rs) (rightsByKeys P u h ∷ ss) (b ∷ shownPublic (depthAfter d (level r) b) ps) ms
-        ≡ cond b
-        (record { level = level r; rights = rightsByKeys P u h; shown = true; selected = getD ms 0 false; word = isWord (keyIn r) } ∷ publicItems (suc (level r)) (drop 1 ms) ps)
-        (record { level = level r; rights = rightsByKeys P u h; shown = false; selected = false; word = isWord (keyIn r) } ∷ publicItems (min d (level r)) ms ps)
-    unfolding items inTable
-    items-more true d ms h r rs ss ps ih =
-        rw (add-one (level r))
-        (ap₂ _∷_ (λ i. record { level = level r; rights = rightsByKeys P u h; shown = true; selected = getD ms 0 false; word = key-word P (label r) i }) (ih (suc (level r)) (drop 1 ms)))
-    items-more false d ms h r rs ss ps ih =
-        ap₂ _∷_ (λ i. record { level = level r; rights = rightsByKeys P u h; shown = false; selected = false; word = key-word P (label r) i }) (ih (min d (level r)) ms)
+      abbrev shownPublic : ℕ → List PublicRecord → List Bool
+      shownPublic d ps = shownFrom publicLevel (publicGrant grantBy) d ps
 
-    items-public : (d : ℕ) (ms : List Bool) (c : List (List ℕ)) (k : List Key) (rs : List (List ℕ)) → map (keyOf P) c ≡ k
-        → tableItems rs (map (rightsBy P u) (chains c rs)) (shownPublic d (publics level keyIn labelBy grantBy k rs)) ms
-        ≡ publicItems d ms (publics level keyIn labelBy grantBy k rs)
-    unfolding items inTable chains publics cells shownFrom allItems
-    items-public d ms c k [] e = refl
-    items-public d ms c k (r ∷ rs) e =
-        let h = chain level keyIn (map (keyOf P) c) r in
-        rw (← e, set-keys c r)
-        (items-more (isShownAt publicLevel (publicGrant grantBy) d (publicOf level keyIn labelBy grantBy (r, h))) d ms h r rs
-        (map (rightsBy P u) (chains (take (level r) c ++ (label r ∷ [])) rs)) (publics level keyIn labelBy grantBy h rs)
-        (λ f ns. items-public f ns (take (level r) c ++ (label r ∷ [])) h rs (chain-keys c r)))
+      abbrev publicItems : ℕ → List Bool → List PublicRecord → List Item
+      publicItems d ms ps = allItems publicLevel (publicGrant grantBy) publicSet publicWord d ms ps
 
-    public-steps : (n : ℕ) (c : List Key) (rs : List (List ℕ)) → Nested level n rs → Nested publicLevel n (publics level keyIn labelBy grantBy c rs)
-    unfolding publics cells
-    public-steps n c [] w = tt
-    public-steps n c (r ∷ rs) w = (w .0, public-steps (suc (level r)) (chain level keyIn c r) rs (w .1))
+      abbrev tableItems : List (List ℕ) → List ℕ → List Bool → List Bool → List Item
+      tableItems rs ss bs ms = items (policyWord P) rs ss bs (inTable bs ms)
 
-    shown-public : (rs : List (List ℕ)) → Nested level 0 rs → shown (storedBy rs) ≡ shownFrom publicLevel (publicGrant grantBy) 0 (publics level keyIn labelBy grantBy [] rs)
-    unfolding publics
-    shown-public rs w =
-        shown-cells-by 0 [] [] [] rs refl
-        ∙ sym (shown-map publicLevel (publicGrant grantBy) (publicOf level keyIn labelBy grantBy) [] (cells level keyIn [] rs))
-        ∙ shown-by-depth publicLevel (publicGrant grantBy) (publics level keyIn labelBy grantBy [] rs)
-        (nested-steps publicLevel (publicGrant grantBy) 0 (publics level keyIn labelBy grantBy [] rs) (public-steps 0 [] rs w))
+      -- one record more, shown or not
+      items-more : (b : Bool) (d : ℕ) (ms : List Bool) (h : List Key) (r : List ℕ) (rs : List (List ℕ)) (ss : List ℕ) (ps : List PublicRecord)
+          → ((e : ℕ) (ns : List Bool) → tableItems rs ss (shownPublic e ps) ns ≡ publicItems e ns ps)
+          → tableItems (r ∷ rs) (rightsByKeys P u h ∷ ss) (b ∷ shownPublic (depthAfter d (level r) b) ps) ms
+          ≡ cond b
+          (record { level = level r; rights = rightsByKeys P u h; shown = true; selected = getD ms 0 false; word = isWord (keyIn r) } ∷ publicItems (suc (level r)) (drop 1 ms) ps)
+          (record { level = level r; rights = rightsByKeys P u h; shown = false; selected = false; word = isWord (keyIn r) } ∷ publicItems (min d (level r)) ms ps)
+      unfolding items inTable
+      items-more true d ms h r rs ss ps ih =
+          rw (add-one (level r))
+          (ap₂ _∷_ (λ i. record { level = level r; rights = rightsByKeys P u h; shown = true; selected = getD ms 0 false; word = key-word P (label r) i }) (ih (suc (level r)) (drop 1 ms)))
+      items-more false d ms h r rs ss ps ih =
+          ap₂ _∷_ (λ i. record { level = level r; rights = rightsByKeys P u h; shown = false; selected = false; word = key-word P (label r) i }) (ih (min d (level r)) ms)
 
-    -- The marks of the records that a change does are taken from the low projection alone.
-    pub done-low : (c : Change) (ms : List Bool) (t : List ℕ) → Nested level 0 (records t)
-        → doneMarks c (policyWord P) t (rightsOn P u (records t)) (shown (storedBy (records t))) (inTable (shown (storedBy (records t))) ms)
-        ≡ marks level keyIn labelBy grantBy (doneLow c ms) (records t)
-    unfolding marks lowBelow
-    done-low c ms t w =
-        done-items c (policyWord P) t (rightsOn P u (records t)) (shown (storedBy (records t))) (inTable (shown (storedBy (records t))) ms)
-        ∙ ap (λ bs. doneFrom c [] [] (items (policyWord P) (records t) (rightsOn P u (records t)) bs (inTable bs ms))) (shown-public (records t) w)
-        ∙ ap (doneFrom c [] []) (items-public 0 ms [] [] (records t) refl)
-        ∙ done-seen publicLevel (publicGrant grantBy) publicSet publicWord c ms (publics level keyIn labelBy grantBy [] (records t))
+      items-public : (d : ℕ) (ms : List Bool) (c : List (List ℕ)) (k : List Key) (rs : List (List ℕ)) → map (keyOf P) c ≡ k
+          → tableItems rs (map (rightsBy P u) (chains c rs)) (shownPublic d (publics level keyIn labelBy grantBy (inWindow day) k rs)) ms
+          ≡ publicItems d ms (publics level keyIn labelBy grantBy (inWindow day) k rs)
+      unfolding items inTable chains publics cells shownFrom allItems
+      items-public d ms c k [] e = refl
+      items-public d ms c k (r ∷ rs) e =
+          let h = chain level keyIn (map (keyOf P) c) r in
+          rw (← e, set-keys c r)
+          (items-more (isShownAt publicLevel (publicGrant grantBy) d (publicOf level keyIn labelBy grantBy (inWindow day) (r, h))) d ms h r rs
+          (map (rightsBy P u) (chains (take (level r) c ++ (label r ∷ [])) rs)) (publics level keyIn labelBy grantBy (inWindow day) h rs)
+          (λ f ns. items-public f ns (take (level r) c ++ (label r ∷ [])) h rs (chain-keys c r)))
+
+      public-steps : (n : ℕ) (c : List Key) (rs : List (List ℕ)) → Nested level n rs → Nested publicLevel n (publics level keyIn labelBy grantBy (inWindow day) c rs)
+      unfolding publics cells
+      public-steps n c [] w = tt
+      public-steps n c (r ∷ rs) w = (w .0, public-steps (suc (level r)) (chain level keyIn c r) rs (w .1))
+
+      shown-public : (rs : List (List ℕ)) → Nested level 0 rs → shown (storedBy rs) ≡ shownFrom publicLevel (publicGrant grantBy) 0 (publics level keyIn labelBy grantBy (inWindow day) [] rs)
+      unfolding publics
+      shown-public rs w =
+          shown-cells-by 0 [] [] [] rs refl
+          ∙ sym (shown-map publicLevel (publicGrant grantBy) (publicOf level keyIn labelBy grantBy (inWindow day)) [] (cells level keyIn [] rs))
+          ∙ shown-by-depth publicLevel (publicGrant grantBy) (publics level keyIn labelBy grantBy (inWindow day) [] rs)
+          (nested-steps publicLevel (publicGrant grantBy) 0 (publics level keyIn labelBy grantBy (inWindow day) [] rs) (public-steps 0 [] rs w))
+
+      -- The marks of the records that a change does are taken from the low projection alone.
+      pub done-low : (c : Change) (ms : List Bool) (t : List ℕ) → Nested level 0 (records t)
+          → doneMarks c (policyWord P) t (rightsOn P u (records t)) (shown (storedBy (records t))) (inTable (shown (storedBy (records t))) ms)
+          ≡ marks level keyIn labelBy grantBy (inWindow day) (doneLow c ms) (records t)
+      unfolding marks lowBelow
+      done-low c ms t w =
+          done-items c (policyWord P) t (rightsOn P u (records t)) (shown (storedBy (records t))) (inTable (shown (storedBy (records t))) ms)
+          ∙ ap (λ bs. doneFrom c [] [] (items (policyWord P) (records t) (rightsOn P u (records t)) bs (inTable bs ms))) (shown-public (records t) w)
+          ∙ ap (doneFrom c [] []) (items-public 0 ms [] [] (records t) refl)
+          ∙ done-seen publicLevel (publicGrant grantBy) publicSet publicWord c ms (publics level keyIn labelBy grantBy (inWindow day) [] (records t))

@@ -18,14 +18,14 @@ use Rattle.lines.specs.State.{stageC, stage, policyIn}
 use Rattle.lines.proofs.StateLaws.{store-held}
 use Rattle.guarantee.specs.Alike.{Input, outcome}
 use Rattle.guarantee.specs.Identity.{Tagged, afterEffect, afterReply, effectOf, follow, followAll, stateAfterAll, tableAfterAll, tagAll, tagAt, Was, rightsAt, SameRights}
-use Rattle.lines.specs.Effect.{Effect, policy, root, insertion, renaming, removal, login, reading}
+use Rattle.lines.specs.Effect.{Effect, policy, root, insertion, renaming, removal, redating, login, dating, reading}
 use Rattle.lines.proofs.CheckLaws.{Refused}
 use Rattle.guarantee.proofs.Sound.{EffectSound}
 use Rattle.guarantee.proofs.Accepted.{Accepted, line-cases}
 use Rattle.guarantee.proofs.SessionKept.{policy-kept, rooted-kept}
 use Rattle.guarantee.proofs.RunKept.{run-rooted, run-policy, run-state, run-table}
 use Rattle.guarantee.proofs.Identity.{records-numbered, all-part, follows-line, follows}
-use Rattle.guarantee.proofs.KeptNodes.{kept, beside, keptRights, nodes-nested, nodes-free, kept-remove, kept-insert, kept-rename}
+use Rattle.guarantee.proofs.KeptNodes.{kept, beside, keptRights, nodes-nested, nodes-whole, nodes-free, kept-remove, kept-insert, kept-rename, kept-redate}
 
 same : {a b : List (ℕ × ℕ)} → a ≡ b → Sublistᴰ a b
 same {b = b} e = rw e (Sublistᴰ·refl b)
@@ -41,7 +41,9 @@ rights-effect f s t ok rooted ns q u d (insertion at ms m tree g) x =
 rights-effect f s t ok rooted ns q u d (renaming l ms) x =
     same (kept-rename (policyIn s) u d l ms ns (x .no-word) (nodes-free (policyIn s) t ms ns q (x .no-words)))
 rights-effect f s t ok rooted ns q u d (removal ms) x = kept-remove (policyIn s) u d ms ns (nodes-nested t ns ok q)
+rights-effect f s t ok rooted ns q u d (redating g l ms) x = same (kept-redate (policyIn s) u d g l ms ns (nodes-whole t ms ns q (x .whole)))
 rights-effect f s t ok rooted ns q u d (login v) x = Sublistᴰ·refl _
+rights-effect f s t ok rooted ns q u d (dating y) x = Sublistᴰ·refl _
 rights-effect f s t ok rooted ns q u d reading x = Sublistᴰ·refl _
 
 -- With numbers as tags

@@ -2,13 +2,13 @@
 -- on the shown nodes as that change with their marks. `seen-shown` and `spread-shown` tie the scan to the view (views/specs/Shown.antt). Assumes nothing.
 use Prim.Native.Nat.{ℕ, suc, _≤_, _<_, min}
 use mathlib.Core.Path.{_≡_, refl, ap, ap₂, sym, _∙_}
-use mathlib.Core.Bool.{Bool, true, false, cond}
+use mathlib.Core.Bool.{Bool, true, false, cond, true≢false, and-false}
 use mathlib.Core.List.{List, [], _∷_, _++_, append-nil, map}
 use native.Mathlib.Omega.{arith}
 use native.Mathlib.Numerals.{add-one}
 use lib.ListN.{length, drop, getD}
 use lib.Dec.{leb, ltb}
-use borrow.Author.Tests.{leb-true, ltb-true, ltb-false, le-ltb, le-leb}
+use borrow.Author.Tests.{leb-true, leb-false, ltb-true, ltb-false, le-ltb, le-leb, lt-leb}
 use Rattle.rights.specs.Marks.{keep}
 use Rattle.rights.proofs.TableLaws.{both}
 use Rattle.rights.proofs.ListLaws.{byCase}
@@ -41,6 +41,26 @@ module _ {E : Type 0} (lev : E → ℕ) (g : E → Bool) where
 
   pub shown-level : (b : ℕ) (x : E) → isShownAt lev g b x ≡ true → lev x ≤ b
   shown-level b x e = leb-true _ _ (both (g x) (leb (lev x) b) e .1)
+
+  not-shown : (b : ℕ) (x : E) → b < lev x → isShownAt lev g b x ≡ false
+  not-shown b x h = rw (lt-leb (lev x) b h) (and-false (g x))
+
+  shown-at : (b : ℕ) (x : E) → g x ≡ true → lev x ≤ b → isShownAt lev g b x ≡ true
+  shown-at b x e h = rw (e, le-leb (lev x) b h)
+
+  -- what is not shown below a chain is not below a shorter one
+  shown-less : (b c : ℕ) (x : E) → b ≤ c → isShownAt lev g c x ≡ false → isShownAt lev g b x ≡ false
+  shown-less b c x h e = byCase (isShownAt lev g b x)
+      (λ v. let p = both (g x) (leb (lev x) b) v in
+      let k : lev x ≤ c = omega (arith, leb-true (lev x) b (p .1)) in
+      absurd (true≢false (sym (shown-at c x (p .0) k) ∙ e)))
+      (λ v. v)
+
+  -- a chain that is cut at or below a node's level shows it or not as before
+  shown-min : (b l : ℕ) (x : E) → lev x ≤ l → isShownAt lev g (min b l) x ≡ isShownAt lev g b x
+  shown-min b l x h = byCase (leb (lev x) b)
+      (λ e. let k : lev x ≤ b = leb-true _ _ e in rw (e, le-leb (lev x) (min b l) (omega arith)))
+      (λ e. let k : b < lev x = leb-false _ _ e in rw (e, lt-leb (lev x) (min b l) (omega arith)))
 
   shown-same : (b b2 : ℕ) (x : E) → lev x ≤ b → lev x ≤ b2 → isShownAt lev g b2 x ≡ isShownAt lev g b x
   shown-same b b2 x h h2 = rw (le-leb (lev x) b h, le-leb (lev x) b2 h2)
@@ -186,6 +206,41 @@ module _ {E : Type 0} (lev : E → ℕ) (g : E → Bool) where
       (λ d. rw (v, d, v) (ap (λ r. x ∷ r) (seen-rename f (suc (lev x)) (drop 1 ds) t (w .1)))))
       (λ v. let w : (false ≡ true → KeepsGrant f x) × AtDone (KeepsGrant f) (spread (min b (lev x)) ds t) t = rw v at a in
       rw (v, v) (seen-rename f (min b (lev x)) ds t (w .1)))
+
+  -- Closing: what is done keeps its level and is no longer granted. Nothing below it is shown any more, as if it were removed. The marks are those of a scan that
+  -- goes at least as deep.
+
+  abbrev pub Closes : (E → E) → E → Type 0
+  Closes f x = (lev (f x) ≡ lev x) × (g (f x) ≡ false)
+
+  -- what is dropped below level l is not seen below a chain of that depth
+  seen-cut : (l b : ℕ) (u : List E) → seen (min b l) u ≡ seen b (dropBelow lev l u)
+  unfolding seen dropBelow
+  seen-cut l b [] = refl
+  seen-cut l b (x ∷ u) = byCase (ltb l (lev x))
+      (λ e. let k : l < lev x = ltb-true _ _ e in
+      let n : isShownAt lev g (min b l) x ≡ false = not-shown (min b l) x (omega arith) in
+      let m : min (min b l) (lev x) ≡ min b l = omega arith in
+      rw (e, n, m) (seen-cut l b u))
+      (λ e. let k : lev x ≤ l = ltb-false _ _ e in
+      let n : isShownAt lev g (min b l) x ≡ isShownAt lev g b x = shown-min b l x k in
+      let m : min (min b l) (lev x) ≡ min b (lev x) = omega arith in
+      rw (e, n, m))
+
+  pub seen-close : (f : E → E) (b c : ℕ) (ds : List Bool) (t : List E) → b ≤ c → AtDone (Closes f) (spread c ds t) t
+      → seen b (rename lev f (spread c ds t) t) ≡ seen b (remove lev (spread c ds t) t)
+  unfolding seen rename remove spread
+  seen-close f b c ds [] h a = refl
+  seen-close f b c ds (x ∷ t) h a = byCase (isShownAt lev g c x)
+      (λ v. let w : (getD ds 0 false ≡ true → Closes f x) × AtDone (Closes f) (spread (suc (lev x)) (drop 1 ds) t) t = rw v at a in byCase (getD ds 0 false)
+      (λ d. let q = w .0 d in
+      rw (v, d, q .1, q .0) (seen-close f (min b (lev x)) (suc (lev x)) (drop 1 ds) t (omega arith) (w .1) ∙ seen-cut (lev x) b _))
+      (λ d. rw (v, d) (byCase (isShownAt lev g b x)
+      (λ z. rw z (ap (λ r. x ∷ r) (seen-close f (suc (lev x)) (suc (lev x)) (drop 1 ds) t (omega arith) (w .1))))
+      (λ z. rw z (seen-close f (min b (lev x)) (suc (lev x)) (drop 1 ds) t (omega arith) (w .1))))))
+      (λ v. let w : (false ≡ true → Closes f x) × AtDone (Closes f) (spread (min c (lev x)) ds t) t = rw v at a in
+      let n : isShownAt lev g b x ≡ false = shown-less b c x h v in
+      rw (v, n) (seen-close f (min b (lev x)) (min c (lev x)) ds t (omega arith) (w .1)))
 
 -- the scan goes by level and grant alone
 pub map-seen : {E F : Type 0} (lev : E → ℕ) (lvl : F → ℕ) (g : E → Bool) (h : F → Bool) (f : E → F) → ((x : E) → lvl (f x) ≡ lev x) → ((x : E) → h (f x) ≡ g x)

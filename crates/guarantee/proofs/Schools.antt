@@ -40,9 +40,9 @@ thePolicy =
 abbrev pub theTable : String → List ℕ
 theTable inner = changed (newTable 10) (nodeRecord 0 (bytes "school") ∷ nodeRecord 1 (bytes inner) ∷ [])
 
--- what SHA is shown, and how it looks
-abbrev nodesIn : String → List Stored
-nodesIn inner = stored (theTable inner) (rightsOn thePolicy 0 (records (theTable inner)))
+-- what SHA is shown on the first day, and how it looks
+abbrev pub nodesIn : String → List Stored
+nodesIn inner = stored 1 (theTable inner) (rightsOn thePolicy 0 (records (theTable inner)))
 
 abbrev pub shownOf : String → List Stored
 shownOf inner = keep (shown (nodesIn inner)) (nodesIn inner)

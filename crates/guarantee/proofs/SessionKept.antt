@@ -9,29 +9,31 @@ use native.Mathlib.Omega.{arith}
 use native.Mathlib.Numerals.{add-one}
 use lib.ListN.{length}
 use Rattle.forms.specs.Form.{ReadForm, readForm}
-use Rattle.lines.specs.State.{stageC, stageE, stage, userByte, withSession, withPolicy, policyBytes, storeOk}
-use Rattle.lines.specs.Effect.{Effect, policy, root, insertion, renaming, removal, login, reading, stateAfter, tableAfter}
+use Rattle.lines.specs.State.{stageC, stageE, stage, userByte, withSession, withDay, withPolicy, policyBytes, storeOk}
+use Rattle.lines.specs.Effect.{Effect, policy, root, insertion, renaming, removal, redating, login, dating, reading, stateAfter, tableAfter}
 use Rattle.lines.specs.Outcome.{Outcome, answerOf}
 use Rattle.lines.specs.PolicyEdit.{numberIn}
 use Rattle.lines.specs.Clause.{workOf}
 use Rattle.store.specs.Line.{step}
-use Rattle.lines.proofs.StateLaws.{store-held}
+use Rattle.lines.proofs.StateLaws.{store-held, policy-staged, policy-logged, later-staged, policy-dated, user-dated}
 use Rattle.guarantee.specs.Alike.{UserIs, LogsIn}
 use Rattle.lines.proofs.CheckLaws.{Refused}
 use Rattle.guarantee.proofs.Sound.{LoginSound, EffectSound}
-use Rattle.guarantee.proofs.StoreKept.{policy-staged, policy-logged, later-staged, session-kept, held-passes, held-after}
+use Rattle.guarantee.proofs.StoreKept.{session-kept, held-passes, held-after}
 use Rattle.guarantee.proofs.Accepted.{lineWork, Accepted, line-cases, taken, after-line}
 
 -- the policy and the stage after an effect, the root line taken before
-policy-after : (f : ReadForm) (s t : List ℕ) → stageC ≤ stage s → (e : Effect) → EffectSound f s t e
+policy-after : (f : ReadForm) (s t : List ℕ) → 8 ≤ length s → stageC ≤ stage s → (e : Effect) → EffectSound f s t e
     → (policyBytes (stateAfter e s) ≡ policyBytes s) × (stageC ≤ stage (stateAfter e s))
-policy-after f s t rooted (policy p g) x = absurd (omega (arith, x .early))
-policy-after f s t rooted (root l) x = absurd (omega (arith, x .early))
-policy-after f s t rooted (insertion at ms m tree g) x = (policy-staged s g, x .behind-root)
-policy-after f s t rooted (renaming l ms) x = (refl, rooted)
-policy-after f s t rooted (removal ms) x = (refl, rooted)
-policy-after f s t rooted (login u) x = (policy-logged s 4 (u + 1), omega arith)
-policy-after f s t rooted reading x = (refl, rooted)
+policy-after f s t size rooted (policy p g) x = absurd (omega (arith, x .early))
+policy-after f s t size rooted (root l) x = absurd (omega (arith, x .early))
+policy-after f s t size rooted (insertion at ms m tree g) x = (policy-staged s g, x .behind-root)
+policy-after f s t size rooted (renaming l ms) x = (refl, rooted)
+policy-after f s t size rooted (removal ms) x = (refl, rooted)
+policy-after f s t size rooted (redating g l ms) x = (refl, rooted)
+policy-after f s t size rooted (login u) x = (policy-logged s 4 (u + 1), omega arith)
+policy-after f s t size rooted (dating d) x = (policy-staged (withDay d s) 4 ∙ policy-dated s d (omega (arith, size)), omega arith)
+policy-after f s t size rooted reading x = (refl, rooted)
 
 -- the user after an effect: the one before, or the one that is logged in
 user-after : (f : ReadForm) (s t : List ℕ) → 8 ≤ length s → (e : Effect) → EffectSound f s t e
@@ -41,7 +43,9 @@ user-after f s t size (root l) x = inl (later-staged s 2 0)
 user-after f s t size (insertion at ms m tree g) x = inl (later-staged s g 0)
 user-after f s t size (renaming l ms) x = inl refl
 user-after f s t size (removal ms) x = inl refl
+user-after f s t size (redating g l ms) x = inl refl
 user-after f s t size (login v) x = inr (v, refl, x)
+user-after f s t size (dating d) x = inl (later-staged (withDay d s) 4 0 ∙ user-dated s d (omega (arith, size)))
 user-after f s t size reading x = inl refl
 
 module _ (s t line : List ℕ) (room : ℕ) where
@@ -56,13 +60,13 @@ module _ (s t line : List ℕ) (room : ℕ) where
   pub policy-kept : stageC ≤ stage s → policyBytes (step s t line room .state) ≡ policyBytes s
   policy-kept rooted =
       after-line s t line room (λ s' t'. policyBytes s' ≡ policyBytes s) refl
-      λ p x. policy-after (readForm line) s t rooted (lineWork s t line .effect) x .0
+      λ p x. policy-after (readForm line) s t (omega (arith, store-held s t p .size)) rooted (lineWork s t line .effect) x .0
 
   -- and no line goes back to a stage before it.
   pub rooted-kept : stageC ≤ stage s → stageC ≤ stage (step s t line room .state)
   rooted-kept rooted =
       after-line s t line room (λ s' t'. stageC ≤ stage s') rooted
-      λ p x. policy-after (readForm line) s t rooted (lineWork s t line .effect) x .1
+      λ p x. policy-after (readForm line) s t (omega (arith, store-held s t p .size)) rooted (lineWork s t line .effect) x .1
 
   -- The user stays, or the line is an accepted `(user N)`: then N is the user, the stage is E, and nothing else changes.
   pub record LoggedIn : Type 0 where

@@ -5,11 +5,11 @@ use mathlib.Core.Path.{_≡_}
 use mathlib.Core.Bool.{Bool, true, false, _||_}
 use mathlib.Core.List.{List}
 use lib.Dec.{leb, eqb, ltb}
-use lib.ListN.{getD}
+use lib.ListN.{length, getD}
 use Rattle.rights.specs.Policy.{Policy, policyWord}
 use Rattle.rights.specs.PolicyBytes.{ruleCount}
 use Rattle.rights.specs.PolicyCheck.{policyOk}
-use Rattle.rights.specs.Table.{records, label}
+use Rattle.rights.specs.Table.{records, label, dayOk, windowOk}
 use Rattle.views.specs.Change.{chunks, lower, deepest, tooDeep, hasRoom, free}
 use Rattle.views.specs.Nodes.{TreeOk, LabelOk}
 use Rattle.views.specs.How.Pass.{AtDone}
@@ -20,7 +20,7 @@ use Rattle.lines.specs.declared.policy_edit.Found.the-variants as found
 use Rattle.forms.specs.declared.layout.Word.the-variants as word
 use Rattle.forms.specs.Form.{ReadForm}
 use Rattle.forms.specs.Command.{command, formOf}
-use Rattle.lines.specs.Effect.{Effect, policy, root, insertion, renaming, removal, login, reading}
+use Rattle.lines.specs.Effect.{Effect, policy, root, insertion, renaming, removal, redating, login, dating, reading}
 
 -- the label of a record is no policy word
 abbrev pub NoWord : Policy → List ℕ → Type 0
@@ -63,6 +63,22 @@ pub record RemoveSound (f : ReadForm) (s t : List ℕ) (ms : List Bool) : Type 0
   pub rooted : stageC ≤ stage s
   pub spared : getD ms 0 false ≡ false
 
+-- a record of 32 bytes, its label of at most 24
+abbrev pub Whole : List ℕ → Type 0
+Whole r = (length r ≡ 32) × (getD r 1 0 ≤ 24)
+
+-- a window, never of the root
+pub record RedateSound (s t : List ℕ) (f l : ℕ) (ms : List Bool) : Type 0 where
+  pub rooted : stageC ≤ stage s
+  pub window : windowOk f l ≡ true
+  pub spared : getD ms 0 false ≡ false
+  pub whole : AtDone Whole ms (records t)
+
+-- a day of the year, the root line taken
+pub record DaySound (s : List ℕ) (d : ℕ) : Type 0 where
+  pub rooted : stageC ≤ stage s
+  pub day : dayOk d ≡ true
+
 -- `(user N)` alone logs in, and N is declared
 pub record LoginSound (f : ReadForm) (s : List ℕ) (u : ℕ) : Type 0 where
   pub name : List ℕ
@@ -76,5 +92,7 @@ EffectSound f s t (root l) = RootSound s t l
 EffectSound f s t (insertion at ms m tree g) = InsertSound s t at ms m tree g
 EffectSound f s t (renaming l ms) = RenameSound s t l ms
 EffectSound f s t (removal ms) = RemoveSound f s t ms
+EffectSound f s t (redating g l ms) = RedateSound s t g l ms
 EffectSound f s t (login u) = LoginSound f s u
+EffectSound f s t (dating d) = DaySound s d
 EffectSound f s t reading = Unit {0}

@@ -1,33 +1,30 @@
--- One line on two stores of the same user, with the same policy and the same low projection. Assumes nothing.
+-- One line on two stores of the same user, with the same policy, the same day and the same low projection. Assumes nothing.
 use Prim.Native.Nat.{ℕ}
 use mathlib.Core.Path.{_≡_, refl, ap, sym, _∙_}
 use mathlib.Core.Bool.{true, not}
 use mathlib.Core.List.{List, [], _∷_}
 use mathlib.Core.Logic.{inl}
 use native.Mathlib.Omega.{arith}
-use borrow.Author.Tests.{eqb-true, le-leb, not-false}
-use lib.Dec.{leb, eqb, ltb}
+use borrow.Author.Tests.{not-false}
+use lib.Dec.{ltb}
 use lib.ListN.{length}
 use Rattle.forms.specs.Layout.{stageOf}
 use Rattle.forms.specs.Form.{readForm}
-use Rattle.lines.specs.State.{stageE, stage, userByte, policyIn, storeOk}
+use Rattle.lines.specs.State.{stageE, stage, dayIn, policyIn, storeOk}
 use Rattle.lines.specs.Effect.{Work, checksIn, performed}
 use Rattle.lines.specs.Outcome.{says, Outcome}
 use Rattle.lines.specs.Refusal.{areaCheck, checked}
-use Rattle.lines.proofs.StateLaws.{store-held}
+use Rattle.lines.proofs.StateLaws.{store-held, user-late}
 use Rattle.store.specs.Line.{inStage, lineChecks, step}
 use Rattle.guarantee.specs.Alike.{UserIs}
 use Rattle.lines.proofs.CheckLaws.{passed-both}
-use Rattle.guarantee.proofs.FormSound.{agree}
 use Rattle.guarantee.proofs.FormLaws.{read-law}
 use Rattle.guarantee.proofs.Accepted.{lineWork, done}
-use Rattle.guarantee.proofs.LineAlike.{Tied, ChecksAlike, alike-both, WorkAlike, Match, match-checked, low-effect}
+use Rattle.guarantee.proofs.LineAlike.{Tied, ChecksAlike, alike-both, WorkAlike, Match, match-checked, low-effect, day-effect}
 
 -- a user is held at stage E alone
 pub user-stage : (s t : List ℕ) → storeOk s t ≡ true → (u : ℕ) → UserIs u s → stage s ≡ stageE
-user-stage s t ok u e =
-    let y : leb 1 (userByte s) ≡ true = le-leb 1 (userByte s) (omega (arith, e)) in
-    eqb-true (stage s) 4 (sym (agree (eqb (stage s) 4) (leb 1 (userByte s)) (store-held s t ok .logged)) ∙ y)
+user-stage s t ok u e = user-late s (store-held s t ok .logged) (omega (arith, e))
 
 module _ (u : ℕ) (s t s' t' : List ℕ) (h : Tied u s t s' t') (room : ℕ) (line : List ℕ) where
   -- the stage of its form
@@ -55,24 +52,28 @@ module _ (u : ℕ) (s t s' t' : List ℕ) (h : Tied u s t s' t') (room : ℕ) (l
       )
 
   -- the form's own checks, and the one for the area
-  own-alike : WorkAlike (policyIn s) u t t' work work' → ChecksAlike (checksIn room work) (checksIn room work')
+  own-alike : WorkAlike (policyIn s) u (dayIn s) t t' work work' → ChecksAlike (checksIn room work) (checksIn room work')
   unfolding ChecksAlike
   own-alike a =
       alike-both (work .checks) (work' .checks) (areaCheck room (length (work .text)) ∷ []) (areaCheck room (length (work' .text)) ∷ []) (a .checks)
       ((refl, inl (ap (λ x. ltb room (length x)) (a .text))), tt)
 
-  -- Accepted in both with the same answer or refused in both with the same number, and the low projections stay equal, unless one is refused with 11.
-  pub match-step : Match (policyIn s) u (step s t line room) (step s' t' line room)
+  -- Accepted in both with the same answer or refused in both with the same number, and the low projections and the days stay equal, unless one is refused with 11.
+  pub match-step : Match (policyIn s) u (dayIn s) (step s t line room) (step s' t' line room)
   unfolding step performed checked
   match-step =
-      match-checked (policyIn s) u s t s' t' (h .low) (lineChecks s t line) (lineChecks s' t' line) (own s t) (own s' t') front-alike
+      match-checked (policyIn s) u (dayIn s) s t s' t' (h .low) (h .day) (lineChecks s t line) (lineChecks s' t' line) (own s t) (own s' t') front-alike
       λ p p'.
       let i = not-false (inStage formStage (stage s)) (p .1 .1 .1 .0) in
       let i' = not-false (inStage formStage (stage s')) (p' .1 .1 .1 .0) in
       let law = read-law line in
       let a = law .alike u s t s' t' h (sym (ap (λ k. inStage formStage k) (user-stage s t (h .passes) u (h .user))) ∙ i) in
-      match-checked (policyIn s) u s t s' t' (h .low) (checksIn room work) (checksIn room work') (done s t line) (done s' t' line) (own-alike a)
+      match-checked (policyIn s) u (dayIn s) s t s' t' (h .low) (h .day) (checksIn room work) (checksIn room work') (done s t line) (done s' t' line) (own-alike a)
       λ q q'.
       let x = law .sound s t (h .passes) i (passed-both (work .checks) _ q .0) in
       let x' = law .sound s' t' (h .passes') i' (passed-both (work' .checks) _ q' .0) in
-      λ full full'. record { reply = ap says (a .text); low = low-effect u s t s' t' h (readForm line) (work .effect) (work' .effect) (a .effect) x x' }
+      λ full full'. record {
+        reply = ap says (a .text);
+        low = low-effect u s t s' t' h (readForm line) (work .effect) (work' .effect) (a .effect) x x';
+        today = day-effect u s t s' t' h (readForm line) (work .effect) (work' .effect) (a .effect) x;
+      }

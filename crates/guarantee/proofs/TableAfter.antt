@@ -11,13 +11,13 @@ use Rattle.rights.specs.Record.{nodeRecord}
 use Rattle.rights.specs.Table.{count, records, recordOk, recordsOk, level, tableOk}
 use Rattle.rights.proofs.TableLaws.{both, table-records}
 use Rattle.rights.proofs.RecordOfLaws.{length-node, node-ok}
-use Rattle.views.specs.Change.{remove, placed, removed, relabel, renamed, changed, free}
+use Rattle.views.specs.Change.{remove, placed, removed, relabel, renamed, redate, redated, changed, free}
 use Rattle.views.specs.Nodes.{Nested, All}
 use Rattle.views.proofs.TableLaws.{facts}
-use Rattle.views.proofs.TableKept.{Full, StoredAs, removed-stored, renamed-stored, placed-stored, changed-ok, length-changed, records-changed, count-changed, loosen, length-records, length-placed}
+use Rattle.views.proofs.TableKept.{Full, StoredAs, removed-stored, renamed-stored, redated-stored, placed-stored, changed-ok, length-changed, records-changed, count-changed, loosen, length-records, length-placed}
 use Rattle.views.proofs.InsertionLaws.{length-rename}
 use Rattle.forms.specs.Form.{ReadForm}
-use Rattle.lines.specs.Effect.{Effect, policy, root, insertion, renaming, removal, login, reading, recordsAfter, tableAfter}
+use Rattle.lines.specs.Effect.{Effect, policy, root, insertion, renaming, removal, redating, login, dating, reading, recordsAfter, tableAfter}
 use Rattle.guarantee.proofs.Sound.{RootSound, EffectSound}
 
 -- the levels of a table's records
@@ -77,5 +77,9 @@ table-after f s t ok (renaming l ms) x =
 table-after f s t ok (removal ms) x =
     changed-table t (removed ms (records t)) (removed-stored t ms ok)
     (λ i. remove-some ms (records t) (x .spared) (omega (arith, i, length-records t)))
+table-after f s t ok (redating g l ms) x =
+    changed-table t (redated g l ms (records t)) (redated-stored t ms g l ok (x .window) (x .spared))
+    (λ i. omega (arith, i, length-rename level (redate g l) ms (records t), length-records t))
 table-after f s t ok (login u) x = same-table t ok
+table-after f s t ok (dating d) x = same-table t ok
 table-after f s t ok reading x = same-table t ok

@@ -7,7 +7,7 @@ use native.Mathlib.Omega.{arith}
 use lib.ListN.{length, drop}
 use Rattle.rights.specs.Labels.{sameLabel, restricted}
 use Rattle.rights.specs.Policy.{some}
-use Rattle.rights.specs.Record.{noSpare, recordOf, nodeRecord}
+use Rattle.rights.specs.Record.{recordOf, nodeRecord}
 use Rattle.rights.specs.Table.{level, label, recordOk}
 use Rattle.rights.proofs.RecordOfLaws.{length-node, node-ok, level-made, label-made}
 use Rattle.views.specs.Change.{chunks}
@@ -52,14 +52,14 @@ nodes-nested : (ns : List Node) (n m : ℕ) → held n ≤ m → Nested nodeLeve
 nodes-nested [] n m h w = tt
 nodes-nested (node l x ∷ ns) n m h w =
     let i : l ≤ n = w .0 in
-    rw (level-made (held l) x noSpare) (omega (arith, i, h), nodes-nested ns (suc l) (suc (held l)) (omega arith) (w .1))
+    rw (level-made (held l) x _) (omega (arith, i, h), nodes-nested ns (suc l) (suc (held l)) (omega arith) (w .1))
 
 nodes-storable : (ns : List Node) → All Labelled ns → some (λ r. sameLabel (label r) restricted) (nodeRecords ns) ≡ false → All Storable (nodeRecords ns)
 unfolding some
 nodes-storable [] a e = tt
 nodes-storable (node l x ∷ ns) a e =
     let p = or-none (sameLabel (label (nodeRecord (held l) x)) restricted) (some (λ r. sameLabel (label r) restricted) (nodeRecords ns)) e in
-    let f : sameLabel x restricted ≡ false = sym (ap (λ (y : List ℕ). sameLabel y restricted) (label-made (held l) x noSpare)) ∙ p .0 in
+    let f : sameLabel x restricted ≡ false = sym (ap (λ (y : List ℕ). sameLabel y restricted) (label-made (held l) x _)) ∙ p .0 in
     (record-storable (held l) x (a .0) f, nodes-storable ns (a .1) (p .1))
 
 -- the records that a line's tree has

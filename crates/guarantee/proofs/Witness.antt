@@ -25,24 +25,24 @@ use Rattle.forms.specs.TreeText.{GoodLabel}
 use Rattle.answers.specs.Answer.{okText}
 use Rattle.xml.specs.Document.{blankByte, nameStart, said, full, ends, Document, writeElement, writeContent, writeDocument, elementTree, contentTrees, GoodElement, GoodContent, GoodDocument}
 use Rattle.xml.specs.How.Tokens.{isDocument, documentNodes, lex, lexAfter, tokensFrom, nested, nestedIn, matchedIn, sameBytes, tokenNodes}
-use Rattle.lines.specs.State.{stageC, stage, userByte, policyIn, storeOk}
+use Rattle.lines.specs.State.{stageC, stage, userByte, dayIn, policyIn, storeOk}
 use Rattle.lines.specs.Outcome.{Reply, says, refuses, Outcome, answerOf, areaAfter}
 use Rattle.lines.specs.Refusal.{checked}
 use Rattle.store.specs.LoadXml.{loadXml}
 use Rattle.lines.specs.Effect.{renaming, recordsAfter}
-use Rattle.guarantee.specs.Alike.{Start, Alike, Behind, shownTo, look, UserIs, Input, outcome}
+use Rattle.guarantee.specs.Alike.{Start, Alike, Behind, storedFor, shownTo, look, UserIs, Input, outcome}
 use Rattle.guarantee.specs.Identity.{afterEffect, stateAfterAll, tableAfterAll, tagAll, tagAt}
 use Rattle.guarantee.specs.Cases.{newState, newTable}
 use Rattle.guarantee.specs.Witness.{typed, policyLines, school, stateWith, tableWith, NotTold, Hidden, fileWith, treeWith, policyState, policyTable, loadedWith, LoadsFile, HiddenInFiles, ToldApart, SecondNeeded, WordsNeeded}
 use Rattle.guarantee.specs.Loading.{TreesAlike}
-use Rattle.guarantee.proofs.Schools.{thePolicy, theTable, lookOf, shownOf, BehindBoth, look-ill-cold, look-ill-flu, look-ill-sha, behind-ill-cold, behind-ill-flu, behind-ill-sha, tables-differ, look-in-any-case, behind-in-any-case, letters-differ}
+use Rattle.guarantee.proofs.Schools.{thePolicy, theTable, nodesIn as schoolNodes, lookOf, shownOf, BehindBoth, look-ill-cold, look-ill-flu, look-ill-sha, behind-ill-cold, behind-ill-flu, behind-ill-sha, tables-differ, look-in-any-case, behind-in-any-case, letters-differ}
 use Rattle.guarantee.proofs.LineAlike.{same-self}
 use Rattle.guarantee.proofs.SessionKept.{store-kept}
 use Rattle.guarantee.proofs.RunKept.{run-passes}
 use Rattle.guarantee.proofs.Cases.{given, passed, step-passed, small-passes}
 use Rattle.guarantee.proofs.Loading.{left-by}
 
--- What is read off a store: its policy, stage and user, its table, and the reply to the line that tells notes apart
+-- What is read off a store: its policy, stage, user and day, its table, and the reply to the line that tells notes apart
 abbrev told : List ℕ
 told = bytes "(remove /*/*)"
 
@@ -50,11 +50,12 @@ record Read : Type 0 where
   policy : Policy
   stage : ℕ
   user : ℕ
+  day : ℕ
   table : List ℕ
   reply : Reply
 
 unfoldable readOff : List ℕ → List ℕ → Read
-readOff s t = record { policy = policyIn s; stage = stage s; user = userByte s; table = t; reply = passed s t (typed told) .reply }
+readOff s t = record { policy = policyIn s; stage = stage s; user = userByte s; day = dayIn s; table = t; reply = passed s t (typed told) .reply }
 
 -- from a store that passes, after lines, where 13 is not computed
 unfoldable readAfter : List ℕ → List ℕ → List Input → Read
@@ -72,7 +73,7 @@ read-after s t (i ∷ is) p =
 -- a school
 abbrev Reads : String → String → Type 0
 Reads one answer =
-    readAfter newState (newTable 10) (school one) ≡ record { policy = thePolicy; stage = 4; user = 1; table = theTable one; reply = says (bytes answer) }
+    readAfter newState (newTable 10) (school one) ≡ record { policy = thePolicy; stage = 4; user = 1; day = 1; table = theTable one; reply = says (bytes answer) }
 
 ill : Reads "ill" "(done 1 0)\n"
 unfolding given readAfter readOff
@@ -96,7 +97,7 @@ sha = refl
 
 module _ (one answer : String) (w : Reads one answer) where
   read-off : readOff (stateWith one) (tableWith one)
-      ≡ record { policy = thePolicy; stage = 4; user = 1; table = theTable one; reply = says (bytes answer) }
+      ≡ record { policy = thePolicy; stage = 4; user = 1; day = 1; table = theTable one; reply = says (bytes answer) }
   read-off = read-after newState (newTable 10) (school one) small-passes ∙ w
 
   passes : storeOk (stateWith one) (tableWith one) ≡ true
@@ -114,6 +115,10 @@ module _ (one answer : String) (w : Reads one answer) where
   unfolding readOff
   user-is = ap (λ (r : Read). r .user) read-off
 
+  day-is : dayIn (stateWith one) ≡ 1
+  unfolding readOff
+  day-is = ap (λ (r : Read). r .day) read-off
+
   table-is : tableWith one ≡ theTable one
   unfolding readOff
   table-is = ap (λ (r : Read). r .table) read-off
@@ -127,6 +132,9 @@ module _ (one answer : String) (w : Reads one answer) where
   rights-is : rightsOn (policyIn (stateWith one)) 0 (records (tableWith one)) ≡ rightsOn thePolicy 0 (records (theTable one))
   rights-is = ap₂ (λ P t. rightsOn P 0 (records t)) policy-is table-is
 
+  stored-is : storedFor 0 (stateWith one) (tableWith one) ≡ schoolNodes one
+  stored-is = λ i. stored (day-is i) (table-is i) (rights-is i)
+
 -- two such schools
 module _ (one other answer answer' : String) (w : Reads one answer) (w' : Reads other answer') where
   started : Start (stateWith one) (tableWith one) (stateWith other) (tableWith other)
@@ -136,15 +144,15 @@ module _ (one other answer answer' : String) (w : Reads one answer) (w' : Reads 
     rooted = rooted one answer w;
     rooted' = rooted other answer' w';
     policy = rw (policy-is one answer w, policy-is other answer' w') (same-self thePolicy);
+    day = day-is one answer w ∙ sym (day-is other answer' w');
   }
 
   look-same : lookOf one ≡ lookOf other → look 0 (stateWith one) (tableWith one) ≡ look 0 (stateWith other) (tableWith other)
   look-same e =
-      ap₂ (λ t rs. view (stored t rs)) (table-is one answer w) (rights-is one answer w) ∙ e
-      ∙ sym (ap₂ (λ t rs. view (stored t rs)) (table-is other answer' w') (rights-is other answer' w'))
+      ap view (stored-is one answer w) ∙ e ∙ sym (ap view (stored-is other answer' w'))
 
   shown-is : (one answer : String) → Reads one answer → shownTo 0 (stateWith one) (tableWith one) ≡ shownOf one
-  shown-is one answer w = ap₂ (λ t rs. keep (shown (stored t rs)) (stored t rs)) (table-is one answer w) (rights-is one answer w)
+  shown-is one answer w = ap (λ xs. keep (shown xs) xs) (stored-is one answer w)
 
   behind-is : Behind (policyIn (stateWith one)) (shownTo 0 (stateWith one) (tableWith one))
       (shownTo 0 (stateWith other) (tableWith other)) ≡ BehindBoth one other
@@ -201,7 +209,7 @@ second-needed = (ill-flu, ill-sha)
 -- The solver's files
 
 abbrev afterPolicy : Read
-afterPolicy = record { policy = thePolicy; stage = 1; user = 0; table = newTable 10; reply = refuses 3 }
+afterPolicy = record { policy = thePolicy; stage = 1; user = 0; day = 1; table = newTable 10; reply = refuses 3 }
 
 policy-lines : readAfter newState (newTable 10) policyLines ≡ afterPolicy
 unfolding given readAfter readOff
@@ -257,7 +265,7 @@ loads-cold : LoadsFile "cold"
 unfolding writeElement writeContent all labelByte
 loads-cold = loads-file "cold" (omega arith, omega arith, refl) refl (file-cold policyState policyTable policy-passes policy-early policy-room)
 
-trees-alike : TreesAlike thePolicy 0 (treeWith "ill") (treeWith "cold")
+trees-alike : TreesAlike 1 thePolicy 0 (treeWith "ill") (treeWith "cold")
 unfolding nodesOf nodesIn all labelByte folded sameLabel passesTest some passesOwn policyWord isBy standsFor subjectsWhere reaches decide rightsBy chains padded recordOf storedFrom atParent nearestFirst shownAfter keep eachFrom
 trees-alike = record { looks = refl; behind = ((λ a b. inl refl), ((λ a b. inr (refl, refl)), tt)) }
 
@@ -274,6 +282,6 @@ unfolding readOff
 hidden-in-files = (
   loads-ill,
   loads-cold,
-  subst (λ (P : Policy). TreesAlike P 0 (treeWith "ill") (treeWith "cold")) (sym (ap (λ (r : Read). r .policy) policy-read)) trees-alike,
+  subst (λ (P : Policy). TreesAlike 1 P 0 (treeWith "ill") (treeWith "cold")) (sym (ap (λ (r : Read). r .policy) policy-read)) trees-alike,
   files-differ,
 )

@@ -1,5 +1,5 @@
--- The start of what demand 3 compares (document 01, "What demand 3 compares"): two tables and two states that look alike to a reader. What is claimed of them stands
--- in specs/Demand3.antt.
+-- The start of what demand 3 compares (document 01, "What demand 3 compares"): two tables and two states that look alike to a reader, on one day (document 02, card 7).
+-- What is claimed of them stands in specs/Demand3.antt.
 use Prim.Native.Nat.{ℕ, suc, _≤_}
 use mathlib.Core.Path.{_≡_}
 use mathlib.Core.Bool.{true, false}
@@ -16,7 +16,7 @@ use Rattle.lines.specs.PolicyEdit.{isaHeld, subjectNamed}
 use Rattle.forms.specs.declared.layout.Word.the-variants as word
 use Rattle.forms.specs.Form.{readForm}
 use Rattle.forms.specs.Command.{command, formOf}
-use Rattle.lines.specs.State.{stageC, stage, userByte, policyIn, storeOk}
+use Rattle.lines.specs.State.{stageC, stage, userByte, dayIn, policyIn, storeOk}
 use Rattle.lines.specs.Outcome.{Outcome}
 use Rattle.store.specs.Line.{step}
 use Rattle.lines.specs.declared.line.Answer.{Answer}
@@ -29,9 +29,9 @@ pub record SamePolicy (P Q : Policy) : Type 0 where
   pub isa : (n r : ℕ) → isaHeld P n r ≡ isaHeld Q n r
   pub rules : P .rules ≡ Q .rules
 
--- the nodes of a table with the rights of subject u on each, and those of them that are shown to u
+-- the nodes of a table with the rights of subject u on each, and those of them that are shown to u on the session's day
 abbrev pub storedFor : ℕ → List ℕ → List ℕ → List Stored
-storedFor u s t = stored t (rightsOn (policyIn s) u (records t))
+storedFor u s t = stored (dayIn s) t (rightsOn (policyIn s) u (records t))
 
 abbrev pub shownTo : ℕ → List ℕ → List ℕ → List Stored
 shownTo u s t = keep (shown (storedFor u s t)) (storedFor u s t)
@@ -51,13 +51,14 @@ Behind P (x ∷ xs) [] = Unit {0}
 Behind P (x ∷ xs) (y ∷ ys) =
     (carried x ≡ restricted → carried y ≡ restricted → NoWordDiffers P (label (x .bytes)) (label (y .bytes))) × Behind P xs ys
 
--- The start: "any tables and states that 13 lets pass, the root line taken, both states holding the same policy".
+-- The start: "any tables and states that 13 lets pass, the root line taken, both states holding the same policy"; "trees are compared on one day".
 pub record Start (s t s' t' : List ℕ) : Type 0 where
   pub passes : storeOk s t ≡ true
   pub passes' : storeOk s' t' ≡ true
   pub rooted : stageC ≤ stage s
   pub rooted' : stageC ≤ stage s'
   pub policy : SamePolicy (policyIn s) (policyIn s')
+  pub day : dayIn s ≡ dayIn s'
 
 -- The two suppositions, for the reader u: the trees look the same, and no policy word differs behind RESTRICTED. The tables may differ in length and in all else.
 pub record Alike (u : ℕ) (s t s' t' : List ℕ) : Type 0 where

@@ -412,5 +412,70 @@ eitherCase =
           ∷ [];
     }
 
+-- Card 7: a lesson for one term, from day 1 to day 100, and a room for an exam week. The room, in its window, is not shown below the lesson outside its own.
+abbrev pub oneTerm : Case
+oneTerm =
+    record {
+      capacity = 10;
+      turns =
+          ok "(subject SHA)"
+          ∷ ok "(rule accept read //* SHA)"
+          ∷ ok "(rule accept update //* SHA)"
+          ∷ ok "(rule accept insert //lesson SHA)"
+          ∷ "(day 2)" refused 3
+          ∷ ok "(root school)"
+          ∷ ok "(child (lesson (room)))"
+          -- "needs no user"
+          ∷ ok "(day 007)"
+          ∷ "(child (note))" refused 3
+          ∷ "(window //lesson 1 100)" refused 8
+          ∷ ok "(user SHA)"
+          ∷ "(window //lesson 0 100)" refused 15
+          ∷ "(window //none 101 100)" refused 15
+          ∷ "(day 367)" refused 15
+          ∷ "(day 0007)" refused 2
+          -- "the root is not done"
+          ∷ "(window //* 1 100)" gives "(done 3 2)\n"
+          ∷ "(window //room 90 200)" gives "(done 1 1)\n"
+          ∷ "(view)" gives "(root school)\n(child (lesson))\n(end 2)\n"
+          -- "both days included"
+          ∷ ok "(day 100)"
+          ∷ "(append //lesson (exam))" gives "(done 1 1)\n"
+          ∷ "(view)" gives "(root school)\n(child (lesson (room) (exam)))\n(end 4)\n"
+          -- "nor is anything below it"
+          ∷ ok "(day 101)"
+          ∷ "(view)" gives "(root school)\n(end 1)\n"
+          ∷ "(query //room)" gives "(end 0)\n"
+          ∷ [];
+    }
+
+-- "the assurance lasts until the day is changed": two schools that differ in a window alone look the same to SHA on the first day, and are told apart on day 200.
+abbrev pub noteUntil : String → List String → Case
+noteUntil window later =
+    record {
+      capacity = 10;
+      turns =
+          ok "(subject SHA)"
+          ∷ ok "(rule accept read //* SHA)"
+          ∷ ok "(rule accept update //* SHA)"
+          ∷ ok "(root school)"
+          ∷ ok "(child (note))"
+          ∷ ok "(user SHA)"
+          ∷ window gives "(done 1 1)\n"
+          ∷ "(view)" prints ("(root school)" ∷ "(child (note))" ∷ "(end 2)" ∷ [])
+          ∷ ok "(day 200)"
+          ∷ "(view)" prints later
+          ∷ [];
+    }
+
+abbrev pub untilFirstOfMay : Case
+untilFirstOfMay = noteUntil "(window //note 1 121)" ("(root school)" ∷ "(end 1)" ∷ [])
+
+abbrev pub untilYearsEnd : Case
+untilYearsEnd = noteUntil "(window //note 1 366)" ("(root school)" ∷ "(child (note))" ∷ "(end 2)" ∷ [])
+
+abbrev pub DayTold : Type 0
+DayTold = All CaseAnswered (untilFirstOfMay ∷ untilYearsEnd ∷ [])
+
 abbrev pub CardsAnswered : Type 0
-CardsAnswered = All CaseAnswered (firstRoom ∷ doorSheet ∷ formTutor ∷ eitherCase ∷ [])
+CardsAnswered = All CaseAnswered (firstRoom ∷ doorSheet ∷ formTutor ∷ eitherCase ∷ oneTerm ∷ [])

@@ -1,5 +1,6 @@
 -- Demand 3 whole, as one claim about every list of lines (document 01, "What demand 3 compares"): what two runs of calls of `line` answer one reader, and what stays
--- on the nodes that are kept. The theorem stands in proofs/Demand3.antt; it assumes nothing.
+-- on the nodes that are kept. "All three agreements now read with the day: trees are compared on one day, and the assurance lasts until the day is changed" (document
+-- 02, card 7); the sentence on rights holds across days. The theorem stands in proofs/Demand3.antt; it assumes nothing.
 use Prim.Native.Nat.{ℕ}
 use mathlib.Core.Path.{_≡_}
 use mathlib.Core.List.{List, [], _∷_}
@@ -9,6 +10,7 @@ use Rattle.lines.specs.Outcome.{Made}
 use Rattle.lines.specs.Refusal.{tableFull}
 use Rattle.lines.specs.declared.line.Answer.{Answer}
 use Rattle.lines.specs.declared.line.Answer.the-variants.{Accepted, Refused}
+use Rattle.lines.specs.State.{dayIn}
 use Rattle.store.specs.Line.{step}
 use Rattle.guarantee.specs.Alike.{Alike, UserIs, LogsIn}
 use Rattle.guarantee.specs.Identity.{SameRights, Follows, NodesKept, NodesRemoved, InsertedNew, NoneBack}
@@ -51,8 +53,9 @@ pub record SameAnswer (c d : Call) : Type 0 where
   pub returned : c .answer ≡ d .answer
   pub bytes : (n : ℕ) → c .answer ≡ Accepted n → take n (c .area) ≡ take n (d .area)
 
--- Of every line before the first that either run refuses with 11, where "only a `user` line that would log in another subject stays out": the answers are equal,
--- and both suppositions hold again, with u as user.
+-- Of every line before the first that either run refuses with 11, where "only a `user` line that would log in another subject stays out": the answers are equal. Where
+-- the day is what it was, both suppositions hold again, with u as user; so a `(day D)` that is refused or gives the same day ends nothing, and one that changes the day
+-- is the last line that is answered alike.
 abbrev pub SameAnswers : ℕ → List ℕ → List Call → List Call → Type 0
 SameAnswers u s [] ds = Unit {0}
 SameAnswers u s (c ∷ cs) [] = Unit {0}
@@ -61,9 +64,10 @@ SameAnswers u s (c ∷ cs) (d ∷ ds) =
     → (c .answer ≡ Refused tableFull → ⊥)
     → (d .answer ≡ Refused tableFull → ⊥)
     → SameAnswer c d
-    × Alike u (c .state) (c .table) (d .state) (d .table)
+    × (dayIn (c .state) ≡ dayIn s
+    → Alike u (c .state) (c .table) (d .state) (d .table)
     × (UserIs u (c .state) × UserIs u (d .state))
-    × SameAnswers u (c .state) cs ds
+    × SameAnswers u (c .state) cs ds)
 
 -- Demand 3, its first sentence: for every reader, every such start and any two runs of the same lines.
 abbrev pub AnswersAlike : Type 0
@@ -72,9 +76,10 @@ AnswersAlike =
     → SameLines cs ds → Begins u s s' cs → SameAnswers u s cs ds
 
 pub record Demand3 : Type 0 where
-  -- two trees that look alike to a reader answer that reader, working alone, alike in every line before the first refusal 11, and stay alike
+  -- two trees that look alike to a reader on a day answer that reader, working alone, alike in every line before the first refusal 11, and stay alike until the day
+  -- is changed
   pub answers-alike : AnswersAlike
-  -- no subject's rights change on a kept node, between any two points of a list
+  -- no subject's rights change on a kept node, between any two points of a list, whatever the days
   pub same-rights : SameRights
   -- which node is which: the followed nodes are those of the table; a change keeps what it does not remove, in order; inserted nodes are new; what was removed
   -- never comes back

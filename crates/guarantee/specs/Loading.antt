@@ -15,7 +15,7 @@ use Rattle.views.specs.Shown.{Stored, storedFrom, shown, view}
 use Rattle.xml.specs.Document.{DocumentOf}
 use Rattle.lines.specs.Outcome.{Made, refusal}
 use Rattle.lines.specs.Refusal.{badStore, wrongStage}
-use Rattle.lines.specs.State.{stageC, stage, policyIn, storeOk}
+use Rattle.lines.specs.State.{stageC, stage, dayIn, policyIn, storeOk}
 use Rattle.lines.specs.declared.line.Answer.the-variants.{Accepted}
 use Rattle.store.specs.LoadXml.{loadXml}
 use Rattle.guarantee.specs.Alike.{SamePolicy, Behind, Alike}
@@ -31,29 +31,29 @@ pub record LoadsTree (u : Tree) (s t s' t' : List ℕ) : Type 0 where
   pub area : List ℕ
   pub promised : Made (loadXml s t xml (length lent)) lent (Accepted said) s' t' area
 
--- The nodes of a tree as a table holds them, with the rights of subject n on each, and those of them that are shown to n
-abbrev pub treeFor : Policy → ℕ → Tree → List Stored
-treeFor P n u = storedFrom 0 (map nodeBytes (nodesOf 0 u)) (rightsOn P n (map nodeBytes (nodesOf 0 u)))
+-- The nodes of a tree as a table holds them on day d, with the rights of subject n on each, and those of them that are shown to n
+abbrev pub treeFor : ℕ → Policy → ℕ → Tree → List Stored
+treeFor d P n u = storedFrom d 0 (map nodeBytes (nodesOf 0 u)) (rightsOn P n (map nodeBytes (nodesOf 0 u)))
 
-abbrev pub treeShownTo : Policy → ℕ → Tree → List Stored
-treeShownTo P n u = keep (shown (treeFor P n u)) (treeFor P n u)
+abbrev pub treeShownTo : ℕ → Policy → ℕ → Tree → List Stored
+treeShownTo d P n u = keep (shown (treeFor d P n u)) (treeFor d P n u)
 
 -- The two suppositions of demand 3 on two trees, for the reader n: they look the same, and no policy word differs behind RESTRICTED.
-pub record TreesAlike (P : Policy) (n : ℕ) (u u' : Tree) : Type 0 where
-  pub looks : view (treeFor P n u) ≡ view (treeFor P n u')
-  pub behind : Behind P (treeShownTo P n u) (treeShownTo P n u')
+pub record TreesAlike (d : ℕ) (P : Policy) (n : ℕ) (u u' : Tree) : Type 0 where
+  pub looks : view (treeFor d P n u) ≡ view (treeFor d P n u')
+  pub behind : Behind P (treeShownTo d P n u) (treeShownTo d P n u')
 
--- Two documents, loaded under the same policy, whose trees are alike to the reader n, leave stores that are. What each call left is sₗ and tₗ.
+-- Two documents, loaded under the same policy on the same day, whose trees are alike to the reader n, leave stores that are. What each call left is sₗ and tₗ.
 abbrev pub LoadedAlike : Type 0
 LoadedAlike =
     (n : ℕ) (u u' : Tree) (s t sₗ tₗ s' t' sₗ' tₗ' : List ℕ) → LoadsTree u s t sₗ tₗ → LoadsTree u' s' t' sₗ' tₗ'
-    → SamePolicy (policyIn s) (policyIn s') → TreesAlike (policyIn s) n u u' → Alike n sₗ tₗ sₗ' tₗ'
+    → SamePolicy (policyIn s) (policyIn s') → dayIn s ≡ dayIn s' → TreesAlike (dayIn s) (policyIn s) n u u' → Alike n sₗ tₗ sₗ' tₗ'
 
 -- So any two runs of the same lines after the calls answer the reader alike, in the words of demand 3.
 abbrev pub LoadedAnswers : Type 0
 LoadedAnswers =
     (n : ℕ) (u u' : Tree) (s t sₗ tₗ s' t' sₗ' tₗ' : List ℕ) → LoadsTree u s t sₗ tₗ → LoadsTree u' s' t' sₗ' tₗ'
-    → SamePolicy (policyIn s) (policyIn s') → TreesAlike (policyIn s) n u u'
+    → SamePolicy (policyIn s) (policyIn s') → dayIn s ≡ dayIn s' → TreesAlike (dayIn s) (policyIn s) n u u'
     → (cs ds : List Call) → Run sₗ tₗ cs → Run sₗ' tₗ' ds → SameLines cs ds → Begins n sₗ sₗ' cs → SameAnswers n sₗ cs ds
 
 -- Whatever is lent to the call: a store that passes 13 still does, and one that does not is refused with 13 and keeps its bytes.

@@ -77,7 +77,7 @@ abbrev pub HiddenInFiles : Type 0
 HiddenInFiles =
     LoadsFile "ill"
     × LoadsFile "cold"
-    × TreesAlike (policyIn policyState) 0 (treeWith "ill") (treeWith "cold")
+    × TreesAlike 1 (policyIn policyState) 0 (treeWith "ill") (treeWith "cold")
     × (loadedWith "ill" .table ≡ loadedWith "cold" .table → ⊥)
 
 -- Two schools that look the same to SHA, under the same policy, and are not alike; and a line that tells them apart

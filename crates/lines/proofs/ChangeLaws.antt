@@ -1,4 +1,4 @@
--- The six changes: what is decided before anything changes, and what the table becomes. Assumes nothing.
+-- The seven changes: what is decided before anything changes, and what the table becomes. Assumes nothing.
 use Prim.Native.Nat.{ℕ, _-_, _≤_}
 use mathlib.Core.Bool.{Bool, true, false, _||_}
 use mathlib.Core.Path.{_≡_, refl, sym, ap, _∙_}
@@ -14,7 +14,7 @@ use Rattle.rights.specs.PolicyCheck.{policyOk}
 use Rattle.rights.specs.Table.{count, records, tableOk}
 use Rattle.rights.proofs.TableLaws.{table-few}
 use Rattle.rights.proofs.ListLaws.{rest-of}
-use Rattle.views.specs.Change.{changed, renamed, removed}
+use Rattle.views.specs.Change.{changed, renamed, redated, removed}
 use Rattle.views.specs.Done.{doneMarks}
 use Rattle.views.specs.How.Numbers.{shownByNumbers, byNumbers, DoneBy, shownNumbers}
 use Rattle.views.specs.Shown.{shown}
@@ -24,8 +24,8 @@ use Rattle.views.proofs.DoneLaws.{numbers-shown, numbers-in-table, done-length}
 use Rattle.rights.proofs.MarkLaws.{marks-bits, marks-take}
 use Rattle.answers.specs.Answer.{doneText}
 use Rattle.answers.specs.How.AnswerArea.{Answered, written}
-use Rattle.lines.specs.How.ChangeRoom.{Chosen, RightsHeld, Decided}
-use Rattle.lines.specs.State.{stage, policyIn, storeOk}
+use Rattle.lines.specs.How.ChangeRoom.{Chosen, RightsHeld, MarkedFor, Decided}
+use Rattle.lines.specs.State.{stage, dayIn, policyIn, storeOk}
 use Rattle.lines.specs.UserView.{rightsIn, storedIn, marksIn, selectedIn, doneIn}
 use Rattle.lines.specs.Work.{changeAt, countText, insertAt}
 use Rattle.lines.proofs.StateLaws.{store-held}
@@ -76,13 +76,13 @@ module _ (s t path : List ℕ) (ok : storeOk s t ≡ true) (rights shown marks r
         let x : take (k - 0) (drop 0 shown') ≡ shownNumbers (storedIn s t) = part-is (shownNumbers (storedIn s t)) (drop k shown) shown' k (r .numbers) (sym (r .size)) in
         q
         ∙ ap (λ p. map bit (doneMarks c (policyWord (policyOf p)) t (take (n - 0) (drop 0 rights')) (shownByNumbers (take (k - 0) (drop 0 shown')) (count t) 0) (byNumbers (take (k - 0) (drop 0 shown')) (marksOf (take (k - 0) (drop 0 marks'))) (count t) 0)) ++ drop (count t) done) (rest-of s 8)
-        ∙ rw (rights-part, x, picked-part, numbers-shown t (rightsIn s t) (g .table) few, numbers-in-table t (rightsIn s t) (g .table) few (marksIn s t path))
+        ∙ rw (rights-part, x, picked-part, numbers-shown (dayIn s) t (rightsIn s t) (g .table) few, numbers-in-table (dayIn s) t (rightsIn s t) (g .table) few (marksIn s t path))
 
 -- The marks of the records that are done
 pub done-size : (c : Change) (s t path : List ℕ) → length (doneIn c s t path) ≡ count t
 done-size c s t path = done-length c (policyWord (policyIn s)) t (rightsIn s t) (shown (storedIn s t)) (selectedIn s t path)
 
-module _ (c : Change) (s t path done done' : List ℕ) (k n : ℕ) (r : Decided c s t path done k done') (e : n ≡ count t) where
+module _ (c : Change) (s t path done done' : List ℕ) (n : ℕ) (r : MarkedFor c s t path done done') (e : n ≡ count t) where
   -- the bytes that are handed on, and the marks that they hold
   abbrev part : List ℕ
   part = take (n - 0) (drop 0 done')
@@ -91,13 +91,13 @@ module _ (c : Change) (s t path done done' : List ℕ) (k n : ℕ) (r : Decided 
   bits-size = length-map (doneIn c s t path) bit ∙ done-size c s t path ∙ sym e
 
   bits-part : part ≡ map bit (doneIn c s t path)
-  bits-part = part-is (map bit (doneIn c s t path)) (drop (count t) done) done' n (r .marks) bits-size
+  bits-part = part-is (map bit (doneIn c s t path)) (drop (count t) done) done' n r bits-size
 
   pub done-part : marksOf part ≡ doneIn c s t path
   done-part = ap marksOf bits-part ∙ marks-bits (doneIn c s t path)
 
   pub done-reach : n ≤ length done'
-  done-reach = part-fits (map bit (doneIn c s t path)) (drop (count t) done) done' n (r .marks) bits-size
+  done-reach = part-fits (map bit (doneIn c s t path)) (drop (count t) done) done' n r bits-size
 
   pub done-cover : count t ≤ length part
   done-cover = omega (arith, ap length bits-part, bits-size)
@@ -108,14 +108,11 @@ module _ (c : Change) (s t path done done' : List ℕ) (k n : ℕ) (r : Decided 
       ∙ ap (λ m. markCount (take m (doneIn c s t path))) (sym (done-size c s t path))
       ∙ ap markCount (take-length (doneIn c s t path))
 
-  done-text : doneText k (markCount (take (count t) (marksOf part))) ≡ countText c s t path
-  done-text = ap (λ m. doneText m (markCount (take (count t) (marksOf part)))) (r .size) ∙ ap (doneText (markCount (marksIn s t path))) done-count
-
-  pub done-answered : (before after : List ℕ) (need : ℕ) → Answered (doneText k (markCount (take (count t) (marksOf part)))) before after need
-      → Answered (countText c s t path) before after need
-  done-answered before after need a = answered-as _ (countText c s t path) before after need done-text a
-
   -- what the table becomes
+  pub redated-table : (f l : ℕ) (t' : List ℕ) → t' ≡ changed t (redated f l (marksOf part) (records t))
+      → t' ≡ changed t (redated f l (doneIn c s t path) (records t))
+  redated-table f l t' q = q ∙ ap (λ x. changed t (redated f l x (records t))) done-part
+
   pub renamed-table : (l t' : List ℕ) → t' ≡ changed t (renamed (take (length l - 0) (drop 0 l)) (marksOf part) (records t))
       → t' ≡ changed t (renamed l (doneIn c s t path) (records t))
   renamed-table l t' q =
@@ -127,14 +124,26 @@ module _ (c : Change) (s t path done done' : List ℕ) (k n : ℕ) (r : Decided 
   pub removed-table : (t' : List ℕ) → t' ≡ changed t (removed (marksOf part) (records t)) → t' ≡ changed t (removed (doneIn c s t path) (records t))
   removed-table t' q = q ∙ ap (λ x. changed t (removed x (records t))) done-part
 
+-- with how many are selected
+module _ (c : Change) (s t path done done' : List ℕ) (k n : ℕ) (r : Decided c s t path done k done') (e : n ≡ count t) where
+  abbrev marked : List Bool
+  marked = marksOf (part c s t path done done' n (r .marks) e)
+
+  done-text : doneText k (markCount (take (count t) marked)) ≡ countText c s t path
+  done-text = ap (λ m. doneText m (markCount (take (count t) marked))) (r .size) ∙ ap (doneText (markCount (marksIn s t path))) (done-count c s t path done done' n (r .marks) e)
+
+  pub done-answered : (before after : List ℕ) (need : ℕ) → Answered (doneText k (markCount (take (count t) marked))) before after need
+      → Answered (countText c s t path) before after need
+  done-answered before after need a = answered-as _ (countText c s t path) before after need done-text a
+
   -- an insertion at the places that are done
   pub insert-parts : (place : Place) → c ≡ changeAt place → (m : ℕ) (tree : List ℕ)
       → insertAt place (doneIn (changeAt place) s t path) m tree (countText (changeAt place) s t path) (stage s) t
-      ≡ insertAt place (marksOf part) m tree (doneText k (markCount (take (count t) (marksOf part)))) (stage s) t
+      ≡ insertAt place marked m tree (doneText k (markCount (take (count t) marked))) (stage s) t
   insert-parts place q m tree =
       ap (λ x. insertAt place (doneIn x s t path) m tree (countText x s t path) (stage s) t) (sym q)
-      ∙ ap (λ x. insertAt place x m tree (countText c s t path) (stage s) t) (sym done-part)
-      ∙ ap (λ x. insertAt place (marksOf part) m tree x (stage s) t) (sym done-text)
+      ∙ ap (λ x. insertAt place x m tree (countText c s t path) (stage s) t) (sym (done-part c s t path done done' n (r .marks) e))
+      ∙ ap (λ x. insertAt place marked m tree x (stage s) t) (sym done-text)
 
 -- D, counted
 pub answered-count : (t done before after : List ℕ) (k n d need : ℕ) → n ≡ count t → d ≡ markCount (take n (marksOf done)) → Answered (doneText k d) before after need

@@ -21,7 +21,7 @@ abbrev pub numbered : Conditions → List Check → Bool
 numbered [] [] = true
 numbered [] (c ∷ cs) = false
 numbered (r ∷ rs) [] = false
-numbered (r ∷ rs) (c ∷ cs) = (eqb (r .0) (c .number) && within 1 14 (r .0)) && numbered rs cs
+numbered (r ∷ rs) (c ∷ cs) = (eqb (r .0) (c .number) && within 1 15 (r .0)) && numbered rs cs
 
 -- each check fails exactly if the condition of its row holds, where the checks before it passed
 abbrev pub Tells : Conditions → List Check → Type 0
@@ -51,19 +51,19 @@ clash p q = absurd (let z : true ≡ false = sym p ∙ q in let y : _≡_ {A = �
 
 -- a number of the paper's
 abbrev Known : ℕ → Type 0
-Known n = (1 ≤ n) × (n ≤ 14)
+Known n = (1 ≤ n) × (n ≤ 15)
 
 record Row (m n k : ℕ) : Type 0 where
   number : m ≡ n
   known : Known n
   late : k ≤ rank n
 
-row : (m n k : ℕ) (x y : Bool) → (eqb m n && within 1 14 m) && x ≡ true → leb k (rank n) && y ≡ true → Row m n k
+row : (m n k : ℕ) (x y : Bool) → (eqb m n && within 1 15 m) && x ≡ true → leb k (rank n) && y ≡ true → Row m n k
 row m n k x y e h =
     let f = simp and-eq-true-iff at e in
     let g = simp and-eq-true-iff at h in
     let q = eqb-true m n (f .0 .0) in
-    record { number = q; known = (omega (arith, q, leb-true 1 m (f .0 .1 .0)), omega (arith, q, leb-true m 14 (f .0 .1 .1))); late = leb-true k (rank n) (g .0) }
+    record { number = q; known = (omega (arith, q, leb-true 1 m (f .0 .1 .0)), omega (arith, q, leb-true m 15 (f .0 .1 .1))); late = leb-true k (rank n) (g .0) }
 
 -- no condition that holds has a number before the first check's
 holds-late : (rs : Conditions) (cs : List Check) (k m : ℕ) → numbered rs cs ≡ true → rising k cs ≡ true → Holds m rs → k ≤ rank m

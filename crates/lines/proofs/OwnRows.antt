@@ -1,15 +1,18 @@
 -- The own checks of each form fail exactly if their conditions in the paper's words hold. Assumes nothing.
 use Prim.Native.Nat.{ℕ, _≤_, _<_}
-use mathlib.Core.Path.{_≡_}
-use mathlib.Core.Bool.{Bool, true, _||_}
+use mathlib.Core.Path.{_≡_, ap}
+use mathlib.Core.Bool.{Bool, true, false, not, _||_, and-false}
 use mathlib.Core.List.{List, _++_}
 use mathlib.Core.Logic.{_⊎_, inl, inr, ⊎-elim, _↔_}
 use native.Mathlib.Omega.{arith}
 use Rattle.rights.specs.Labels.{sameLabel, restricted}
 use Rattle.rights.specs.Policy.{policyWord}
-use Rattle.rights.specs.Table.{count}
+use Rattle.rights.specs.Table.{count, dayOk, windowOk}
 use Rattle.rights.specs.Tree.{Tree}
+use borrow.Author.Tests.{leb-false, lt-leb, not-true}
+use lib.Dec.{leb}
 use Rattle.rights.proofs.BoolLaws.{or-left, or-right, or-split}
+use Rattle.rights.proofs.ListLaws.{byCase}
 use Rattle.views.specs.Change.{free}
 use Rattle.views.specs.declared.insert.Place.{Place}
 use Rattle.views.specs.declared.insert.Place.the-variants as place
@@ -23,7 +26,7 @@ use Rattle.lines.specs.State.{stageC, userByte, policyBytes, policyIn, s
 use Rattle.lines.specs.Work.{onView, workInsert}
 use Rattle.lines.proofs.StateLaws.{store-held}
 use Rattle.lines.specs.Clause.{sizeOf, treeBytes, clause}
-use Rattle.lines.specs.Conditions.{Conditions, pathRows, insertRows, rows}
+use Rattle.lines.specs.Conditions.{Conditions, typedDay, NoDay, pathRows, insertRows, rows}
 use Rattle.lines.proofs.ConditionLaws.{Tells}
 use Rattle.lines.proofs.NameRows.{less-told, equal-told, path-told, bracket-told, restricted-told, unknown-told, declared-told, before-told, repeated-told, subjects-told, isa-told, rules-told}
 use Rattle.lines.proofs.TreeRows.{tree-told, place-told, places-room-told, child-told, child-room-told}
@@ -33,6 +36,31 @@ same = (λ x. x, λ x. x)
 
 or-told : (a b : Bool) → ((a ≡ true) ⊎ (b ≡ true)) ↔ (a || b ≡ true)
 or-told a b = (⊎-elim (or-left a b) (or-right a b), λ e. or-split a b e inl inr)
+
+-- 15: a number that is no day of the year, and two that are no window
+no-day : (d : ℕ) → ((d < 1) ⊎ (366 < d)) ↔ (not (dayOk d) ≡ true)
+no-day d = (
+  ⊎-elim (λ h. rw (lt-leb 1 d h)) (λ h. simp (lt-leb d 366 h, and-false)),
+  λ e. byCase (leb 1 d) (λ a. inr (leb-false d 366 (rw a at (not-true (dayOk d) e)))) (λ a. inl (leb-false 1 d a)),
+)
+
+day-told : (d : List ℕ) → NoDay d ↔ (not (dayOk (typedDay d)) ≡ true)
+day-told d = no-day (typedDay d)
+
+no-day-here : (d : List ℕ) → NoDay d → dayOk (typedDay d) ≡ false
+no-day-here d h = not-true (dayOk (typedDay d)) (day-told d .0 h)
+
+window-told : (f l : List ℕ) → (NoDay f ⊎ NoDay l ⊎ (typedDay l < typedDay f)) ↔ (not (windowOk (typedDay f) (typedDay l)) ≡ true)
+window-told f l = (
+  ⊎-elim (λ h. rw (no-day-here f h)) (⊎-elim (λ h. simp (no-day-here l h, and-false)) (λ h. simp (lt-leb (typedDay f) (typedDay l) h, and-false))),
+  λ e.
+      byCase (dayOk (typedDay f))
+      (λ a.
+      byCase (dayOk (typedDay l))
+      (λ b. inr (inr (leb-false (typedDay f) (typedDay l) (rw (a, b) at (not-true (windowOk (typedDay f) (typedDay l)) e)))))
+      (λ b. inr (inl (day-told l .1 (ap not b)))))
+      (λ a. inl (day-told f .1 (ap not a))),
+)
 
 module _ (s t : List ℕ) (L : Conditions) (ls : List Check) where
   path-tells : (p : List ℕ) → Tells L ls → Tells (pathRows s t p ++ L) (onView p s ++ ls)
@@ -70,4 +98,6 @@ module _ (s t : List ℕ) (L : Conditions) (ls : List Check) where
   own-tells word.After (p, (u, tt)) g ok h w = insert-tells place.After p u (g .values .1 .0) w
   own-tells word.Remove (p, tt) g ok h w = path-tells p w
   own-tells word.Sheet (l, tt) g ok h w = (equal-told (userByte s) 0, λ _. w)
+  own-tells word.Day (d, tt) g ok h w = (day-told d, λ _. w)
+  own-tells word.Window (p, (f, (l, tt))) g ok h w = (path-told p, λ _. (equal-told (userByte s) 0, λ _. (window-told f l, λ _. w)))
   own-tells word.Other tt g ok h w = absurd (omega (arith, g .word))

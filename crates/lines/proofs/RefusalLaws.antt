@@ -16,13 +16,13 @@ use Rattle.lines.specs.Effect.{Work, stateAfter, tableAfter, guarded, ch
 use Rattle.lines.specs.declared.line.Answer.the-variants.{Accepted, Refused}
 use Rattle.lines.proofs.OutcomeLaws.{made-at}
 
--- "13 is tested first, then 1 to 12 rising.", and "14, after 4"
+-- "13 is tested first, then 1 to 12 rising.", "14, after 4", and "15, after 10"
 abbrev pub placed : ℕ → ℕ
-placed n = cond (eqb n 13) 0 (cond (eqb n 14) 5 (cond (leb n 4) n (n + 1)))
+placed n = cond (eqb n 13) 0 (cond (eqb n 14) 5 (cond (eqb n 15) 12 (cond (leb n 4) n (cond (leb n 10) (n + 1) (n + 2)))))
 
-pub rank-is : (n : ℕ) → 1 ≤ n → n ≤ 14 → rank n ≡ placed n
+pub rank-is : (n : ℕ) → 1 ≤ n → n ≤ 15 → rank n ≡ placed n
 unfolding indexIn
-rank-is n h k = eqb-true (rank n) (placed n) (sym (on-range (λ m. eqb (rank m) (placed m)) true 1 14 tt n h (omega arith)))
+rank-is n h k = eqb-true (rank n) (placed n) (sym (on-range (λ m. eqb (rank m) (placed m)) true 1 15 tt n h (omega arith)))
 
 -- so 1 to 12 rise
 abbrev same : ℕ → ℕ → Bool
@@ -35,9 +35,9 @@ rank-rises m n a b c d =
     let all : T (flat (same m) true 1 12) = subst T row tt in
     beq-eq (ltb (rank m) (rank n)) (ltb m n) (subst T (on-range (same m) true 1 12 all n c (omega arith)) tt)
 
-pub rank-small : (n : ℕ) → 1 ≤ n → n ≤ 14 → rank n < length order
+pub rank-small : (n : ℕ) → 1 ≤ n → n ≤ 15 → rank n < length order
 unfolding indexIn
-rank-small n h k = ltb-true (rank n) 14 (sym (on-range (λ m. ltb (rank m) 14) true 1 14 tt n h (omega arith)))
+rank-small n h k = ltb-true (rank n) 15 (sym (on-range (λ m. ltb (rank m) 15) true 1 15 tt n h (omega arith)))
 
 -- the first check that fails
 

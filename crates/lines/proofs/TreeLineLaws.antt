@@ -11,7 +11,7 @@ use lib.Seq.{take-take, take-length, drop-drop, drop-at, getD-take, getD-drop, l
 use Rattle.rights.specs.Bytes.{all, isZero}
 use Rattle.rights.specs.Labels.{sameLabel, restricted}
 use Rattle.rights.specs.Policy.{some}
-use Rattle.rights.specs.Record.{noSpare, nodeRecord, pasted}
+use Rattle.rights.specs.Record.{nodeRecord, pasted}
 use Rattle.rights.specs.Table.{level, label, count, capacity, records, recordOk, recordsOk, tableOk}
 use Rattle.rights.proofs.TableLaws.{both, capacity-exact, table-long}
 use Rattle.rights.proofs.LabelLaws.{same-differ}
@@ -94,7 +94,7 @@ pub root-put : (t l p q : List ℕ) → tableOk t ≡ true → count t ≡ 0 →
 unfolding changed join
 root-put t l p q ok n h k ep eq =
     let g : 36 ≤ length t = root-room t ok h in
-    let a : p ≡ take 4 t ++ (nodeRecord 0 l ++ drop 36 t) = ep ∙ ap (λ x. pasted t 4 (nodeRecord 0 x)) (take-length l) ∙ pasted-record t 4 0 l noSpare k refl in
+    let a : p ≡ take 4 t ++ (nodeRecord 0 l ++ drop 36 t) = ep ∙ ap (λ x. pasted t 4 (nodeRecord 0 x)) (take-length l) ∙ pasted-record t 4 0 l _ k refl in
     let b : drop 4 p ≡ nodeRecord 0 l ++ drop 36 t =
     ap (drop 4) a ∙ drop-at (take 4 t) (nodeRecord 0 l ++ drop 36 t) 4 (length-take-le 4 t (omega arith)) in
     let z : 4 + count t * 32 ≡ 4 = omega (arith, n) in

@@ -13,7 +13,7 @@ use Rattle.rights.specs.Labels.{sameLabel, restricted}
 use Rattle.rights.specs.Marks.{markCount}
 use Rattle.rights.specs.Nodes.{Node, node, levelOf, labelOf}
 use Rattle.rights.specs.Policy.{some}
-use Rattle.rights.specs.Record.{noSpare, nodeRecord}
+use Rattle.rights.specs.Record.{nodeRecord}
 use Rattle.rights.specs.Table.{count, level, label, recordAt, recordsFrom, records, recordOk, recordsOk, tableOk}
 use Rattle.rights.specs.Tree.{Tree, tree, Trees, none, more, nodesOf, nodesIn}
 use Rattle.rights.proofs.BoolLaws.{or-split, or-left, or-right}
@@ -77,7 +77,7 @@ labels-told [] = (λ x. absurd x, λ e. clash {b = false} e refl)
 labels-told (node l x ∷ ns) =
     let ih = labels-told ns in
     let rest : Bool = some (λ r. sameLabel (label r) restricted) (nodeRecords ns) in
-    let q : label (nodeRecord (held l) x) ≡ x = label-made (held l) x noSpare in
+    let q : label (nodeRecord (held l) x) ≡ x = label-made (held l) x _ in
     rw q (
       ⊎-elim (λ e. or-left (sameLabel x restricted) rest e) (λ h. or-right (sameLabel x restricted) rest (ih .0 h)),
       λ e. or-split (sameLabel x restricted) rest e inl (λ b. inr (ih .1 b)),
@@ -96,7 +96,7 @@ module _ (a : ℕ) where
   deepest-told (node l x ∷ ns) =
       let d : ℕ = deepest (nodeRecords ns) in
       let ih = deepest-told ns in
-      let q : level (nodeRecord (held l) x) ≡ held l = level-made (held l) x noSpare in
+      let q : level (nodeRecord (held l) x) ≡ held l = level-made (held l) x _ in
       rw q (byCase (ltb d (held l))
       (λ e. let k = ltb-true d (held l) e in rw e (
         ⊎-elim (λ h. omega arith) (⊎-elim (λ h. omega arith) (λ h. omega (arith, k, ih .0 (inr h)))),

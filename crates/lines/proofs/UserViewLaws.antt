@@ -1,7 +1,7 @@
 -- What a session's user has and sees, where it is worked out in areas that are lent. Assumes nothing.
 use Prim.Native.Nat.{ℕ, zero, suc, _-_, _≤_, _<_}
 use mathlib.Core.Bool.{true, false}
-use mathlib.Core.Path.{_≡_, refl, sym, ap, _∙_}
+use mathlib.Core.Path.{_≡_, refl, sym, ap, ap₂, _∙_}
 use mathlib.Core.List.{List, [], _∷_, _++_, map}
 use native.Mathlib.Omega.{arith}
 use borrow.Author.Tests.{eqb-false}
@@ -38,7 +38,7 @@ use Rattle.views.proofs.AskedLaws.{shown-asked}
 use Rattle.views.proofs.TableKept.{length-records}
 use Rattle.views.proofs.ViewLaws.{view-fits, view-by-numbers, view-nested}
 use Rattle.lines.specs.How.ChangeRoom.{ForView}
-use Rattle.lines.specs.State.{userByte, userOf, policyBytes, policyIn, storeOk}
+use Rattle.lines.specs.State.{userByte, userOf, dayIn, policyBytes, policyIn, storeOk}
 use Rattle.lines.specs.UserView.{noUser, notPath, rightsIn, storedIn, viewIn, marksIn}
 use Rattle.lines.proofs.StateLaws.{store-held}
 
@@ -55,11 +55,11 @@ module _ (s t : List ℕ) (ok : storeOk s t ≡ true) (u : noUser s ≡ false) w
   user-declared = omega (arith, user-some, store-held s t ok .user)
 
 -- rights beyond the nodes are not looked at
-stored-more : (rs : List (List ℕ)) (ss more : List ℕ) (i : ℕ) → length ss ≡ length rs → storedFrom i rs (ss ++ more) ≡ storedFrom i rs ss
+stored-more : (d : ℕ) (rs : List (List ℕ)) (ss more : List ℕ) (i : ℕ) → length ss ≡ length rs → storedFrom d i rs (ss ++ more) ≡ storedFrom d i rs ss
 unfolding storedFrom
-stored-more [] ss more i e = refl
-stored-more (r ∷ rs) [] more i e = absurd (omega arith)
-stored-more (r ∷ rs) (x ∷ ss) more i e = ap (λ l. record { number = i; bytes = r; rights = x } ∷ l) (stored-more rs ss more (suc i) (omega arith))
+stored-more d [] ss more i e = refl
+stored-more d (r ∷ rs) [] more i e = absurd (omega arith)
+stored-more d (r ∷ rs) (x ∷ ss) more i e = ap (λ l. record { number = i; bytes = r; rights = x; day = d } ∷ l) (stored-more d rs ss more (suc i) (omega arith))
 
 pub rights-length : (s t : List ℕ) → length (rightsIn s t) ≡ count t
 rights-length s t = length-map (chains [] (records t)) (rightsBy _ (userOf s)) ∙ chains-length [] (records t) ∙ length-records t
@@ -87,11 +87,11 @@ module _ (s t rights' more : List ℕ) (user asked : ℕ) (e : user ≡ userByte
   asked-cover = omega (arith, ap length asked-held, length-append (askedOn asked (policyIn s) (userOf s) (records t)) more, asked-length)
 
   -- where position and read are asked, the same nodes are shown
-  pub asked-shown : ForView asked → shownNumbers (stored t rights') ≡ shownNumbers (storedIn s t)
-  asked-shown v =
-      ap (λ r. shownNumbers (stored t r)) asked-held
-      ∙ ap shownNumbers (stored-more (records t) (askedOn asked (policyIn s) (userOf s) (records t)) more 0 (asked-length ∙ sym (length-records t)))
-      ∙ shown-asked (rightsBy (policyIn s) (userOf s)) asked (v .reading) (v .seeing) (records t) (chains [] (records t))
+  pub asked-shown : ForView asked → (day : ℕ) → day ≡ dayIn s → shownNumbers (stored day t rights') ≡ shownNumbers (storedIn s t)
+  asked-shown v day today =
+      ap₂ (λ d r. shownNumbers (stored d t r)) today asked-held
+      ∙ ap shownNumbers (stored-more (dayIn s) (records t) (askedOn asked (policyIn s) (userOf s) (records t)) more 0 (asked-length ∙ sym (length-records t)))
+      ∙ shown-asked (dayIn s) (rightsBy (policyIn s) (userOf s)) asked (v .reading) (v .seeing) (records t) (chains [] (records t))
 
 -- where all rights are asked, they are the user's rights
 pub all-held : (s t : List ℕ) → storeOk s t ≡ true → (rights' more : List ℕ) → rights' ≡ askedOn 31 (policyIn s) (userOf s) (records t) ++ more → rights' ≡ rightsIn s t ++ more
@@ -105,13 +105,13 @@ module _ (s t : List ℕ) (ok : storeOk s t ≡ true) (shown' more : List ℕ) (
       rw (z, q) (take-at (shownNumbers (storedIn s t)) more (length (shownNumbers (storedIn s t))) refl)
 
   pub shown-fits : Fits t (take (k - 0) (drop 0 shown'))
-  shown-fits = rw shown-part (view-fits t (rightsIn s t) (store-held s t ok .table))
+  shown-fits = rw shown-part (view-fits (dayIn s) t (rightsIn s t) (store-held s t ok .table))
 
   pub shown-long : k ≤ length shown'
   shown-long = omega (arith, ap length q, length-append (shownNumbers (storedIn s t)) more)
 
   pub shown-view : viewOf t (take (k - 0) (drop 0 shown')) ≡ viewIn s t
-  shown-view = ap (viewOf t) shown-part ∙ view-by-numbers t (rightsIn s t) (store-held s t ok .table)
+  shown-view = ap (viewOf t) shown-part ∙ view-by-numbers (dayIn s) t (rightsIn s t) (store-held s t ok .table)
 
 -- the policy, and the subjects for which `$` stands, as the selection asks for them
 pub own-asks : (s t : List ℕ) → storeOk s t ≡ true → (ks : List ℕ) (m : ℕ) → OwnFirst (policyBytes s) (userOf s) ks m
@@ -122,7 +122,7 @@ marks-long : (s t path : List ℕ) → length (marksIn s t path) ≡ length (vie
 marks-long s t path = each-length _ 0 (length (viewIn s t))
 
 view-long : (s t : List ℕ) → storeOk s t ≡ true → length (viewIn s t) ≡ length (shownNumbers (storedIn s t))
-view-long s t ok = sym (ap length (view-by-numbers t (rightsIn s t) (store-held s t ok .table))) ∙ view-length t (shownNumbers (storedIn s t))
+view-long s t ok = sym (ap length (view-by-numbers (dayIn s) t (rightsIn s t) (store-held s t ok .table))) ∙ view-length t (shownNumbers (storedIn s t))
 
 pub marks-size : (s t path : List ℕ) → storeOk s t ≡ true → length (marksIn s t path) ≡ length (shownNumbers (storedIn s t))
 marks-size s t path ok = marks-long s t path ∙ view-long s t ok
@@ -136,7 +136,7 @@ module _ (s t path : List ℕ) (ok : storeOk s t ≡ true) (ks : List ℕ) (m : 
       ap (λ p. nameAmong p (take (m - 0) (drop 0 ks))) (rest-of s 8) ∙ own-passes (own-part own) in
       let marks : selection path (passesOwn (policyIn s) (userOf s)) nodes ≡ marksIn s t path =
       ap (selection path (passesOwn (policyIn s) (userOf s))) v
-      ∙ selection-xpath (passesOwn (policyIn s) (userOf s)) (viewIn s t) (view-nested t (rightsIn s t) (store-held s t ok .table)) path in
+      ∙ selection-xpath (passesOwn (policyIn s) (userOf s)) (viewIn s t) (view-nested (dayIn s) t (rightsIn s t) (store-held s t ok .table)) path in
       q
       ∙ ap (λ f. map bit (selection path f nodes) ++ drop (length nodes) before) mine
       ∙ ap (λ l. map bit l ++ drop (length nodes) before) marks

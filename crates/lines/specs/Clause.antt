@@ -18,7 +18,7 @@ use Rattle.forms.specs.Form.{AllHeld, ReadForm}
 use Rattle.forms.specs.Command.{Command, formOf}
 use Rattle.lines.specs.Effect.{Work, reading}
 use Rattle.lines.specs.Refusal.{check, noForm}
-use Rattle.lines.specs.Work.{workSubject, workIsa, workRule, workRoot, workChild, workUser, workView, workAsk, workRename, workInsert, workRemove, workSheet}
+use Rattle.lines.specs.Work.{workSubject, workIsa, workRule, workRoot, workChild, workUser, workView, workAsk, workRename, workInsert, workRemove, workSheet, workDay, workWindow}
 use Rattle.lines.specs.declared.queries.Ask.the-variants as ask
 
 -- the records of a tree, the root at level 0
@@ -42,6 +42,8 @@ workBy word.Before (p, (ns, tt)) s t = workInsert place.Before s t p (length ns)
 workBy word.After (p, (ns, tt)) s t = workInsert place.After s t p (length ns) (recordsOf ns)
 workBy word.Remove (p, tt) s t = workRemove s t p
 workBy word.Sheet (l, tt) s t = workSheet s t l
+workBy word.Day (d, tt) s t = workDay d
+workBy word.Window (p, (f, (l, tt))) s t = workWindow s t p f l
 -- "2 no form listed above"
 workBy word.Other tt s t = record { checks = check noForm true ∷ []; text = []; effect = reading }
 

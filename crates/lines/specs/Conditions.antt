@@ -10,6 +10,7 @@ use Rattle.rights.specs.Labels.{sameLabel, restricted}
 use Rattle.rights.specs.Marks.{markCount}
 use Rattle.rights.specs.Nodes.{levelOf, labelOf}
 use Rattle.rights.specs.Path.{Path}
+use Rattle.rights.specs.PathReader.{numberOf}
 use Rattle.rights.specs.PathText.{write, Within}
 use Rattle.rights.specs.Policy.{Policy, nameOf, policyWord, some, uses}
 use Rattle.rights.specs.Table.{count, level, recordAt}
@@ -71,6 +72,13 @@ TreeRestricted u = Some (λ n. IsRestricted (labelOf n)) (nodesOf 0 u)
 abbrev pub DeepAt : ℕ → Tree → Type 0
 DeepAt l u = Some (λ n. 11 < levelOf n) (nodesOf l u)
 
+-- "15 .. a day outside 1 to 366 or F after T" (document 02, card 7): of days as they are typed
+abbrev pub typedDay : List ℕ → ℕ
+typedDay d = numberOf 0 d
+
+abbrev pub NoDay : List ℕ → Type 0
+NoDay d = (typedDay d < 1) ⊎ (366 < typedDay d)
+
 -- Rows: a number, and its condition
 abbrev pub Conditions : Type 1
 Conditions = List (ℕ × Type 0)
@@ -126,6 +134,8 @@ module _ (s t : List ℕ) where
   rowsBy word.After (p, (u, tt)) = insertRows place.After p u
   rowsBy word.Remove (p, tt) = pathRows p
   rowsBy word.Sheet (l, tt) = viewRows
+  rowsBy word.Day (d, tt) = (15, NoDay d) ∷ []
+  rowsBy word.Window (p, (f, (l, tt))) = pathRows p ++ ((15, NoDay f ⊎ NoDay l ⊎ (typedDay l < typedDay f)) ∷ [])
   rowsBy word.Other tt = []
 
   abbrev pub rows : Command → Conditions

@@ -5,12 +5,12 @@ use mathlib.Core.List.{List, [], _∷_, _++_}
 use lib.ListN.{length}
 use Rattle.rights.specs.Record.{nodeRecord}
 use Rattle.rights.specs.Table.{records, level}
-use Rattle.views.specs.Change.{insertMarked, rename, remove, chunks, raise, relabel, changed}
+use Rattle.views.specs.Change.{insertMarked, rename, remove, chunks, raise, relabel, redate, changed}
 use Rattle.views.specs.declared.insert.Place.{Place}
 use Rattle.lines.specs.Outcome.{Outcome, says, Made}
 use Rattle.lines.specs.Refusal.{Check, areaCheck, checked}
 use Rattle.lines.specs.declared.line.Answer.{Answer}
-use Rattle.lines.specs.State.{stageC, stageE, withStage, withSession, withPolicy}
+use Rattle.lines.specs.State.{stageC, stageE, withStage, withSession, withDay, withPolicy}
 
 pub data Effect : Type 0 where
   -- a line of A or B: the policy's bytes and the stage afterwards
@@ -23,8 +23,12 @@ pub data Effect : Type 0 where
   renaming : List ℕ → List Bool → Effect
   -- the marks
   removal : List Bool → Effect
+  -- the first and the last day of the new window, the marks
+  redating : ℕ → ℕ → List Bool → Effect
   -- the subject's number
   login : ℕ → Effect
+  -- the session's day
+  dating : ℕ → Effect
   reading : Effect
 
 abbrev pub stateAfter : Effect → List ℕ → List ℕ
@@ -33,7 +37,9 @@ stateAfter (root l) s = withStage stageC s
 stateAfter (insertion at ms m tree g) s = withStage g s
 stateAfter (renaming l ms) s = s
 stateAfter (removal ms) s = s
+stateAfter (redating f l ms) s = s
 stateAfter (login u) s = withSession stageE (u + 1) s
+stateAfter (dating d) s = withStage stageE (withDay d s)
 stateAfter reading s = s
 
 -- The nodes after an effect, of anything with a level: the records of a table, or records that carry which node they are. `new` makes nodes of the records that a
@@ -45,7 +51,9 @@ module _ {E : Type 0} (lev : E → ℕ) (new : List (List ℕ) → List E) (on :
   nodesAfter (insertion at ms m tree g) ns = insertMarked lev at (λ l. new (raise l (chunks m tree))) ms ns
   nodesAfter (renaming l ms) ns = rename lev (on (relabel l)) ms ns
   nodesAfter (removal ms) ns = remove lev ms ns
+  nodesAfter (redating f l ms) ns = rename lev (on (redate f l)) ms ns
   nodesAfter (login u) ns = ns
+  nodesAfter (dating d) ns = ns
   nodesAfter reading ns = ns
 
 abbrev pub recordsAfter : Effect → List (List ℕ) → List (List ℕ)
@@ -58,7 +66,9 @@ tableAfter (root l) t = changed t (recordsAfter (root l) (records t))
 tableAfter (insertion at ms m tree g) t = changed t (recordsAfter (insertion at ms m tree g) (records t))
 tableAfter (renaming l ms) t = changed t (recordsAfter (renaming l ms) (records t))
 tableAfter (removal ms) t = changed t (recordsAfter (removal ms) (records t))
+tableAfter (redating f l ms) t = changed t (recordsAfter (redating f l ms) (records t))
 tableAfter (login u) t = t
+tableAfter (dating d) t = t
 tableAfter reading t = t
 
 -- A form's work: the checks that may turn it down, in their order; what it answers and does where none of them fails.

@@ -55,7 +55,7 @@ abbrev pub areaShort : ℕ
 areaShort = 12
 
 -- "13 a table .. against "Tree and table"; a state against the limits, names, paths or stages above; a root in the table without the root line taken, or the
--- reverse"
+-- reverse"; "13 takes in bad windows and a state's day outside 1 to 366" (document 02, card 7)
 abbrev pub badStore : ℕ
 badStore = 13
 
@@ -64,7 +64,11 @@ badStore = 13
 abbrev pub noDocument : ℕ
 noDocument = 14
 
--- "13 is tested first, then 1 to 12 rising."; "14, after 4"
+-- "15, after 10, for a day outside 1 to 366 or F after T" (document 02, card 7)
+abbrev pub badDay : ℕ
+badDay = 15
+
+-- "13 is tested first, then 1 to 12 rising."; "14, after 4"; "15, after 10"
 abbrev pub order : List ℕ
 order =
     badStore
@@ -79,6 +83,7 @@ order =
     ∷ noUserYet
     ∷ bannedLabel
     ∷ levelTooDeep
+    ∷ badDay
     ∷ tableFull
     ∷ areaShort
     ∷ []

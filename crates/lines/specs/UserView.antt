@@ -16,18 +16,18 @@ use Rattle.rights.specs.Table.{records}
 use Rattle.views.specs.Shown.{Stored, stored, view, shown}
 use Rattle.views.specs.Done.{doneMarks, inTable}
 use Rattle.views.specs.declared.done.Change.{Change}
-use Rattle.lines.specs.State.{userByte, userOf, policyIn}
+use Rattle.lines.specs.State.{userByte, userOf, dayIn, policyIn}
 
 -- there is no user yet
 abbrev pub noUser : List ℕ → Bool
 noUser s = eqb (userByte s) 0
 
--- the user's rights on each node of the stored tree, the stored nodes with them, and the view
+-- the user's rights on each node of the stored tree, the stored nodes with them on the session's day, and the view
 abbrev pub rightsIn : List ℕ → List ℕ → List ℕ
 rightsIn s t = rightsOn (policyIn s) (userOf s) (records t)
 
 abbrev pub storedIn : List ℕ → List ℕ → List Stored
-storedIn s t = stored t (rightsIn s t)
+storedIn s t = stored (dayIn s) t (rightsIn s t)
 
 abbrev pub viewIn : List ℕ → List ℕ → Nodes
 viewIn s t = view (storedIn s t)

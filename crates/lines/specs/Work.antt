@@ -1,5 +1,5 @@
 -- The work of each form: its checks in the paper's order, its answer and its effect (document 01, "Lines", "Changes", "What is written", "Who can be turned
--- down").
+-- down"; document 02, cards 3 and 7).
 use Prim.Native.Nat.{ℕ, _+_}
 use mathlib.Core.Bool.{Bool, true, not, _||_}
 use mathlib.Core.List.{List, [], _∷_, _++_}
@@ -9,7 +9,7 @@ use Rattle.rights.specs.Nodes.{Nodes}
 use Rattle.rights.specs.PathReader.{pathOf}
 use Rattle.rights.specs.Policy.{policyWord, some}
 use Rattle.rights.specs.PolicyBytes.{policyOf, subjectCount, isaCount, ruleCount}
-use Rattle.rights.specs.Table.{records, label}
+use Rattle.rights.specs.Table.{records, label, dayOk, windowOk}
 use Rattle.views.specs.Change.{chunks, lower, deepest, tooDeep, hasRoom, free}
 use Rattle.rights.specs.Marks.{markCount, keep}
 use Rattle.views.specs.declared.done.Change.{Change}
@@ -18,9 +18,9 @@ use Rattle.views.specs.declared.insert.Place.{Place}
 use Rattle.views.specs.declared.insert.Place.the-variants.{Append, After, Before}
 use Rattle.answers.specs.Answer.{okText, doneText, queryText, findText, viewText}
 use Rattle.answers.specs.Sheet.{sheetText}
-use Rattle.lines.specs.Effect.{Work, guarded, policy, root, insertion, renaming, removal, login, reading}
+use Rattle.lines.specs.Effect.{Work, guarded, policy, root, insertion, renaming, removal, redating, login, dating, reading}
 use Rattle.lines.specs.PolicyEdit.{isUnknown, numberIn, subjectNamed, isaHeld, hasBracket, pathRestricted, stepsIn, withSubject, withIsa, withRule}
-use Rattle.lines.specs.Refusal.{Check, check, badPath, badName, ruleBracket, policyFull, noUserYet, bannedLabel, levelTooDeep, tableFull}
+use Rattle.lines.specs.Refusal.{Check, check, badPath, badName, ruleBracket, policyFull, noUserYet, bannedLabel, levelTooDeep, tableFull, badDay}
 use Rattle.lines.specs.State.{stageB, stageD, stage, policyBytes, policyIn}
 use Rattle.lines.specs.UserView.{noUser, notPath, viewIn, marksIn, doneIn}
 use Rattle.lines.specs.declared.policy_edit.Found.{Found}
@@ -132,6 +132,13 @@ workUser s name =
       effect = login (numberIn (subjectNamed (policyIn s) name));
     }
 
+-- `(day D)` (document 02, card 7): it "sets the session's day .. needs no user"
+abbrev pub dayChecks : ℕ → List Check
+dayChecks d = check badDay (not (dayOk d)) ∷ []
+
+abbrev pub workDay : ℕ → Work
+workDay d = record { checks = dayChecks d; text = okText; effect = dating d }
+
 -- `(view)`
 abbrev pub viewChecks : List ℕ → List Check
 viewChecks s = check noUserYet (noUser s) ∷ []
@@ -186,3 +193,15 @@ workInsert place s t path m tree =
 abbrev pub workRemove : List ℕ → List ℕ → List ℕ → Work
 workRemove s t path =
     record { checks = onView path s; text = countText change.Remove s t path; effect = removal (doneIn change.Remove s t path) }
+
+-- `(window P F T)` (document 02, card 7): "15, after 10, for a day outside 1 to 366 or F after T", whatever is selected
+abbrev pub windowChecks : List ℕ → List ℕ → ℕ → ℕ → List Check
+windowChecks s path first last = onView path s ++ (check badDay (not (windowOk first last)) ∷ [])
+
+abbrev pub workWindow : List ℕ → List ℕ → List ℕ → ℕ → ℕ → Work
+workWindow s t path first last =
+    record {
+      checks = windowChecks s path first last;
+      text = countText change.Window s t path;
+      effect = redating first last (doneIn change.Window s t path);
+    }

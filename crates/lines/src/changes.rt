@@ -1,8 +1,9 @@
-// The six changes (document 01, stage E and "Changes"). Everything is decided, and the answer put, before a byte of the table is written.
+// The seven changes (document 01, stage E and "Changes"; document 02, card 7). Everything is decided, and the answer put, before a byte of the table is written.
 use crate::limits::POLICY_AT;
 use crate::line::Answer;
 use crate::queries::path_refusal;
 use crate::queries::select_user;
+use crate::refusals::BAD_DAY;
 use crate::refusals::BANNED_LABEL;
 use crate::refusals::area_refusal;
 use crate::tree_lines::insert_refusal;
@@ -14,11 +15,13 @@ use rights::limits::RECORDS_MAX;
 use rights::marks::count_marks;
 use rights::policy::is_policy_word;
 use rights::table::count_of;
+use rights::table::window_ok;
 use views::done::Change;
 use views::done::mark_done;
 use views::insert::Place;
 use views::insert::insert_marked;
 use views::remove::remove_marked;
+use views::rename::redate_marked;
 use views::rename::rename_marked;
 ghost use mathlib.Core.Path.{_≡_};
 ghost use mathlib.Core.Bool.{true, _||_};
@@ -31,11 +34,11 @@ ghost use Rattle.rights.specs.Table.{count, tableOk};
 ghost use Rattle.rights.specs.Marks.{marksOf, markCount};
 ghost use Rattle.answers.specs.Answer.{doneText};
 ghost use Rattle.answers.specs.How.AnswerArea.{Answered};
-ghost use Rattle.lines.specs.How.ChangeRoom.{Decided};
+ghost use Rattle.lines.specs.How.ChangeRoom.{Decided, MarkedFor};
 ghost use Rattle.lines.specs.Effect.{Performs};
 ghost use Rattle.lines.specs.Refusal.{Passed, firstRefusal};
 ghost use Rattle.lines.specs.State.{stage, policyIn, storeOk};
-ghost use Rattle.lines.specs.Work.{onView, renameChecks, treeChecks, changeAt, insertAt, workRename, workInsert, workRemove};
+ghost use Rattle.lines.specs.Work.{onView, countText, renameChecks, treeChecks, windowChecks, changeAt, insertAt, workRename, workInsert, workRemove, workWindow};
 
 // Writes the marks of the records that the change does, and returns how many nodes are selected.
 fn mark_change(state: &[u8], table: &[u8], change: Change, path: &[u8], done: &mut [u8]) -> usize
@@ -76,6 +79,24 @@ fn answer_change(table: &[u8], selected: usize, done: &[u8], area: &mut [u8]) ->
     let n = count_of(table);
     let d = count_marks(done, n);
     answer_done(selected, d, area)
+}
+
+// Marks the records that a change does, and answers it.
+fn answer_marked(
+    state: &[u8],
+    table: &[u8],
+    change: Change,
+    path: &[u8],
+    done: &mut [u8],
+    area: &mut [u8],
+) -> usize
+    requires { ⌜ (storeOk (now state) (now table) ≡ true) × Passed (onView (now path) (now state)) × (length (now done) ≡ recordsMax) ⌝ }
+    ensures { λ r. ⌜ MarkedFor change (now (state .entry)) (now (table .entry)) (now (path .entry)) (now (done .entry)) (now (done .exit))
+        × Answered (countText change (now (state .entry)) (now (table .entry)) (now (path .entry))) (now (area .entry)) (now (area .exit)) r ⌝ }
+{
+    let k = mark_change(state, table, change, path, done);
+    let n = count_of(table);
+    answer_change(table, k, &done[0..n], area)
 }
 
 // Whether a label is none that a node may get by rename or update: RESTRICTED, or a policy word.
@@ -122,13 +143,12 @@ pub fn rename(
         return Answer::Refused(down);
     }
     let mut done = [0u8; RECORDS_MAX];
-    let k = mark_change(state, table, change, path, &mut done);
-    let n = count_of(table);
-    let need = answer_change(table, k, &done[0..n], area);
+    let need = answer_marked(state, table, change, path, &mut done, area);
     let short = area_refusal(need, area.len());
     if short != 0 {
         return Answer::Refused(short);
     }
+    let n = count_of(table);
     rename_marked(table, &done[0..n], label, 0, label.len());
     Answer::Accepted(need)
 }
@@ -144,14 +164,56 @@ pub fn remove(state: &[u8], table: &mut [u8], path: &[u8], area: &mut [u8]) -> A
         return Answer::Refused(down);
     }
     let mut done = [0u8; RECORDS_MAX];
-    let k = mark_change(state, table, Change::Remove, path, &mut done);
-    let n = count_of(table);
-    let need = answer_change(table, k, &done[0..n], area);
+    let need = answer_marked(state, table, Change::Remove, path, &mut done, area);
     let short = area_refusal(need, area.len());
     if short != 0 {
         return Answer::Refused(short);
     }
+    let n = count_of(table);
     remove_marked(table, &done[0..n]);
+    Answer::Accepted(need)
+}
+
+// The refusal of `(window P F T)`.
+fn window_refusal(state: &[u8], path: &[u8], first: usize, last: usize) -> u8
+    requires { ⌜ 2 ≤ length (now state) ⌝ }
+    ensures { λ r. ⌜ r ≡ firstRefusal (windowChecks (now (state .entry)) (now (path .entry)) first last) ⌝ }
+{
+    let down = path_refusal(state, path);
+    if down != 0 {
+        return down;
+    }
+    if window_ok(first, last) {
+        return 0;
+    }
+    BAD_DAY
+}
+
+// `(window P F T)`: the days first and last.
+pub fn window(
+    state: &[u8],
+    table: &mut [u8],
+    path: &[u8],
+    first: usize,
+    last: usize,
+    area: &mut [u8],
+) -> Answer
+    requires { ⌜ storeOk (now state) (now table) ≡ true ⌝ }
+    ensures { λ r. ⌜ Performs (workWindow (now (state .entry)) (now (table .entry)) (now (path .entry)) first last)
+        (now (state .entry)) (now (table .entry)) (now (area .entry)) r (now (state .entry)) (now (table .exit)) (now (area .exit)) ⌝ }
+{
+    let down = window_refusal(state, path, first, last);
+    if down != 0 {
+        return Answer::Refused(down);
+    }
+    let mut done = [0u8; RECORDS_MAX];
+    let need = answer_marked(state, table, Change::Window, path, &mut done, area);
+    let short = area_refusal(need, area.len());
+    if short != 0 {
+        return Answer::Refused(short);
+    }
+    let n = count_of(table);
+    redate_marked(table, &done[0..n], first, last);
     Answer::Accepted(need)
 }
 

@@ -4,6 +4,7 @@ use crate::line::Answer;
 use crate::refusals::BAD_PATH;
 use crate::refusals::NO_USER_YET;
 use crate::refusals::area_refusal;
+use crate::state::day_in;
 use answers::answer::answer_find;
 use answers::answer::answer_query;
 use answers::answer::answer_view;
@@ -102,7 +103,7 @@ fn show_user(state: &[u8], table: &[u8], asked: u8, rights: &mut [u8], shown: &m
         asked,
         rights,
     );
-    let nodes = show(table, &rights[..], shown);
+    let nodes = show(table, &rights[..], day_in(state), shown);
     Seen {
         subjects: subjects,
         own: own,

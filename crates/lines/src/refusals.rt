@@ -47,6 +47,9 @@ pub const BAD_STORE: u8 = 13;
 // "attributes, comments, declarations, entities, CDATA, mismatched tags or anything else outside this kind" (document 02, card 2)
 pub const NO_DOCUMENT: u8 = 14;
 
+// "a day outside 1 to 366 or F after T" (document 02, card 7)
+pub const BAD_DAY: u8 = 15;
+
 // The refusal of an answer of `need` bytes in an area of `room`.
 pub fn area_refusal(need: usize, room: usize) -> u8
     ensures { λ r. ⌜ r ≡ firstRefusal (areaCheck room need ∷ []) ⌝ }

@@ -1,12 +1,15 @@
 // The state (document 01, "Lines" and 13; docs/FORMAT.md): the session, then the policy.
+use crate::limits::DAY_AT;
 use crate::limits::POLICY_AT;
 use crate::limits::STATE_BYTES;
 use forms::limits::STAGE_B;
 use forms::limits::STAGE_C;
 use forms::limits::STAGE_E;
 use rights::bytes::zeros_at;
+use rights::limits::DAYS_MAX;
 use rights::policy_check::policy_ok;
 use rights::table::count_of;
+use rights::table::day_at;
 use rights::table::table_ok;
 ghost use mathlib.Core.Path.{_≡_};
 ghost use mathlib.Core.Bool.{true, _||_, Bool·beq};
@@ -15,7 +18,7 @@ ghost use lib.Dec.{eqb, leb};
 ghost use lib.ListN.{length};
 ghost use Rattle.rights.specs.Limits.{stateSize};
 ghost use Rattle.rights.specs.Table.{tableOk};
-ghost use Rattle.lines.specs.State.{userAtE, sessionOk, stateOk, agrees, storeOk};
+ghost use Rattle.lines.specs.State.{userAtE, dayIn, sessionOk, stateOk, agrees, storeOk};
 
 // Whether two tests say the same.
 fn same(a: bool, b: bool) -> bool
@@ -37,12 +40,23 @@ fn rules_in_stage(rules: u8, stage: u8) -> bool
     STAGE_B <= stage
 }
 
-// Whether there is a user exactly at stage E.
+// Whether there is a user at stage E alone.
 fn user_at_e(state: &[u8]) -> bool
     requires { ⌜ 2 ≤ length (now state) ⌝ }
     ensures { λ r. ⌜ r ≡ userAtE (now (state .entry)) ⌝ }
 {
-    same(state[0] == STAGE_E, 1 <= state[1])
+    if state[1] == 0 {
+        return true;
+    }
+    state[0] == STAGE_E
+}
+
+// The session's day, which is held less one.
+pub(crate) fn day_in(state: &[u8]) -> usize
+    requires { ⌜ 4 ≤ length (now state) ⌝ }
+    ensures { λ r. ⌜ r ≡ dayIn (now (state .entry)) ⌝ }
+{
+    day_at(state, DAY_AT) + 1
 }
 
 // Whether the session fits its policy.
@@ -57,7 +71,10 @@ fn session_ok(state: &[u8]) -> bool
     if state[POLICY_AT] < state[1] {
         return false;
     }
-    if !zeros_at(state, 2, 6) {
+    if DAYS_MAX < day_in(state) {
+        return false;
+    }
+    if !zeros_at(state, DAY_AT + 2, 4) {
         return false;
     }
     if !rules_in_stage(state[POLICY_AT + 2], stage) {

@@ -53,3 +53,4 @@ pub mod HeldPolicyLaws
 pub mod TreeShapeLaws
 pub mod HeldTableLaws
 pub mod AllowedTableLaws
+pub mod WindowLaws

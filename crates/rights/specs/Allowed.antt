@@ -5,12 +5,12 @@ use mathlib.Core.Path.{_≡_}
 use mathlib.Core.Bool.{true, false}
 use mathlib.Core.List.{List, [], _∷_}
 use lib.ListN.{length, getD}
-use Rattle.rights.specs.Limits.{labelMax, stepsMax}
+use Rattle.rights.specs.Limits.{labelMax, stepsMax, daysMax}
 use Rattle.rights.specs.Bytes.{all}
 use Rattle.rights.specs.Labels.{labelByte, sameLabel, restricted}
 use Rattle.rights.specs.Path.{Test, label, any, own}
 use Rattle.rights.specs.Policy.{Right, bitOf, Rule, Policy, nameOf}
-use Rattle.rights.specs.Nodes.{levelOf, labelOf, Nodes, TreeShaped}
+use Rattle.rights.specs.Nodes.{levelOf, labelOf, Nodes, DatedNode, TreeShaped}
 
 -- P holds of each
 abbrev pub All : {E : Type 0} → (E → Type 0) → List E → Type 0
@@ -64,3 +64,10 @@ pub record AllowedNodes (t : Nodes) : Type 0 where
   pub shape : TreeShaped t
   pub levels : All (λ x. levelOf x ≤ 11) t
   pub labels : All (λ x. LabelOk (labelOf x)) t
+
+-- A window (document 02, card 7): its days are "1 to 366", and the first is not after the last; the root's is the whole year.
+pub record AllowedWindow (x : DatedNode) : Type 0 where
+  pub some : 1 ≤ x .first
+  pub ordered : x .first ≤ x .last
+  pub within : x .last ≤ daysMax
+  pub root : levelOf (x .node) ≡ 0 → (x .first ≡ 1) × (x .last ≡ daysMax)

@@ -7,10 +7,10 @@ use Rattle.rights.specs.Marks.{bit}
 use Rattle.rights.specs.Path.{Test, Axis, Child, Descendant}
 use Rattle.rights.specs.PathText.{writeTest}
 use Rattle.rights.specs.Policy.{Rule, Policy}
-use Rattle.rights.specs.Nodes.{Node, node, levelOf, labelOf, Nodes}
-use Rattle.rights.specs.Table.{level, label, records, capacity}
-use Rattle.rights.specs.Record.{nodeRecord, nameRecord}
-use Rattle.rights.specs.Allowed.{AllowedPolicy, AllowedNodes}
+use Rattle.rights.specs.Nodes.{Node, node, levelOf, labelOf, Nodes, DatedNode}
+use Rattle.rights.specs.Table.{level, label, firstDay, lastDay, records, capacity}
+use Rattle.rights.specs.Record.{datedRecord, nodeRecord, nameRecord}
+use Rattle.rights.specs.Allowed.{All, AllowedPolicy, AllowedNodes, AllowedWindow}
 
 -- a number as four bytes, the lowest first
 abbrev pub le4 : ℕ → List ℕ
@@ -25,7 +25,11 @@ join (r ∷ rs) = r ++ join rs
 abbrev pub tableBytes : ℕ → List (List ℕ) → List ℕ
 tableBytes n rs = le4 (length rs) ++ (join rs ++ replicate (n - (4 + length rs * 32)) 0)
 
--- a node as a record; what a record says, and the nodes of the stored tree: of each record its level and its true label ("A true label is the stored one.")
+-- a node with its window as a record, and a new node; what a record says, and the nodes of the stored tree: of each record its level and its true label ("A true
+-- label is the stored one.")
+abbrev pub datedBytes : DatedNode → List ℕ
+datedBytes x = datedRecord (levelOf (x .node)) (labelOf (x .node)) (x .first) (x .last)
+
 abbrev pub nodeBytes : Node → List ℕ
 nodeBytes x = nodeRecord (levelOf x) (labelOf x)
 
@@ -35,13 +39,21 @@ nodeIn r = node (level r) (label r)
 abbrev pub storedNodes : List ℕ → Nodes
 storedNodes t = map nodeIn (records t)
 
+-- with their windows
+abbrev pub datedIn : List ℕ → DatedNode
+datedIn r = record { node = nodeIn r; first = firstDay r; last = lastDay r }
+
+abbrev pub datedNodes : List ℕ → List DatedNode
+datedNodes t = map datedIn (records t)
+
 -- The bytes are a table that holds these nodes and that 13 lets pass: no "table under 4 bytes, with a count above its capacity, or with bytes or records against
--- "Tree and table" (RESTRICTED as a label included)".
-pub record HoldsNodes (t : List ℕ) (nodes : Nodes) : Type 0 where
-  pub allowed : AllowedNodes nodes
+-- "Tree and table" (RESTRICTED as a label included)"; "13 takes in bad windows" (document 02, card 7).
+pub record HoldsNodes (t : List ℕ) (nodes : List DatedNode) : Type 0 where
+  pub allowed : AllowedNodes (map (λ x. x .node) nodes)
+  pub windows : All AllowedWindow nodes
   pub head : 4 ≤ length t
   pub room : length nodes ≤ capacity (length t)
-  pub bytes : t ≡ tableBytes (length t) (map nodeBytes nodes)
+  pub bytes : t ≡ tableBytes (length t) (map datedBytes nodes)
 
 -- Places of w bytes for at most so many: those in use, one after the other, and zeros in the others.
 abbrev pub inPlaces : {A : Type 0} → ℕ → ℕ → (A → List ℕ) → List A → List ℕ

@@ -33,6 +33,7 @@ PartFits s kind.Path p = Unit {0}
 PartFits s kind.Tree ns = TreePart s ns
 PartFits s kind.Sign b = Unit {0}
 PartFits s kind.Right b = (r : Right) × (b ≡ bitOf r)
+PartFits s kind.Day d = Unit {0}
 
 abbrev pub AllFit : List ℕ → (ks : List Kind) → AllHeld ks → Type 0
 AllFit s [] hs = Unit {0}
@@ -63,6 +64,7 @@ value-fits s kind.Path p g h = tt
 value-fits s kind.Tree t g h = record { is = t; good = g; nodes = refl; short = h; small = omega (arith, tree-size t 0 g, h) }
 value-fits s kind.Sign b g h = tt
 value-fits s kind.Right r g h = (r, refl)
+value-fits s kind.Day d g h = tt
 
 values-fit : (s : List ℕ) (ks : List Kind) (vs : Values ks) → GoodValues ks vs → length (writeValues ks vs) ≤ length s → AllFit s ks (allHeldOf ks vs)
 values-fit s [] vs g h = tt

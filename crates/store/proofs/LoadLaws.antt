@@ -2,18 +2,20 @@
 use Prim.Native.Nat.{ℕ, suc, _+_, _-_, _≤_, _<_}
 use mathlib.Core.Path.{_≡_, refl, sym, ap, ap₂, subst, _∙_}
 use mathlib.Core.Bool.{Bool, true, false, not, Bool·beq, and-eq-true-iff}
-use mathlib.Core.List.{List, [], _∷_, _++_, map, map-append, append-assoc, append-nil}
+use mathlib.Core.List.{List, [], _∷_, _++_, map, map-map, map-append, append-assoc, append-nil}
 use mathlib.Core.Logic.{inl, _↔_}
 use native.Mathlib.Omega.{arith}
 use borrow.Author.Tests.{leb-false, le-leb, ltb-true, ltb-false, lt-leb, le-ltb, not-false}
 use lib.Dec.{leb, ltb}
 use lib.ListN.{length, length-map, length-append}
-use Rattle.rights.specs.Nodes.{node, Nodes, levelOf, labelOf, TreeShaped}
-use Rattle.rights.specs.Allowed.{All, LabelOk, AllowedNodes}
-use Rattle.rights.specs.Held.{nodeBytes, tableBytes, storedNodes, HoldsNodes}
+use Rattle.rights.specs.Limits.{daysMax}
+use Rattle.rights.specs.Nodes.{Node, node, Nodes, DatedNode, levelOf, labelOf, TreeShaped}
+use Rattle.rights.specs.Allowed.{All, LabelOk, AllowedNodes, AllowedWindow}
+use Rattle.rights.specs.Held.{datedBytes, nodeBytes, tableBytes, storedNodes, HoldsNodes}
 use Rattle.rights.specs.Table.{count, capacity, records, tableOk}
 use Rattle.rights.specs.Tree.{Tree, tree, Trees, none, more, nodesOf, nodesIn, sizeOf}
 use Rattle.rights.proofs.AllLaws.{all-with}
+use Rattle.rights.proofs.AllowedTableLaws.{dated-stored, allowed-table}
 use Rattle.rights.proofs.HeldTableLaws.{length-table, count-table, records-table}
 use Rattle.rights.proofs.ListLaws.{byCase}
 use Rattle.rights.proofs.PathTexts.{and-right}
@@ -26,7 +28,6 @@ use Rattle.answers.specs.Answer.{okText}
 use Rattle.forms.specs.declared.layout.Word.the-variants as word
 use Rattle.forms.specs.Command.{Command, command}
 use Rattle.forms.specs.TreeText.{GoodTree, GoodTrees}
-use Rattle.lines.specs.Allowed.{Session, sessionIn, HoldsSession, HoldsStore}
 use Rattle.lines.specs.Clause.{treeBytes, clause}
 use Rattle.lines.specs.Conditions.{IsRestricted, TreeRestricted, DeepAt}
 use Rattle.lines.specs.Effect.{stateAfter, tableAfter, guarded, checksIn, performed}
@@ -34,39 +35,32 @@ use Rattle.lines.specs.Outcome.{Outcome, says}
 use Rattle.lines.specs.Refusal.{Check, Passed}
 use Rattle.lines.specs.State.{stageC, stage, withStage, stateOk, storeOk}
 use Rattle.lines.specs.Work.{treeRestricted, rootAlone}
-use Rattle.lines.proofs.AllowedStoreLaws.{state-allowed, allowed-store}
 use Rattle.lines.proofs.CheckLaws.{answered-passed}
 use Rattle.lines.proofs.ConditionLaws.{clash}
 use Rattle.lines.proofs.RefusalLaws.{checked-passed}
-use Rattle.lines.proofs.StateLaws.{store-held}
+use Rattle.lines.proofs.StateLaws.{store-held, store-yes, staged-passes}
 use Rattle.lines.proofs.TreeLineLaws.{no-records, child-last}
 use Rattle.lines.proofs.TreeRows.{tree-chunks, tree-told, child-told, child-room-told}
 use Rattle.store.specs.Line.{inStage}
 use Rattle.store.specs.Load.{childCommands, matchingLines, unlimitedChecks, stepUnlimited, LinesLeave, loadedStage, loadedState, loadedTable, Loadable}
 use Rattle.store.proofs.TreeNodesLaws.{LowLevel, StoredLabel, all-back, size-at, relevel, tree-shaped, shaped-front, allowed-front, label-ok, free-labels, labels-free, low-levels, levels-low, raised-tree}
 
--- A state with its root line taken and no user yet
-
 state-passes : (s t : List ℕ) → storeOk s t ≡ true → stateOk s ≡ true
 unfolding storeOk
 state-passes s t ok = let f = simp (storeOk, and-eq-true-iff) at ok in f .1 .0
 
-abbrev staged : ℕ → List ℕ → Session
-staged g s = record { stage = g; user = sessionIn s .user; policy = sessionIn s .policy }
+-- New nodes: their window is the whole year
 
-staged-held : (s : List ℕ) → stateOk s ≡ true → stage s < 2 → (g : ℕ) → 2 ≤ g → g ≤ 3 → HoldsSession (withStage g s) (staged g s)
-staged-held s ok early g low high =
-    let h = state-allowed s ok in
-    record {
-      allowed = record {
-        policy = h .allowed .policy;
-        stage = omega arith;
-        rules = λ e. absurd (omega arith);
-        user = λ u e. absurd (omega (arith, h .allowed .user u e .0));
-        logged-in = λ e q. omega arith;
-      };
-      bytes = ap (withStage g) (h .bytes);
-    }
+abbrev newNode : Node → DatedNode
+newNode x = record { node = x; first = 1; last = daysMax }
+
+nodes-new : (xs : Nodes) → map (λ x. x .node) (map newNode xs) ≡ xs
+nodes-new [] = refl
+nodes-new (x ∷ xs) = ap (λ (r : Nodes). x ∷ r) (nodes-new xs)
+
+windows-new : (xs : Nodes) → All AllowedWindow (map newNode xs)
+windows-new [] = tt
+windows-new (x ∷ xs) = (record { some = omega arith; ordered = omega arith; within = omega arith; root = λ e. (refl, refl) }, windows-new xs)
 
 -- A table of n bytes that is made of allowed nodes
 
@@ -89,26 +83,24 @@ module _ (n : ℕ) (head : 4 ≤ n) (xs : Nodes) (allowed : AllowedNodes xs) (fi
   free-made : free made ≡ capacity n - length xs
   free-made = ap₂ (λ (a b : ℕ). capacity a - b) length-made count-made
 
-  made-holds : HoldsNodes made xs
+  made-holds : HoldsNodes made (map newNode xs)
   made-holds = record {
-    allowed = allowed;
+    allowed = rw (nodes-new xs) allowed;
+    windows = windows-new xs;
     head = rw length-made head;
-    room = rw length-made fits;
-    bytes = ap (λ (k : ℕ). tableBytes k (map nodeBytes xs)) (sym length-made);
+    room = rw (length-made, length-map xs newNode) fits;
+    bytes = ap (λ (k : ℕ). tableBytes k (map nodeBytes xs)) (sym length-made) ∙ ap (tableBytes (length made)) (sym (map-map datedBytes newNode xs));
   }
 
   -- 13 lets it pass beside such a state
   made-passes : (s : List ℕ) → stateOk s ≡ true → stage s < 2 → 0 < length xs → (g : ℕ) → 2 ≤ g → g ≤ 3
       → (storeOk (withStage g s) made ≡ true) × (storedNodes made ≡ xs) × (records made ≡ map nodeBytes xs)
   made-passes s ok early some g low high =
-      let h : HoldsStore (withStage g s) made (staged g s) xs = record {
-        state = staged-held s ok early g low high;
-        table = made-holds;
-        root = λ h. low;
-        root-line = λ h. some;
-      } in
-      let x = allowed-store (withStage g s) made (staged g s) xs h in
-      (x .0, x .2, records-made)
+      let x = allowed-table made (map newNode xs) made-holds in (
+        store-yes (withStage g s) made (x .0) (staged-passes s g ok (omega (arith, early)) (omega arith) (omega arith)) ∙ rw (le-leb 2 g low, le-leb 1 (count made) (omega (arith, count-made))),
+        sym (dated-stored made) ∙ ap (map (λ x. x .node)) (x .1) ∙ nodes-new xs,
+        records-made,
+      )
 
 -- A line's checks, without a length limit: it is answered exactly if they pass
 

@@ -8,7 +8,7 @@ use mathlib.Core.Logic.{inl, inr, ⊎-elim, _↔_}
 use native.Mathlib.Omega.{arith}
 use borrow.Author.Tests.{leb-true, leb-false, le-leb, lt-leb, ltb-false, le-ltb, not-true, not-false}
 use lib.Dec.{leb, ltb}
-use lib.ListN.{length, getD}
+use lib.ListN.{length}
 use Rattle.rights.specs.Held.{nodeBytes, tableBytes, storedNodes}
 use Rattle.rights.specs.Labels.{sameLabel, restricted}
 use Rattle.rights.specs.Nodes.{levelOf, labelOf}
@@ -33,7 +33,7 @@ use Rattle.lines.proofs.RefusalLaws.{checked-passed}
 use Rattle.store.specs.Load.{LinesLeave, matchingLines, loadedStage, loadedState, loadedTable, Loadable}
 use Rattle.store.specs.LoadXml.{DocumentWith, loadRefusals, loadChecks, nodesStage, loadXml}
 use Rattle.store.proofs.LoadLaws.{load-lines, load-kept, lines-load}
-use Rattle.store.proofs.RefusalsLaws.{store-told}
+use Rattle.store.proofs.RefusalsLaws.{Lent, store-told}
 
 -- some element passes a test
 some-told : {A : Type 0} (P : A → Type 0) (f : A → Bool) → ((x : A) → P x ↔ (f x ≡ true)) → (xs : List A) → Some P xs ↔ (some f xs ≡ true)
@@ -178,7 +178,7 @@ module _ (s t xml : List ℕ) (room : ℕ) where
   unfolding loadXml
   load-refused e = refused-is (loadChecks s t xml room) s t answer refl e
 
-module _ (s t : List ℕ) (lent : (i : ℕ) → getD t i 0 < 256) (xml : List ℕ) (room : ℕ) where
+module _ (s t : List ℕ) (lent : Lent s t) (xml : List ℕ) (room : ℕ) where
   tells : Tells (loadRefusals s t xml room) (loadChecks s t xml room)
   tells = (
     store-told s t lent,

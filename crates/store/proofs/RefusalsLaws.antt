@@ -21,7 +21,7 @@ use Rattle.forms.proofs.FormTextLaws.{command-or-none, none-written}
 use Rattle.lines.specs.Effect.{guarded, checksIn, performed}
 use Rattle.lines.specs.Outcome.{says, refuses, Outcome}
 use Rattle.lines.specs.Refusal.{Check, check, areaCheck, badStore, badLine, noForm, checked, indexIn, rising, Ordered}
-use Rattle.rights.specs.Held.{storedNodes}
+use Rattle.rights.specs.Held.{datedNodes}
 use Rattle.lines.specs.State.{stage, storeOk}
 use Rattle.lines.specs.Allowed.{sessionIn}
 use Rattle.lines.specs.Clause.{clause}
@@ -98,14 +98,18 @@ root-there s t k ok l h =
     yes true e = refl
     yes false e = e
 
--- 13, of a table of bytes
-pub store-told : (s t : List ℕ) → ((i : ℕ) → getD t i 0 < 256) → NoStore s t ↔ (not (storeOk s t) ≡ true)
+-- the lent state and the lent table are bytes
+abbrev pub Lent : List ℕ → List ℕ → Type 0
+Lent s t = ((i : ℕ) → getD s i 0 < 256) × ((i : ℕ) → getD t i 0 < 256)
+
+-- 13, of bytes
+pub store-told : (s t : List ℕ) → Lent s t → NoStore s t ↔ (not (storeOk s t) ≡ true)
 store-told s t lent = (
-  λ h. byCase (storeOk s t) (λ e. absurd (h (sessionIn s) (storedNodes t) (store-allowed s t lent e))) (λ e. rw e),
+  λ h. byCase (storeOk s t) (λ e. absurd (h (sessionIn s) (datedNodes t) (store-allowed s t (lent .0) (lent .1) e))) (λ e. rw e),
   λ e session nodes k. clash (allowed-store s t session nodes k .0) (not-true (storeOk s t) e),
 )
 
-module _ (s t : List ℕ) (lent : (i : ℕ) → getD t i 0 < 256) (room : ℕ) where
+module _ (s t : List ℕ) (lent : Lent s t) (room : ℕ) where
   abbrev pub checksFor : Command → List Check
   checksFor c = checksIn room (guarded (frontChecks c s t) (clause c s t))
 
@@ -132,6 +136,8 @@ module _ (s t : List ℕ) (lent : (i : ℕ) → getD t i 0 < 256) (room : ℕ) w
   checks-ordered word.After vs g = record { numbers = λ l e. refl; ordered = refl }
   checks-ordered word.Remove vs g = record { numbers = λ l e. refl; ordered = refl }
   checks-ordered word.Sheet vs g = record { numbers = λ l e. refl; ordered = refl }
+  checks-ordered word.Day vs g = record { numbers = λ l e. refl; ordered = refl }
+  checks-ordered word.Window vs g = record { numbers = λ l e. refl; ordered = refl }
   checks-ordered word.Other vs g = absurd (omega (arith, g .word))
 
   -- What a line's checks are, and what they tell

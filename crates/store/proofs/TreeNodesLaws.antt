@@ -13,7 +13,7 @@ use Rattle.rights.specs.Labels.{sameLabel, restricted}
 use Rattle.rights.specs.Nodes.{Node, node, Nodes, levelOf, labelOf, TreeShaped}
 use Rattle.rights.specs.Allowed.{All, LabelOk, AllowedNodes}
 use Rattle.rights.specs.Held.{nodeBytes}
-use Rattle.rights.specs.Record.{recordOf, noSpare, nodeRecord}
+use Rattle.rights.specs.Record.{recordOf, nodeRecord}
 use Rattle.rights.specs.Tree.{Tree, tree, Trees, none, more, nodesOf, nodesIn}
 use Rattle.rights.proofs.ListLaws.{byCase}
 use Rattle.rights.proofs.TreeShapeLaws.{Linked, linked-nested, nested-linked}
@@ -157,7 +157,7 @@ mutual
   pub raised-tree : (u : Tree) (k : ℕ) → All LowLevel (nodesOf (suc k) u) → raise 1 (nodeRecords (nodesOf k u)) ≡ map nodeBytes (nodesOf (suc k) u)
   raised-tree (tree l us) k a =
       let e : 1 + held k ≡ suc k = omega (arith, a .0) in
-      ap₂ _∷_ (ap (λ (n : ℕ). recordOf n l noSpare) e) (raised-trees us (suc k) (a .1))
+      ap₂ _∷_ (ap (λ (n : ℕ). nodeRecord n l) e) (raised-trees us (suc k) (a .1))
 
   raised-trees : (us : Trees) (k : ℕ) → All LowLevel (nodesIn (suc k) us) → raise 1 (nodeRecords (nodesIn k us)) ≡ map nodeBytes (nodesIn (suc k) us)
   raised-trees none k a = refl

@@ -4,19 +4,19 @@ use mathlib.Core.Path.{_≡_, refl, _∙_}
 use mathlib.Core.Bool.{Bool, true, false, not, cond, _||_}
 use mathlib.Core.List.{List, [], _∷_, _++_}
 use native.Mathlib.Omega.{arith}
-use borrow.Author.Tests.{le-leb}
-use lib.Dec.{eqb}
+use borrow.Author.Tests.{leb-true, le-leb}
+use lib.Dec.{eqb, leb}
 use lib.ListN.{length}
-use Rattle.rights.specs.Bytes.{bytes, all}
+use Rattle.rights.specs.Bytes.{bytes, all, digitByte}
 use Rattle.rights.specs.Labels.{labelByte}
 use Rattle.rights.specs.Policy.{Right, position, read, insert, update, delete}
 use Rattle.rights.specs.Tree.{Tree, tree, Trees, none, more, writeTree, writeTrees}
 use Rattle.rights.proofs.PathComplete.{all-append}
 use Rattle.rights.proofs.PathTexts.{and-left}
 use Rattle.rights.proofs.TableLaws.{both}
-use Rattle.forms.specs.Kind.{Kind, Label, Path, Tree as TreeKind, Sign, Right as RightKind}
+use Rattle.forms.specs.Kind.{Kind, Label, Path, Tree as TreeKind, Sign, Right as RightKind, Day}
 use Rattle.forms.specs.Layout.{letters, shapeOf}
-use Rattle.forms.specs.Command.{Value, Values, Command, writeRight, writeValue, writeValues, written, runByte, GoodPath, GoodValue, GoodValues, GoodCommand}
+use Rattle.forms.specs.Command.{Value, Values, Command, writeRight, writeValue, writeValues, written, runByte, GoodPath, GoodDay, GoodValue, GoodValues, GoodCommand}
 use Rattle.forms.proofs.FormTextLaws.{word-law}
 use Rattle.forms.specs.Text.{lineByte, lineOk}
 use Rattle.forms.specs.TreeText.{GoodLabel, GoodTree, GoodTrees}
@@ -44,6 +44,15 @@ label-clean l g = letters-clean l (g .2)
 path-clean : (p : List ℕ) → GoodPath p → all lineByte p ≡ true
 unfolding runByte
 path-clean p g = all-in runByte lineByte (λ b e. and-left (lineByte b) (not (eqb b 32 || (eqb b 40 || eqb b 41))) e) p (g .1)
+
+digits-clean : (d : List ℕ) → GoodDay d → all lineByte d ≡ true
+unfolding digitByte lineByte
+digits-clean d g =
+    all-in digitByte lineByte
+    (λ b e.
+    let r = both (leb 48 b) (leb b 57) e in
+    rw (le-leb 32 b (omega (arith, leb-true 48 b (r .0))), le-leb b 126 (omega (arith, leb-true b 57 (r .1)))))
+    d (g .2)
 
 right-clean : (r : Right) → all lineByte (writeRight r) ≡ true
 unfolding writeRight all lineByte
@@ -76,6 +85,7 @@ value-clean Path p g = path-clean p g
 value-clean TreeKind u g = tree-clean u g
 value-clean Sign a g = sign-clean a
 value-clean RightKind r g = right-clean r
+value-clean Day d g = digits-clean d g
 
 values-clean : (ks : List Kind) (vs : Values ks) → GoodValues ks vs → all lineByte (writeValues ks vs) ≡ true
 unfolding all lineByte

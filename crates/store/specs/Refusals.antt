@@ -9,7 +9,7 @@ use mathlib.Core.Logic.{_⊎_}
 use lib.ListN.{length}
 use Rattle.forms.specs.Text.{lineOk}
 use Rattle.forms.specs.Command.{Command, stageFor, written, GoodCommand}
-use Rattle.rights.specs.Nodes.{Nodes}
+use Rattle.rights.specs.Nodes.{DatedNode}
 use Rattle.lines.specs.State.{stageC, stage, storeOk}
 use Rattle.lines.specs.Allowed.{Session, HoldsStore}
 use Rattle.lines.specs.Refusal.{Check, check, badStore, badLine, wrongStage}
@@ -25,10 +25,11 @@ frontChecks c s t =
     ∷ check wrongStage (not (inStage (stageFor c) (stage s)))
     ∷ []
 
--- "13 a table .. against "Tree and table"; a state against the limits, names, paths or stages above; a root in the table without the root line taken, or the reverse":
+-- "13 a table .. against "Tree and table"; a state against the limits, names, paths or stages above; a root in the table without the root line taken, or the reverse";
+-- "13 takes in bad windows and a state's day outside 1 to 366" (document 02, card 7):
 -- state and table hold nothing that is allowed
 abbrev pub NoStore : List ℕ → List ℕ → Type 0
-NoStore s t = (session : Session) (nodes : Nodes) → HoldsStore s t session nodes → ⊥
+NoStore s t = (session : Session) (nodes : List DatedNode) → HoldsStore s t session nodes → ⊥
 
 -- "1 too long or a byte outside 32 to 126"
 abbrev pub BadLine : List ℕ → Type 0

@@ -9,6 +9,7 @@ use forms::text::line_ok;
 use lines::changes::insert;
 use lines::changes::remove;
 use lines::changes::rename;
+use lines::changes::window;
 use lines::line::Answer;
 use lines::policy_lines::declare;
 use lines::policy_lines::relate;
@@ -22,6 +23,7 @@ use lines::refusals::BAD_STORE;
 use lines::refusals::NO_FORM;
 use lines::refusals::WRONG_STAGE;
 use lines::session::log_in;
+use lines::session::set_day;
 use lines::state::store_ok;
 use lines::tree_lines::child;
 use lines::tree_lines::root;
@@ -204,6 +206,15 @@ fn run(
         ),
         Word::Remove => remove(state, table, part_of(line, &ends, 0), area),
         Word::Sheet => sheet(state, table, part_of(line, &ends, 0), area),
+        Word::Day => set_day(state, table, says[0], area),
+        Word::Window => window(
+            state,
+            table,
+            part_of(line, &ends, 0),
+            says[1],
+            says[2],
+            area,
+        ),
     }
 }
 

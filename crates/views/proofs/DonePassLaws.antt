@@ -21,7 +21,7 @@ use Rattle.views.specs.Shown.{atParent, nearestFirst}
 use Rattle.views.specs.Done.{does, askedOf, doneMarks}
 use Rattle.views.specs.How.Numbers.{shownByNumbers, byNumbers, asksWord}
 use Rattle.views.specs.declared.done.Change.{Change}
-use Rattle.views.specs.declared.done.Change.the-variants.{Rename, Update, Append, Before, After, Remove}
+use Rattle.views.specs.declared.done.Change.the-variants.{Rename, Update, Append, Before, After, Remove, Window}
 use Rattle.views.proofs.FillLaws.{push-take, push-drop, filled}
 use Rattle.rights.proofs.MarkLaws.{each-step, each-end, each-at, each-length}
 use Rattle.views.proofs.MarkLaws.{shown-step, marks-step}
@@ -192,6 +192,7 @@ module _ (word : List ℕ → Bool) (t ss : List ℕ) (bs ms : List Bool) where
   but-words Before i = sym (and-true _)
   but-words After i = sym (and-true _)
   but-words Remove i = sym (and-true _)
+  but-words Window i = sym (and-true _)
 
   pub labels-unasked : (c : Change) → asksWord c ≡ false → doneMarks c (λ _. false) t ss bs ms ≡ doneMarks c word t ss bs ms
   labels-unasked c e = ap (λ f. eachFrom f 0 (count t)) (fun-ext (λ i. sym (but-words c i ∙ rw e (and-true _))))

@@ -1,6 +1,7 @@
 pub mod FillLaws
 pub mod ShownLaws
 pub mod StoredLaws
+pub mod DayLaws
 pub mod ViewLaws
 pub mod MarkLaws
 pub mod DonePassLaws
@@ -15,6 +16,7 @@ pub mod TurnLaws
 pub mod WholeInsertionLaws
 pub mod OverwriteLaws
 pub mod RelabelLaws
+pub mod RedateLaws
 pub mod MapLaws
 pub mod DepthLaws
 pub mod NestedLaws

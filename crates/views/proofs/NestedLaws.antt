@@ -105,11 +105,11 @@ module _ {E : Type 0} (lev : E → ℕ) where
         (λ e. rw e (all-append (y x) (x ∷ insertInFront lev y (drop 1 ms) t) (d .0 e) (a .0, ih)))
         (λ e. rw e (a .0, ih))
 
-    pub all-rename : (f : E → E) → ((x : E) → P x → P (f x)) → (ms : List Bool) (t : List E) → All P t → All P (rename lev f ms t)
+    pub all-rename : (f : E → E) (ms : List Bool) (t : List E) → All P t → AtDone (λ x. P (f x)) ms t → All P (rename lev f ms t)
     unfolding rename
-    all-rename f h ms [] a = tt
-    all-rename f h ms (x ∷ t) a = let ih = all-rename f h (drop 1 ms) t (a .1) in byCase (getD ms 0 false)
-        (λ e. rw e (h x (a .0), ih))
+    all-rename f ms [] a d = tt
+    all-rename f ms (x ∷ t) a d = let ih = all-rename f (drop 1 ms) t (a .1) (d .1) in byCase (getD ms 0 false)
+        (λ e. rw e (d .0 e, ih))
         (λ e. rw e (a .0, ih))
 
   -- P of each node, and what P gives

@@ -1,16 +1,17 @@
 -- Laws of a renaming. Assumes nothing.
-use mathlib.Core.Path.{_≡_, refl, ap, _∙_}
+use mathlib.Core.Path.{_≡_, refl, sym, ap, ap₂, _∙_}
 use mathlib.Core.List.{List, [], _∷_}
 use mathlib.Core.Bool.{Bool}
-use Prim.Native.Nat.{ℕ, _+_, _-_, _≤_}
+use Prim.Native.Nat.{ℕ, _+_, _*_, _-_, _≤_}
 use native.Mathlib.Omega.{arith}
-use lib.ListN.{length, take, drop, length-drop}
-use lib.Seq.{take-at}
-use Rattle.rights.specs.Table.{level, label, spare}
+use lib.ListN.{length, getD, take, drop, length-drop}
+use lib.Seq.{take-at, drop-drop, getD-drop}
+use Rattle.rights.specs.Table.{level, label, spare, firstDay, lastDay, spareOk}
 use Rattle.rights.specs.Record.{labelBytes, recordOf, pasted}
 use Rattle.rights.proofs.RecordLaws.{length-padded, length-record}
-use Rattle.rights.proofs.RecordOfLaws.{level-made, label-made}
+use Rattle.rights.proofs.RecordOfLaws.{level-made, label-made, spare-made}
 use Rattle.views.specs.Change.{rename, relabel, renamed}
+use Rattle.views.specs.Shown.{inWindow}
 use Rattle.views.specs.How.Pass.{overwritten}
 use Rattle.views.specs.Nodes.{All}
 
@@ -23,6 +24,29 @@ label-relabel s r = label-made (level r) s (spare r)
 
 pub length-relabel : (s r : List ℕ) → length s ≤ 24 → length r ≡ 32 → length (relabel s r) ≡ 32
 length-relabel s r h e = length-record (level r) s (spare r) h (length-drop 26 r ∙ ap (λ (n : ℕ). n - 26) e)
+
+-- its window stays
+module _ (s r : List ℕ) (short : length s ≤ 24) where
+  same-spare : drop 26 (relabel s r) ≡ drop 26 r
+  same-spare = spare-made (level r) s (spare r) short
+
+  spare-byte : (k : ℕ) → getD (relabel s r) (26 + k) 0 ≡ getD r (26 + k) 0
+  spare-byte k = sym (getD-drop 26 (relabel s r) k 0) ∙ ap (λ (q : List ℕ). getD q k 0) same-spare ∙ getD-drop 26 r k 0
+
+  pub first-relabel : firstDay (relabel s r) ≡ firstDay r
+  first-relabel = ap₂ (λ (a b : ℕ). a + b * 256) (spare-byte 0) (spare-byte 1)
+
+  pub last-relabel : lastDay (relabel s r) ≡ lastDay r
+  last-relabel = ap₂ (λ (a b : ℕ). a + b * 256) (spare-byte 2) (spare-byte 3)
+
+  pub in-window-relabel : (d : ℕ) → inWindow d (relabel s r) ≡ inWindow d r
+  in-window-relabel d = rw (first-relabel, last-relabel)
+
+  pub spare-relabel : spareOk (relabel s r) ≡ spareOk r
+  unfolding spareOk
+  spare-relabel =
+      let end : drop 30 (relabel s r) ≡ drop 30 r = sym (drop-drop 4 26 (relabel s r)) ∙ ap (drop 4) same-spare ∙ drop-drop 4 26 r in
+      rw (first-relabel, last-relabel, level-relabel s r, end)
 
 length-label-bytes : (s : List ℕ) → length s ≤ 24 → length (labelBytes s) ≡ 25
 length-label-bytes s h = omega (arith, length-padded s h)

@@ -6,26 +6,27 @@ use mathlib.Core.List.{List, [], _∷_, map-id}
 use native.Mathlib.Omega.{arith}
 use native.Mathlib.Numerals.{add-one}
 use native.Mathlib.Nat.{add-zero}
-use borrow.Author.Tests.{leb-true}
+use borrow.Author.Tests.{leb-true, lt-ltb}
 use lib.ListN.{length, getD, take, drop, length-drop}
 use lib.Seq.{length-take-le, getD-drop}
-use Rattle.rights.specs.Table.{labelPartOk, spareOk, recordOk, recordsOk, level, spare, tableOk, count, capacity, records}
+use Rattle.rights.specs.Table.{windowOk, labelPartOk, spareOk, recordOk, recordsOk, level, spare, tableOk, count, capacity, records}
 use Rattle.rights.proofs.AllLaws.{all-with}
-use Rattle.rights.proofs.TableLaws.{both, record-levels, record-parts}
+use Rattle.rights.proofs.TableLaws.{both, record-levels, record-parts, spare-window, spare-zeros}
 use Rattle.rights.proofs.ListLaws.{byCase}
 use Rattle.rights.proofs.RecordsOkLaws.{record-yes}
 use Rattle.rights.proofs.HeldTableLaws.{length-table, count-table, records-table, table-passes}
-use Rattle.rights.proofs.RecordOfLaws.{made-ok, spare-made}
+use Rattle.rights.proofs.RecordOfLaws.{made-ok}
 use Rattle.views.specs.declared.insert.Place.{Place}
 use Rattle.views.specs.declared.insert.Place.the-variants.{Append, After, Before}
-use Rattle.views.specs.Change.{dropBelow, putBehind, remove, insertBehind, insertInFront, rename, chunks, raise, lower, placed, removed, relabel, renamed, changed, deepest, tooDeep, hasRoom}
+use Rattle.views.specs.Change.{dropBelow, putBehind, remove, insertBehind, insertInFront, rename, chunks, raise, lower, placed, removed, relabel, renamed, redate, redated, changed, deepest, tooDeep, hasRoom}
 use Rattle.rights.specs.Marks.{markCount}
 use Rattle.views.specs.How.Pass.{AtDone, Shallow}
 use Rattle.views.specs.Nodes.{Above, Front, All, Nested, TreeOk, LabelOk}
 use Rattle.views.proofs.ChunkLaws.{all-chunks, length-chunks, level-first}
 use Rattle.views.proofs.TableLaws.{facts}
 use Rattle.views.proofs.InsertionLaws.{length-rename}
-use Rattle.views.proofs.RelabelLaws.{level-relabel, length-relabel}
+use Rattle.views.proofs.RelabelLaws.{level-relabel, length-relabel, spare-relabel}
+use Rattle.views.proofs.RedateLaws.{level-redate, length-redate, redate-ok}
 use Rattle.views.proofs.RecordBytes.{length-raised, above-raise}
 use Rattle.views.proofs.WholeInsertionLaws.{placed-length}
 use Rattle.views.proofs.DepthLaws.{shallow-places}
@@ -63,12 +64,13 @@ loosen low high r e =
     let f = record-levels low high r e in
     (f .0, f .1, tighten 0 11 r (omega arith) (f .2) low high e)
 
--- a record with another level
-pub relevel : (l : ℕ) (xs : List ℕ) → l ≤ 11 → recordOk 0 11 (0 ∷ xs) ≡ true → recordOk 0 11 (l ∷ xs) ≡ true
+-- a record with another level, below the root: a window of the whole year is a window
+pub relevel : (l : ℕ) (xs : List ℕ) → 1 ≤ l → l ≤ 11 → recordOk 0 11 (0 ∷ xs) ≡ true → recordOk 0 11 (l ∷ xs) ≡ true
 unfolding labelPartOk spareOk
-relevel l xs h e =
+relevel l xs i h e =
     let g = record-parts 0 11 (0 ∷ xs) e in
-    record-yes 0 11 (l ∷ xs) (omega arith) h h ∙ rw (g .0, g .1)
+    record-yes 0 11 (l ∷ xs) (omega arith) h h
+    ∙ rw (g .0, spare-window (0 ∷ xs) (g .1), lt-ltb 0 l i, spare-zeros (0 ∷ xs) (g .1))
 
 -- a record below the root
 abbrev pub Good : List ℕ → Type 0
@@ -148,34 +150,55 @@ module _ (y : List ℕ → List (List ℕ)) (wy : (x : List ℕ) → Nested leve
       let g = all-insertInFront level Good y (drop 1 ms) rs (s .3) (d .1) in
       rw e (root-join r u (s .0) (s .1) w g, (q .1 .0, good-full u g))
 
--- what f keeps of a record of 32 bytes: its level, its length, and that it passes the check
-pub record Keeps (f : List ℕ → List ℕ) : Type 0 where
+-- what holds of each record that is done
+done-of : (P : List ℕ → Type 0) (ms : List Bool) (t : List (List ℕ)) → All P t → AtDone P ms t
+done-of P ms [] a = tt
+done-of P ms (x ∷ t) a = ((λ e. a .0), done-of P (drop 1 ms) t (a .1))
+
+done-with : (P Q R : List ℕ → Type 0) → ((x : List ℕ) → P x → Q x → R x) → (ms : List Bool) (t : List (List ℕ)) → AtDone P ms t → AtDone Q ms t → AtDone R ms t
+done-with P Q R h ms [] a b = tt
+done-with P Q R h ms (x ∷ t) a b = ((λ e. h x (a .0 e) (b .0 e)), done-with P Q R h (drop 1 ms) t (a .1) (b .1))
+
+-- where the root is not done, what is done is below it
+inner-done : (ms : List Bool) (rs : List (List ℕ)) → getD ms 0 false ≡ false → Ok rs → AtDone Good ms rs
+inner-done ms [] e q = tt
+inner-done ms (r ∷ rs) e q = ((λ f. absurd (false≢true (sym e ∙ f))), done-of Good (drop 1 ms) rs (root-split r rs (q .0) (q .1 .1) .3))
+
+-- what f keeps of a record of 32 bytes: its level, its length, and, where D holds of it, that it passes the check
+pub record Keeps (D : List ℕ → Type 0) (f : List ℕ → List ℕ) : Type 0 where
   pub same-level : (r : List ℕ) → Full r → level (f r) ≡ level r
   pub full : (r : List ℕ) → Full r → Full (f r)
-  pub ok : (r : List ℕ) → Full r → recordOk 0 11 r ≡ true → recordOk 0 11 (f r) ≡ true
+  pub ok : (r : List ℕ) → Full r → D r → recordOk 0 11 r ≡ true → recordOk 0 11 (f r) ≡ true
 
-rename-kept : (f : List ℕ → List ℕ) → Keeps f → (ms : List Bool) (rs : List (List ℕ)) → Ok rs → Ok (rename level f ms rs)
+rename-kept : (D : List ℕ → Type 0) (f : List ℕ → List ℕ) → Keeps D f → (ms : List Bool) (rs : List (List ℕ)) → AtDone D ms rs → Ok rs → Ok (rename level f ms rs)
 unfolding rename recordsOk
-rename-kept f k ms [] q = (refl, tt)
-rename-kept f k ms (r ∷ rs) q =
+rename-kept D f k ms [] m q = (refl, tt)
+rename-kept D f k ms (r ∷ rs) m q =
     let p = root-split r rs (q .0) (q .1 .1) in
     let e = k .same-level r (q .1 .0) in
     let u = rename level f (drop 1 ms) rs in
     let w = nested-rename level f (suc (level r)) (drop 1 ms) rs (all-with Good (λ x h. k .same-level x (h .1)) rs (p .3)) (p .2) in
-    let g = all-rename level Good f (λ x h. (rw (k .same-level x (h .1)) (h .0), k .full x (h .1), k .ok x (h .1) (h .2))) (drop 1 ms) rs (p .3) in
+    let a =
+    done-with Good D (λ x. Good (f x)) (λ x h d. (rw (k .same-level x (h .1)) (h .0), k .full x (h .1), k .ok x (h .1) d (h .2))) (drop 1 ms) rs
+    (done-of Good (drop 1 ms) rs (p .3)) (m .1) in
+    let g = all-rename level Good f (drop 1 ms) rs (p .3) a in
     byCase (getD ms 0 false)
-    (λ d. rw d (root-join (f r) u (e ∙ p .0) (k .ok r (q .1 .0) (p .1)) (rw e w) g, (k .full r (q .1 .0), good-full u g)))
+    (λ d. rw d (root-join (f r) u (e ∙ p .0) (k .ok r (q .1 .0) (m .0 d) (p .1)) (rw e w) g, (k .full r (q .1 .0), good-full u g)))
     (λ d. rw d (root-join r u (p .0) (p .1) w g, (q .1 .0, good-full u g)))
 
 -- a record with another label: its spare bytes stay
-relabel-keeps : (s : List ℕ) → LabelOk s → Keeps (relabel s)
+relabel-keeps : (s : List ℕ) → LabelOk s → Keeps Full (relabel s)
 relabel-keeps s l = record { same-level = λ r h. level-relabel s r; full = λ r. length-relabel s r (l .short); ok = ok }
   where
-    ok : (r : List ℕ) → Full r → recordOk 0 11 r ≡ true → recordOk 0 11 (relabel s r) ≡ true
-    ok r h e =
+    ok : (r : List ℕ) → Full r → Full r → recordOk 0 11 r ≡ true → recordOk 0 11 (relabel s r) ≡ true
+    ok r h d e =
         let m = record-levels 0 11 r e .2 in
-        let p : spareOk (relabel s r) ≡ true = unfold spareOk in rw (spare-made (level r) s (spare r) (l .short)) (record-parts 0 11 r e .1) in
+        let p : spareOk (relabel s r) ≡ true = spare-relabel s r (l .short) ∙ record-parts 0 11 r e .1 in
         made-ok 0 11 (level r) s (spare r) (omega arith) m m (l .some) (l .short) (l .bytes) (l .free) p
+
+-- a record below the root with another window
+redate-keeps : (f l : ℕ) → windowOk f l ≡ true → Keeps Good (redate f l)
+redate-keeps f l w = record { same-level = level-redate f l; full = length-redate f l; ok = λ r h g. redate-ok f l r h w (g .0) }
 
 -- a tree at its place
 nested-raise : (k n : ℕ) (tree : List (List ℕ)) → Nested level n tree → Nested level (k + n) (raise k tree)
@@ -198,7 +221,7 @@ tree-good : (k : ℕ) (tree : List (List ℕ)) → 1 ≤ k → All (λ r. (lengt
 unfolding raise
 tree-good k [] h a b = tt
 tree-good k (r ∷ rs) h a b =
-    ((omega (arith, h), length-raised k r (omega (arith, a .0 .0)) ∙ a .0 .0, relevel (k + level r) (drop 1 r) (b .0) (a .0 .1)), tree-good k rs h (a .1) (b .1))
+    ((omega (arith, h), length-raised k r (omega (arith, a .0 .0)) ∙ a .0 .0, relevel (k + level r) (drop 1 r) (omega (arith, h)) (b .0) (a .0 .1)), tree-good k rs h (a .1) (b .1))
 
 tree-levels : (k m : ℕ) (tree : List ℕ) → ((j : ℕ) → j < m → k + getD tree (j * 32) 0 < 12) → All (λ r. k + level r ≤ 11) (chunks m tree)
 unfolding chunks
@@ -208,10 +231,6 @@ tree-levels k (suc m) tree h = (
   tree-levels k m (drop 32 tree) (λ j q. let e : suc j * 32 ≡ 32 + j * 32 = omega arith in rw (getD-drop 32 tree (j * 32) 0, ← e) (h (suc j) (omega (arith, q)))),
 )
 
-done-with : (P Q R : List ℕ → Type 0) → ((x : List ℕ) → P x → Q x → R x) → (ms : List Bool) (t : List (List ℕ)) → All P t → AtDone Q ms t → AtDone R ms t
-done-with P Q R h ms [] a b = tt
-done-with P Q R h ms (x ∷ t) a b = ((λ e. h x (a .0) (b .0 e)), done-with P Q R h (drop 1 ms) t (a .1) (b .1))
-
 module _ (m : ℕ) (tree : List ℕ) (ok : TreeOk (chunks m tree)) where
   lands : (k : ℕ) → 1 ≤ k → ((j : ℕ) → j < m → k + getD tree (j * 32) 0 < 12) → All Good (raise k (chunks m tree))
   lands k h s = tree-good k (chunks m tree) h (ok .labels) (tree-levels k m tree s)
@@ -219,12 +238,9 @@ module _ (m : ℕ) (tree : List ℕ) (ok : TreeOk (chunks m tree)) where
   -- beside a node that is not the root
   beside : (ms : List Bool) (rs : List (List ℕ)) → getD ms 0 false ≡ false → Ok rs → AtDone (λ r. Shallow 0 m tree (level r)) ms rs
       → AtDone (λ r. All Good (raise (level r) (chunks m tree))) ms rs
-  beside ms [] e q d = tt
-  beside ms (r ∷ rs) e q d = (
-    (λ f. absurd (false≢true (sym e ∙ f))),
-    done-with Good (λ r. Shallow 0 m tree (level r)) (λ r. All Good (raise (level r) (chunks m tree)))
-        (λ x g s. lands (level x) (g .0) (λ j h. omega (arith, s j h))) (drop 1 ms) rs (root-split r rs (q .0) (q .1 .1) .3) (d .1),
-  )
+  beside ms rs e q d =
+      done-with Good (λ r. Shallow 0 m tree (level r)) (λ r. All Good (raise (level r) (chunks m tree)))
+      (λ x g s. lands (level x) (g .0) (λ j h. omega (arith, s j h))) ms rs (inner-done ms rs e q) d
 
   placed-kept : (place : Place) (ms : List Bool) (rs : List (List ℕ)) → Ok rs → AtDone (λ r. Shallow (lower place) m tree (level r)) ms rs
       → (lower place ≡ 0 → getD ms 0 false ≡ false) → Ok (placed place m tree ms rs)
@@ -259,7 +275,7 @@ pub length-placed : (place : Place) (t : List ℕ) (ms : List Bool) (tree : List
 length-placed place t ms tree m = ap (λ (rs : List (List ℕ)). length (placed place m tree ms rs)) (all-chunks t) ∙ placed-length place (count t) m tree ms (drop 4 t)
 
 -- ----------------------------------------------------------------------------
--- The table after a removal, a renaming, an insertion: its length is kept, it passes the check, and its records are those that the change gives.
+-- The table after a removal, a renaming, another window, an insertion: its length is kept, it passes the check, and its records are those that the change gives.
 
 pub record StoredAs (t : List ℕ) (rs : List (List ℕ)) : Type 0 where
   pub ok : tableOk (changed t rs) ≡ true
@@ -281,14 +297,19 @@ removed-stored t ms e =
     let l : length (removed ms (records t)) ≤ count t = omega (arith, shorter-remove level ms (records t), length-records t) in
     stored t (removed ms (records t)) (f .head) (omega (arith, l, f .held)) (remove-kept ms (records t) (records-kept t e))
 
-pub rename-stored : (f : List ℕ → List ℕ) → Keeps f → (t : List ℕ) (ms : List Bool) → tableOk t ≡ true → StoredAs t (rename level f ms (records t))
-rename-stored f k t ms e =
+rename-stored : (D : List ℕ → Type 0) (f : List ℕ → List ℕ) → Keeps D f → (t : List ℕ) (ms : List Bool) → tableOk t ≡ true → AtDone D ms (records t)
+    → StoredAs t (rename level f ms (records t))
+rename-stored D f k t ms e d =
     let h = facts t e in
     let n : length (rename level f ms (records t)) ≡ count t = length-rename level f ms (records t) ∙ length-records t in
-    stored t (rename level f ms (records t)) (h .head) (omega (arith, n, h .held)) (rename-kept f k ms (records t) (records-kept t e))
+    stored t (rename level f ms (records t)) (h .head) (omega (arith, n, h .held)) (rename-kept D f k ms (records t) d (records-kept t e))
 
 pub renamed-stored : (t : List ℕ) (ms : List Bool) (s : List ℕ) → tableOk t ≡ true → LabelOk s → StoredAs t (renamed s ms (records t))
-renamed-stored t ms s e l = rename-stored (relabel s) (relabel-keeps s l) t ms e
+renamed-stored t ms s e l = rename-stored Full (relabel s) (relabel-keeps s l) t ms e (done-of Full ms (records t) (records-kept t e .1))
+
+-- another window, where the root is not done
+pub redated-stored : (t : List ℕ) (ms : List Bool) (f l : ℕ) → tableOk t ≡ true → windowOk f l ≡ true → getD ms 0 false ≡ false → StoredAs t (redated f l ms (records t))
+redated-stored t ms f l e w root = rename-stored Good (redate f l) (redate-keeps f l w) t ms e (inner-done ms (records t) root (records-kept t e))
 
 pub placed-stored : (place : Place) (t : List ℕ) (ms : List Bool) (tree : List ℕ) (m : ℕ) → tableOk t ≡ true → TreeOk (chunks m tree)
     → tooDeep (lower place + deepest (chunks m tree)) ms (records t) ≡ false → hasRoom t ms m ≡ true → (lower place ≡ 0 → getD ms 0 false ≡ false)

@@ -1,4 +1,4 @@
--- The changes (document 01, "Changes"), on lists of anything with a level, in document order: the nodes with their records, their public parts, or tags that name them.
+-- The changes (document 01, "Changes"; document 02, card 7), on lists of anything with a level, in document order: the nodes with their records, their public parts, or tags that name them.
 -- "A selected node is done if ..": the changes take a mark for each node, done or not; no node beyond the marks is done. Which nodes are done is decided elsewhere,
 -- before anything changes.
 use Prim.Native.Nat.{ℕ, zero, suc, _+_, _-_, _*_}
@@ -7,7 +7,7 @@ use mathlib.Core.List.{List, [], _∷_, _++_}
 use lib.Dec.{leb, ltb}
 use lib.ListN.{length, take, drop, getD}
 use Rattle.rights.specs.Table.{count, capacity, level, spare}
-use Rattle.rights.specs.Record.{recordOf}
+use Rattle.rights.specs.Record.{recordOf, pasted, windowBytes}
 use Rattle.rights.specs.Held.{tableBytes}
 pub use Rattle.rights.specs.Held.{le4}
 unfoldable pub use Rattle.rights.specs.Held.{join}
@@ -57,7 +57,7 @@ module _ {E : Type 0} (lev : E → ℕ) where
   insertMarked After tree ms t = insertAfter tree ms t
   insertMarked Before tree ms t = insertBefore tree ms t
 
-  -- rename, and update, which concerns children: the nodes that are done become f of them; every other stays as it is.
+  -- rename, update, which concerns children, and window: the nodes that are done become f of them; every other stays as it is.
   unfoldable pub rename : (E → E) → List Bool → List E → List E
   rename f ms [] = []
   rename f ms (x ∷ t) = cond (getD ms 0 false) (f x) x ∷ rename f (drop 1 ms) t
@@ -95,6 +95,13 @@ relabel s r = recordOf (level r) s (spare r)
 
 abbrev pub renamed : List ℕ → List Bool → List (List ℕ) → List (List ℕ)
 renamed s ms rs = rename level (relabel s) ms rs
+
+-- the records after another window was set: level and label stay
+abbrev pub redate : ℕ → ℕ → List ℕ → List ℕ
+redate first last r = pasted r 26 (windowBytes first last)
+
+abbrev pub redated : ℕ → ℕ → List Bool → List (List ℕ) → List (List ℕ)
+redated first last ms rs = rename level (redate first last) ms rs
 
 -- What the lent bytes of a table become: those that hold these records.
 unfoldable pub changed : List ℕ → List (List ℕ) → List ℕ

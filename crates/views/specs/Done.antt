@@ -1,4 +1,4 @@
--- Which records a change does (document 01, "Changes"). "All selections and rights are taken before anything changes."
+-- Which records a change does (document 01, "Changes"; the seventh: document 02, card 7). "All selections and rights are taken before anything changes."
 use Prim.Native.Nat.{ℕ}
 use mathlib.Core.Bool.{Bool, true, false, not, _&&_}
 use mathlib.Core.List.{List, [], _∷_}
@@ -10,7 +10,7 @@ use Rattle.rights.specs.Policy.{read, insert, update, delete}
 use Rattle.rights.specs.Rights.{holds}
 use Rattle.views.specs.Shown.{atParent, nearestFirst}
 use Rattle.views.specs.declared.done.Change.{Change}
-use Rattle.views.specs.declared.done.Change.the-variants.{Rename, Update, Append, Before, After, Remove}
+use Rattle.views.specs.declared.done.Change.the-variants.{Rename, Update, Append, Before, After, Remove, Window}
 
 -- What a change asks of a node: its level, the user's rights on it, whether it is shown, whether it is selected, whether its label is a policy
 -- word; of its parent, whether it is selected and whether the user has insert on it.
@@ -30,6 +30,10 @@ isRoot a = eqb (a .level) 0
 abbrev pub renamable : Asked → Bool
 renamable a = holds read (a .rights) && (holds update (a .rights) && not (a .word))
 
+-- "`(window P F T)` .. sets the window of each selected node on which the user has read and update; the root is not done."
+abbrev pub redatable : Asked → Bool
+redatable a = holds read (a .rights) && (holds update (a .rights) && not (isRoot a))
+
 -- "before, after: insert on its parent, and it is not the root."
 abbrev pub insertableBeside : Asked → Bool
 insertableBeside a = a .parentInsert && not (isRoot a)
@@ -42,6 +46,7 @@ does Append a = a .selected && holds insert (a .rights)
 does Before a = a .selected && insertableBeside a
 does After a = a .selected && insertableBeside a
 does Remove a = a .selected && (holds delete (a .rights) && not (isRoot a))
+does Window a = a .selected && redatable a
 
 -- Of record i, where `word` says which labels are policy words; `shown` and `selected` have a mark for each record. The parent is the nearest record
 -- before it at a smaller level; the root has none.

@@ -79,7 +79,8 @@ unfoldable pub tags : {E X : Type 0} → (E → Option X) → List E → List X
 tags h [] = []
 tags h (x ∷ t) = put (h x) (tags h t)
 
--- A tree that may be inserted: its levels run from 0, and each of its records is well formed, its level apart.
+-- A tree that may be inserted: its levels run from 0, and each of its records is well formed, its level apart, with the whole year as its
+-- window ("Lines and inserted trees give 1 and 366").
 pub record TreeOk (tree : List (List ℕ)) : Type 0 where
   pub nested : Nested level 0 tree
   pub labels : All (λ r. (length r ≡ 32) × (recordOk 0 11 (0 ∷ drop 1 r) ≡ true)) tree

@@ -1,4 +1,4 @@
-// Which records a change does (document 01, "Changes"), decided before anything changes.
+// Which records a change does (document 01, "Changes"; document 02, card 7), decided before anything changes.
 use rights::bytes::wide;
 use rights::limits::COUNT_BYTES;
 use rights::limits::DELETE;
@@ -29,7 +29,7 @@ ghost use Rattle.views.specs.How.Numbers.{DoneWhere, DoneBy, asksWord};
 // Slots a level, 0 to 15: more than there are levels.
 const LAST_SLOT: usize = 15;
 
-// The six changes.
+// The seven changes.
 pub enum Change {
     Rename,
     Update,
@@ -37,6 +37,7 @@ pub enum Change {
     Before,
     After,
     Remove,
+    Window,
 }
 
 // Whether shown node j is record i.
@@ -146,6 +147,7 @@ fn is_done(
         Change::Before => both(selected, is_inner(granting, level)),
         Change::After => both(selected, is_inner(granting, level)),
         Change::Remove => both(selected, is_inner(holds_right(set, DELETE), level)),
+        Change::Window => is_inner(is_renamable(selected, set), level),
     }
 }
 
@@ -196,6 +198,7 @@ fn asks_word(change: Change) -> bool
         Change::Before => false,
         Change::After => false,
         Change::Remove => false,
+        Change::Window => false,
     }
 }
 

@@ -5,6 +5,7 @@ use super::random::Random;
 use super::sessions::disturb;
 use crate::label::{Label, RESTRICTED};
 use crate::table::{Tree, CAPACITY_MAXIMUM, LEVEL_MAXIMUM};
+use crate::window::WHOLE_YEAR;
 use crate::xml::is_name;
 
 const BLANKS: [&str; 4] = [" ", "\t", "\r", "\n"];
@@ -130,12 +131,13 @@ fn some_name(random: &mut Random) -> Label {
     }
 }
 
-/// Whether some document has this tree: only a leaf may carry a label that is no name, and not directly behind another such leaf.
+/// Whether some document has this tree: all of it is there all year, and only a leaf may carry a label that is no name, and not directly behind another such leaf.
 pub fn has_document(tree: &Tree) -> bool {
+    let all_year = tree.window == WHOLE_YEAR && tree.children.iter().all(|child| child.window == WHOLE_YEAR);
     let text = |child: &Tree| !is_name(&child.label);
     let leaves = tree.children.iter().all(|child| !text(child) || child.children.is_empty());
     let parted = tree.children.windows(2).all(|pair| !(text(&pair[0]) && text(&pair[1])));
-    leaves && parted && tree.children.iter().all(|child| text(child) || has_document(child)) && !text(tree)
+    all_year && leaves && parted && tree.children.iter().all(|child| text(child) || has_document(child)) && !text(tree)
 }
 
 /// The tree with such labels that some document has it.
@@ -319,7 +321,7 @@ fn some_tree(random: &mut Random, capacity: usize) -> Tree {
         _ if capacity >= WIDE && random.percent(70) => {
             let size = random.within(WIDE / 2, WIDE + 5);
             let child = sized_tree(random, size, 6);
-            let tree = Tree { label: some_name(random), origin: None, children: vec![child] };
+            let tree = Tree::new(some_name(random), vec![child]);
             return with_document(random, tree);
         }
         _ => (random.within(1, 30), 6),

@@ -6,6 +6,7 @@ use crate::path::{Step, Test};
 use crate::policy::{Policy, Rule, DELETE, INSERT, POSITION, READ, UPDATE};
 use crate::step::write_tree;
 use crate::table::{flatten, nest_inserted, Node, Tree, LEVEL_MAXIMUM};
+use crate::window::{Window, FIRST_DAY, LAST_DAY};
 
 /// Two of them fill a sheet's cell and more; R-12 and Rm12 differ in what no case tells apart.
 const LABELS: [&str; 15] = ["a", "b", "c", "note", "x", "y", "z", "k.1", "R-12", "Rm12", "10B", "lesson", "room", "geography-12C", "philosophy-and-logic-13C"];
@@ -156,7 +157,7 @@ pub fn tree(random: &mut Random, size: usize, height: usize) -> Tree {
         children.push(tree(random, share, height - 1));
         left -= share;
     }
-    Tree { label: some_label(random), origin: None, children }
+    Tree::new(some_label(random), children)
 }
 
 /// A tree that reaches down some levels, with small trees beside the way.
@@ -170,7 +171,7 @@ pub fn deep_tree(random: &mut Random, height: usize) -> Tree {
         children.push(deep_tree(random, height - 1));
         random.shuffle(&mut children);
     }
-    Tree { label: some_label(random), origin: None, children }
+    Tree::new(some_label(random), children)
 }
 
 fn some_room(random: &mut Random) -> String {
@@ -180,17 +181,17 @@ fn some_room(random: &mut Random) -> String {
 
 /// A day of some periods, each with a few rooms; in a room stand mostly one lesson or two, and now and then none.
 pub fn day(random: &mut Random, periods: usize) -> Tree {
-    let lesson = |random: &mut Random| Tree { label: some_label(random), origin: None, children: Vec::new() };
+    let lesson = |random: &mut Random| Tree::new(some_label(random), Vec::new());
     let room = |random: &mut Random| {
         let name = if random.percent(90) { label(&some_room(random)) } else { some_label(random) };
         let lessons = *random.pick(&[0, 1, 1, 2, 2, 3]);
-        Tree { label: name, origin: None, children: (0..lessons).map(|_| lesson(random)).collect() }
+        Tree::new(name, (0..lessons).map(|_| lesson(random)).collect())
     };
     let period = |random: &mut Random| {
         let rooms = *random.pick(&[0, 1, 1, 2, 2, 3]);
-        Tree { label: some_label(random), origin: None, children: (0..rooms).map(|_| room(random)).collect() }
+        Tree::new(some_label(random), (0..rooms).map(|_| room(random)).collect())
     };
-    Tree { label: some_label(random), origin: None, children: (0..periods).map(|_| period(random)).collect() }
+    Tree::new(some_label(random), (0..periods).map(|_| period(random)).collect())
 }
 
 /// A week of so many days at most, each of so many periods at most.
@@ -200,7 +201,7 @@ pub fn week(random: &mut Random, days: usize, periods: usize) -> Tree {
         day(random, periods)
     };
     let days = random.within(days / 2, days);
-    Tree { label: some_label(random), origin: None, children: (0..days).map(|_| day(random)).collect() }
+    Tree::new(some_label(random), (0..days).map(|_| day(random)).collect())
 }
 
 /// A week for a reader from whom some of its days, periods, rooms or lessons are kept.
@@ -220,13 +221,63 @@ pub fn week_for(random: &mut Random, policy: &mut Policy, reader: usize, days: u
 
 /// A tree of exactly `size` nodes and at most `height` levels below its root.
 pub fn sized_tree(random: &mut Random, size: usize, height: usize) -> Tree {
-    let mut nodes = vec![Node { level: 0, label: some_label(random), parent: None }];
+    let mut nodes = vec![Node::new(0, some_label(random), None)];
     while nodes.len() < size {
         let deepest = (nodes[nodes.len() - 1].level + 1).min(height);
         let level = if random.percent(60) { deepest } else { random.within(1, deepest) };
-        nodes.push(Node { level, label: some_label(random), parent: None });
+        nodes.push(Node::new(level, some_label(random), None));
     }
     nest_inserted(&nodes)
+}
+
+// --- Days and windows ---
+
+/// A day of the year, mostly one of few, so that windows begin and end on it, or next to it.
+pub fn some_day(random: &mut Random) -> u16 {
+    const DAYS: [u16; 9] = [1, 2, 3, 100, 255, 256, 257, 365, 366];
+    if random.percent(85) {
+        *random.pick(&DAYS)
+    } else {
+        random.within(FIRST_DAY as usize, LAST_DAY as usize) as u16
+    }
+}
+
+/// A window, often around a day or with it at an end.
+pub fn some_window(random: &mut Random, day: u16) -> Window {
+    let (one, other) = (some_day(random), some_day(random));
+    match random.below(8) {
+        0 => Window { first: day, last: one.max(day) },
+        1 => Window { first: one.min(day), last: day },
+        2..=4 => Window { first: one.min(day), last: other.max(day) },
+        _ => Window { first: one.min(other), last: one.max(other) },
+    }
+}
+
+/// Gives some nodes of a tree windows of their own, its root aside.
+pub fn date(random: &mut Random, tree: &mut Tree, day: u16, chance: usize) {
+    for child in &mut tree.children {
+        if random.percent(chance) {
+            child.window = some_window(random, day);
+        }
+        date(random, child, day, chance);
+    }
+}
+
+/// A day as it is typed: now and then with zeros before it.
+pub fn day_text(random: &mut Random, day: u16) -> String {
+    let digits = if random.percent(80) { 1 } else { random.within(1, 3) };
+    format!("{day:0digits$}")
+}
+
+/// Two days as they are typed, behind a path.
+fn window_text(random: &mut Random, window: Window) -> String {
+    format!("{} {}", day_text(random, window.first), day_text(random, window.last))
+}
+
+/// A line that re-dates what a path selects.
+pub fn window_line(random: &mut Random, path: &str, day: u16) -> String {
+    let window = some_window(random, day);
+    format!("(window {path} {})", window_text(random, window))
 }
 
 pub fn tree_text(tree: &Tree) -> String {
@@ -348,13 +399,13 @@ fn small_tree(random: &mut Random, room: usize) -> String {
     tree_text(&tree(random, size, height))
 }
 
-/// A change at a view; `room` nodes may be added without crowding.
-pub fn change(random: &mut Random, view: &[Node], own: &[Label], room: usize) -> String {
+/// A change at a view on a day; `room` nodes may be added without crowding.
+pub fn change(random: &mut Random, view: &[Node], own: &[Label], room: usize, day: u16) -> String {
     let path = command_path(random, view, own);
     let kind = match view.len() {
-        _ if room == 0 => random.pick(&[0, 1, 5, 5, 5]),
-        0..=5 => random.pick(&[0, 1, 2, 2, 2, 3, 4]),
-        _ => random.pick(&[0, 0, 1, 1, 2, 3, 4, 5]),
+        _ if room == 0 => random.pick(&[0, 1, 5, 5, 5, 6]),
+        0..=5 => random.pick(&[0, 1, 2, 2, 2, 3, 4, 6]),
+        _ => random.pick(&[0, 0, 1, 1, 2, 3, 4, 5, 6]),
     };
     match kind {
         0 => format!("(rename {path} {})", new_label(random)),
@@ -362,7 +413,8 @@ pub fn change(random: &mut Random, view: &[Node], own: &[Label], room: usize) ->
         2 => format!("(append {path} {})", small_tree(random, room)),
         3 => format!("(before {path} {})", small_tree(random, room)),
         4 => format!("(after {path} {})", small_tree(random, room)),
-        _ => format!("(remove {path})"),
+        5 => format!("(remove {path})"),
+        _ => window_line(random, &path, day),
     }
 }
 
@@ -407,7 +459,7 @@ pub fn question(random: &mut Random, view: &[Node], own: &[Label]) -> String {
 pub fn refused(random: &mut Random) -> String {
     let path = any_path(random);
     let name = text_of(&some_label(random));
-    match random.below(15) {
+    match random.below(17) {
         0 => format!("(subject {name})"),
         1 => format!("(isa {name} staff)"),
         2 => format!("(rule accept read {path} {name})"),
@@ -422,6 +474,8 @@ pub fn refused(random: &mut Random) -> String {
         11 => format!("(view {path})"),
         12 => format!("(query {path}\t)"),
         13 => format!("(sheet {path})"),
+        14 => random.pick(&["(day 0)", "(day 367)", "(day 1000)", "(day x)"]).to_string(),
+        15 => format!("(window {path} {})", random.pick(&["0 9", "9 8", "1 367", "000 000", "1", "1 0366"])),
         _ => format!("(find  {path})"),
     }
 }

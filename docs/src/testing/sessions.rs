@@ -14,6 +14,7 @@ use crate::state::{self, Stage, State};
 use crate::step::{step, Store};
 use crate::table::{self, flatten, Node, Tree, CAPACITY_MAXIMUM, LEVEL_MAXIMUM};
 use crate::view::view;
+use crate::window::Window;
 use crate::STATE_BYTES;
 
 const AREA_BYTES: usize = 65_536;
@@ -96,6 +97,7 @@ const ODD_SHEETS: [&str; 14] = [
     "(sheet abcdefghijklmnopqrstuvwx)",
     "(sheet abcdefghijklmnopqrstuvwxy)",
 ];
+const ODD_DAYS: [&str; 14] = ["", "0", "00", "000", "367", "999", "0007", "1000", "x", "-1", "1.0", "+1", "1 ", " 1"];
 const PATH_BYTES: &[u8] = b"/[]*$ab019.-#";
 
 fn label_text(random: &mut Random) -> String {
@@ -144,6 +146,23 @@ fn command_path(random: &mut Random, seen: &[Node], own: &[Label]) -> String {
     text
 }
 
+fn day_line(random: &mut Random) -> String {
+    if random.percent(15) {
+        return format!("(day {})", random.pick(&ODD_DAYS));
+    }
+    let day = generate::some_day(random);
+    format!("(day {})", generate::day_text(random, day))
+}
+
+fn window_line(random: &mut Random, path: &str, day: u16) -> String {
+    match random.below(20) {
+        0 => format!("(window {path} {} {day})", random.pick(&ODD_DAYS)),
+        1 => format!("(window {path} {day} {})", random.pick(&ODD_DAYS)),
+        2 => format!("(window {path} {day} {})", generate::some_day(random)), // the first day may be after the last
+        _ => generate::window_line(random, path, day),
+    }
+}
+
 fn some_tree(random: &mut Random) -> Tree {
     let mut grown = match random.below(12) {
         0 => {
@@ -164,7 +183,7 @@ fn some_tree(random: &mut Random) -> Tree {
 
 fn chain(random: &mut Random, height: usize) -> Tree {
     let children = if height == 0 { Vec::new() } else { vec![chain(random, height - 1)] };
-    Tree { label: generate::some_label(random), origin: None, children }
+    Tree::new(generate::some_label(random), children)
 }
 
 /// A line of an exact length around the limit that holds a wide tree.
@@ -286,13 +305,15 @@ fn session_line(random: &mut Random, store: Option<&Store>) -> String {
         return generate::question(random, &[], &[]);
     };
     let Some(user) = store.state.user else {
-        return match random.below(4) {
+        return match random.below(8) {
             0 => generate::question(random, &[], &[]),
+            1 => window_line(random, "//*", store.state.day),
+            2 => day_line(random),
             _ => format!("(user {})", declared_name(random, Some(store))),
         };
     };
     let nodes = &store.table.nodes;
-    let seen = view(nodes, &store.state.policy.rights(nodes, user)).nodes;
+    let seen = view(nodes, &store.state.policy.rights(nodes, user), store.state.day).nodes;
     if seen.is_empty() && random.percent(30) {
         return format!("(user {})", declared_name(random, Some(store)));
     }
@@ -308,7 +329,7 @@ fn session_line(random: &mut Random, store: Option<&Store>) -> String {
 
 fn user_line(random: &mut Random, store: &Store, seen: &[Node], own: &[Label]) -> String {
     let path = command_path(random, seen, own);
-    match random.below(24 + generate::sheet_share(seen, 8, 1)) {
+    match random.below(29 + generate::sheet_share(seen, 8, 1)) {
         0 => format!("(user {})", declared_name(random, Some(store))),
         1..=3 => "(view)".to_string(),
         4..=6 => format!("(query {path})"),
@@ -319,8 +340,10 @@ fn user_line(random: &mut Random, store: &Store, seen: &[Node], own: &[Label]) -
         17..=18 => format!("(before {path} {})", tree_text(&some_tree(random))),
         19..=20 => format!("(after {path} {})", tree_text(&some_tree(random))),
         21 if random.percent(15) => long_line(random, &format!("(append {path}")),
-        24.. if random.percent(6) => random.pick(&ODD_SHEETS).to_string(),
-        24.. => format!("(sheet {})", generate::room(random, seen)),
+        24..=25 => day_line(random),
+        26..=28 => window_line(random, &path, store.state.day),
+        29.. if random.percent(6) => random.pick(&ODD_SHEETS).to_string(),
+        29.. => format!("(sheet {})", generate::room(random, seen)),
         _ => format!("(remove {path})"),
     }
 }
@@ -385,6 +408,12 @@ fn empty_start(random: &mut Random) -> Start {
     Start { kind: "empty", state: vec![0; STATE_BYTES], table: vec![0; length] }
 }
 
+/// Gives none, few or many of a tree's nodes windows of their own.
+fn date_some(random: &mut Random, tree: &mut Tree, day: u16) {
+    let chance = *random.pick(&[0, 10, 30, 60]);
+    generate::date(random, tree, day, chance);
+}
+
 fn sound_start(random: &mut Random) -> Start {
     let full = random.percent(10);
     let (mut policy, reader) = if full { (full_policy(random), 0) } else { generate::policy(random) };
@@ -398,9 +427,10 @@ fn sound_start(random: &mut Random) -> Start {
         policy.rules.clear();
     }
     let user = if random.percent(80) { reader } else { random.below(policy.subjects.len()) };
-    let user = Some(user).filter(|_| stage == Stage::E);
+    let user = Some(user).filter(|_| stage == Stage::E && random.percent(95));
+    let day = generate::some_day(random);
     let nodes = if stage >= Stage::C {
-        let grown = match random.below(8) {
+        let mut grown = match random.below(8) {
             0 => generate::deep_tree(random, LEVEL_MAXIMUM),
             1 => tree(random, 300, LEVEL_MAXIMUM),
             2..=3 if !full => generate::week_for(random, &mut policy, reader, DAYS + 2, PERIODS + 2),
@@ -409,12 +439,13 @@ fn sound_start(random: &mut Random) -> Start {
                 tree(random, size, 6)
             }
         };
+        date_some(random, &mut grown, day);
         flatten(&grown).0
     } else {
         Vec::new()
     };
     let mut bytes = vec![0; STATE_BYTES];
-    state::encode(&State { stage, user, policy }, &mut bytes);
+    state::encode(&State { stage, user, day, policy }, &mut bytes);
     let free = if random.percent(30) { random.below(8) } else { random.within(40, 200) };
     let odd = random.below(RECORD_BYTES);
     Start { kind: "sound", state: bytes, table: table_bytes(&nodes, free, odd) }
@@ -423,7 +454,7 @@ fn sound_start(random: &mut Random) -> Start {
 /// A table around the largest capacity, in a session of stage E.
 fn large_start(random: &mut Random) -> Start {
     let (policy, reader) = generate::policy(random);
-    let mut root = Tree { label: generate::some_label(random), origin: None, children: Vec::new() };
+    let mut root = Tree::new(generate::some_label(random), Vec::new());
     let count = CAPACITY_MAXIMUM - random.below(12);
     let mut size = 1;
     while size < count {
@@ -432,8 +463,10 @@ fn large_start(random: &mut Random) -> Start {
         size += child.size();
         root.children.push(child);
     }
+    let day = generate::some_day(random);
+    date_some(random, &mut root, day);
     let mut bytes = vec![0; STATE_BYTES];
-    state::encode(&State { stage: Stage::E, user: Some(reader), policy }, &mut bytes);
+    state::encode(&State { stage: Stage::E, user: Some(reader), day, policy }, &mut bytes);
     let nodes = flatten(&root).0;
     let free = CAPACITY_MAXIMUM - count + random.below(40);
     let odd = random.below(RECORD_BYTES);
@@ -444,7 +477,8 @@ fn large_start(random: &mut Random) -> Start {
 fn rootless_start(random: &mut Random, kind: &'static str, records: usize) -> Start {
     let (policy, _) = generate::policy(random);
     let mut bytes = vec![0; STATE_BYTES];
-    state::encode(&State { stage: Stage::B, user: None, policy }, &mut bytes);
+    let day = generate::some_day(random);
+    state::encode(&State { stage: Stage::B, user: None, day, policy }, &mut bytes);
     let odd = random.below(RECORD_BYTES);
     Start { kind, state: bytes, table: table_bytes(&[], records, odd) }
 }
@@ -460,17 +494,22 @@ pub fn tight_start(random: &mut Random) -> Start {
         let path = (0..random.within(1, longest)).map(|_| tight_step(random, &labels)).collect();
         policy.rules.push(Rule { accept: random.percent(40), right: *random.pick(&[READ, READ, POSITION]), subject: random.below(2), path });
     }
-    let mut nodes = vec![Node { level: 0, label: *random.pick(&labels), parent: None }];
-    let cased = random.percent(50);
+    let mut nodes = vec![Node::new(0, *random.pick(&labels), None)];
+    let (cased, day, dated) = (random.percent(50), generate::some_day(random), *random.pick(&[0, 5, 20]));
     for _ in 0..random.within(1, 60) {
         let deepest = (nodes[nodes.len() - 1].level + 1).min(LEVEL_MAXIMUM);
         let level = if random.percent(75) { deepest } else { random.within(1, deepest) };
         let label = if random.percent(90) { labels[random.below(2)] } else { labels[2] };
         let label = if cased { other_case(random, &label) } else { label };
-        nodes.push(Node { level, label, parent: None });
+        nodes.push(Node::new(level, label, None));
+    }
+    for node in &mut nodes[1..] {
+        if random.percent(dated) {
+            node.window = generate::some_window(random, day);
+        }
     }
     let mut bytes = vec![0; STATE_BYTES];
-    state::encode(&State { stage: Stage::E, user: Some(random.below(3)), policy }, &mut bytes);
+    state::encode(&State { stage: Stage::E, user: Some(random.below(3)), day, policy }, &mut bytes);
     let free = random.below(3);
     Start { kind: "tight", state: bytes, table: table_bytes(&nodes, free, 0) }
 }
@@ -521,7 +560,7 @@ fn state_place(random: &mut Random, bytes: &[u8]) -> usize {
 fn damage_state(random: &mut Random, bytes: &mut Vec<u8>) {
     let subjects = bytes[8] as usize;
     let rules = usize::from(bytes[10]).min(RULES_MAXIMUM); // the count may be damaged already
-    match random.below(12) {
+    match random.below(13) {
         0 => {
             bytes.truncate(*random.pick(&[0, 1, 8, STATE_BYTES - 1]));
         }
@@ -548,6 +587,7 @@ fn damage_state(random: &mut Random, bytes: &mut Vec<u8>) {
         6 => bytes[0] = random.below(7) as u8,
         7 => bytes[1] = random.below(7) as u8,
         8 => bytes[8 + random.below(3)] = *random.pick(&[0, 1, 63, 64, 65, 127, 128, 129, 255]),
+        9 => bytes[2..4].copy_from_slice(&random.pick::<u16>(&[0, 255, 256, 364, 365, 366, 367, 511, 65_535]).to_le_bytes()),
         _ => {
             let at = state_place(random, bytes);
             bytes[at] = other_byte(random, bytes[at]);
@@ -555,13 +595,27 @@ fn damage_state(random: &mut Random, bytes: &mut Vec<u8>) {
     }
 }
 
+/// Another window in a record: a bad one, or a good one that the root may not have.
+fn damage_window(random: &mut Random, record: &mut [u8]) {
+    const NUMBERS: [u16; 11] = [0, 0, 1, 2, 255, 256, 365, 366, 367, 622, 65_535];
+    let (mut first, mut last) = Window::read(record).unwrap_or((1, 366));
+    match random.below(5) {
+        0 => (first, last) = (last, first),
+        1 => (first, last) = (0, 0),
+        2 => first = *random.pick(&NUMBERS),
+        3 => last = *random.pick(&NUMBERS),
+        _ => (first, last) = (*random.pick(&NUMBERS), *random.pick(&NUMBERS)),
+    }
+    Window { first, last }.write(record);
+}
+
 fn damage_table(random: &mut Random, bytes: &mut Vec<u8>) {
     if bytes.len() < 4 {
         bytes.resize(4, 0);
     }
     let count = u32::from_le_bytes([bytes[0], bytes[1], bytes[2], bytes[3]]) as usize;
-    let record = 4 + 32 * random.below(count.max(1));
-    match random.below(10) {
+    let record = if random.percent(10) { 4 } else { 4 + 32 * random.below(count.max(1)) };
+    match random.below(12) {
         0 => {
             let length = random.below(5);
             bytes.truncate(length);
@@ -583,14 +637,24 @@ fn damage_table(random: &mut Random, bytes: &mut Vec<u8>) {
         4 if record + 32 <= bytes.len() => bytes[record] = random.below(14) as u8,
         5 if record + 32 <= bytes.len() => bytes[record + 1] = *random.pick(&[0, 1, 2, 23, 24, 25, 255]),
         6 if record + 32 <= bytes.len() => {
-            let level = bytes[record];
-            write_record(&mut bytes[record..record + 32], level, typed(random, &RESTRICTED).as_bytes());
+            let record = &mut bytes[record..record + 32];
+            let window = Window::read(record);
+            write_record(record, record[0], typed(random, &RESTRICTED).as_bytes());
+            if let Some((first, last)) = window {
+                Window { first, last }.write(record); // so that the label alone is wrong
+            }
         }
         7 if record + 32 <= bytes.len() => {
             let at = record + random.below(32);
             bytes[at] = other_byte(random, bytes[at]);
         }
-        8 => {
+        8..=9 if record + 32 <= bytes.len() => damage_window(random, &mut bytes[record..record + 32]),
+        10 if random.percent(50) => {
+            for record in bytes[4..].chunks_exact_mut(32).take(count) {
+                Window { first: 0, last: 0 }.write(record); // as tables were before windows
+            }
+        }
+        10 => {
             let at = (4 + 32 * count + random.below(64)).min(bytes.len() - 1);
             bytes[at] = other_byte(random, bytes[at]);
         }

@@ -8,7 +8,8 @@ use Rattle.rights.specs.PathReader.{runAt}
 use Rattle.forms.specs.Word.{labelBytesAt, signAt, rightAt}
 use Rattle.rights.specs.declared.path.Read.{Read}
 use Rattle.rights.specs.declared.path.Read.the-variants.{Bad}
-use Rattle.forms.specs.Kind.{partEnd, Label, Path, Tree, Sign, Right, Kind, codeOf}
+use Rattle.forms.specs.Part.{dayAt}
+use Rattle.forms.specs.Kind.{partEnd, Label, Path, Tree, Sign, Right, Day, Kind, codeOf}
 use Rattle.rights.specs.Record.{pasted}
 use Rattle.forms.specs.Tree.{treeNodes, recordsOf}
 use mathlib.Core.Path.{_≡_}
@@ -41,11 +42,17 @@ endBy n s at =
     (cond (eqb n 3) (partEnd Tree s at)
     (cond (eqb n 4) (partEnd Sign s at)
     (cond (eqb n 5) (partEnd Right s at)
-    Bad))))
+    (cond (eqb n 6) (partEnd Day s at)
+    Bad)))))
 
--- what such a part says besides its place: a sign's number, a right's bit, how many nodes a tree has
+-- what such a part says besides its place: a sign's number, a right's bit, a day's number, how many nodes a tree has
 unfoldable pub saysBy : ℕ → List ℕ → ℕ → ℕ
-saysBy n s at = cond (eqb n 3) (length (treeNodes s at)) (cond (eqb n 4) (signAt s at) (cond (eqb n 5) (rightAt s at) 0))
+saysBy n s at =
+    cond (eqb n 3) (length (treeNodes s at))
+    (cond (eqb n 4) (signAt s at)
+    (cond (eqb n 5) (rightAt s at)
+    (cond (eqb n 6) (dayAt s at)
+    0)))
 
 -- the area once such a part was passed: a tree's records are put
 unfoldable pub areaBy : ℕ → List ℕ → ℕ → List ℕ → List ℕ

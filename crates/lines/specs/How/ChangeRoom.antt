@@ -33,7 +33,11 @@ pub record Chosen (s t path shown marks : List ℕ) (k : ℕ) (shown' marks' : L
   pub numbers : shown' ≡ shownNumbers (storedIn s t) ++ drop k shown
   pub picked : marks' ≡ map bit (marksIn s t path) ++ drop k marks
 
--- the records that a change does, and k, how many nodes are selected
+-- the records that a change does
+abbrev pub MarkedFor : Change → List ℕ → List ℕ → List ℕ → List ℕ → List ℕ → Type 0
+MarkedFor c s t path done done' = done' ≡ map bit (doneIn c s t path) ++ drop (count t) done
+
+-- and k, how many nodes are selected
 pub record Decided (c : Change) (s t path done : List ℕ) (k : ℕ) (done' : List ℕ) : Type 0 where
   pub size : k ≡ markCount (marksIn s t path)
-  pub marks : done' ≡ map bit (doneIn c s t path) ++ drop (count t) done
+  pub marks : MarkedFor c s t path done done'

@@ -13,9 +13,9 @@ use Rattle.rights.specs.Policy.{policyWord, read}
 use Rattle.rights.specs.PolicyBytes.{policyOf}
 use Rattle.views.specs.Done.{doneMarks}
 use Rattle.views.specs.declared.done.Change.{Change}
-use Rattle.views.specs.declared.done.Change.the-variants.{Rename, Update, Append, Before, After, Remove}
+use Rattle.views.specs.declared.done.Change.the-variants.{Rename, Update, Append, Before, After, Remove, Window}
 use Rattle.rights.specs.Rights.{holds}
-use Rattle.views.specs.Shown.{Stored, storedLevel, granted, shown}
+use Rattle.views.specs.Shown.{Stored, storedLevel, showable, shown}
 
 -- the depth of the shown chain after a node at level l, shown or not
 abbrev pub depthAfter : ℕ → ℕ → Bool → ℕ
@@ -35,13 +35,13 @@ module _ {E : Type 0} (lev : E → ℕ) (gr : E → Bool) where
 abbrev pub shownNumber : Stored → ℕ
 shownNumber x = cond (holds read (x .rights)) (x .number) (x .number + recordsMax)
 
--- the view by numbers: `viewOf table (shownNumbers (stored table rights))` is the view (proofs/ViewLaws.antt)
+-- the view by numbers: `viewOf table (shownNumbers (stored day table rights))` is the view (proofs/ViewLaws.antt)
 abbrev pub shownNumbers : List Stored → List ℕ
 shownNumbers xs = map shownNumber (keep (shown xs) xs)
 
 -- the numbers by the depth of the shown chain
 abbrev pub numbersFrom : ℕ → List Stored → List ℕ
-numbersFrom d xs = map shownNumber (keep (shownFrom storedLevel granted d xs) xs)
+numbersFrom d xs = map shownNumber (keep (shownFrom storedLevel showable d xs) xs)
 
 -- the next shown node is record i
 abbrev pub isNext : List ℕ → ℕ → Bool
@@ -77,3 +77,4 @@ asksWord Append = false
 asksWord Before = false
 asksWord After = false
 asksWord Remove = false
+asksWord Window = false

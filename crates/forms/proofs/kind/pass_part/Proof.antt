@@ -41,18 +41,25 @@ returns-5 c =
     (rw z (c .pass-right .ensures), rw z)
 
 returns-6 : tie.Need-returns-6
-unfolding endBy saysBy areaBy
+unfolding areaBy
 returns-6 c =
+    let z = c .before .match .keys6 in
+    (rw z (c .pass-day .ensures), rw z)
+
+returns-7 : tie.Need-returns-7
+unfolding endBy saysBy areaBy
+returns-7 c =
     let m = c .before .match .rest in
     let k : ℕ = c .before .before .before .before .args .k in
-    let three = ne-eqb k 3 (m .0 .0 .1) in
-    let four = ne-eqb k 4 (m .0 .1) in
-    let five = ne-eqb k 5 (m .1) in (
-      silent-passed k (c .before .before .before .before .args .s .now) (c .before .before .before .before .args .at) _ _ (c .silent3 .ensures) (bad-onward _ _ (rw (ne-eqb k 1 (m .0 .0 .0 .0 .1), ne-eqb k 2 (m .0 .0 .0 .1), three, four, five))) (rw (three, four, five)),
+    let three = ne-eqb k 3 (m .0 .0 .0 .1) in
+    let four = ne-eqb k 4 (m .0 .0 .1) in
+    let five = ne-eqb k 5 (m .0 .1) in
+    let six = ne-eqb k 6 (m .1) in (
+      silent-passed k (c .before .before .before .before .args .s .now) (c .before .before .before .before .args .at) _ _ (c .silent3 .ensures) (bad-onward _ _ (rw (ne-eqb k 1 (m .0 .0 .0 .0 .0 .1), ne-eqb k 2 (m .0 .0 .0 .0 .1), three, four, five, six))) (rw (three, four, five, six)),
       rw three,
     )
 
 pub pass-part-spec : {M : Type 1} → statement M
 pass-part-spec =
     tie.close
-    (tie.spec (λ c κs. search needs) (λ c κs. search needs) (λ c κs. search needs) (λ c κs. search needs) (λ c κs. search needs) (λ c κs. search needs) (λ c κs. search needs) (λ c κs. search needs) returns returns-2 (λ c. search needs) returns-3 returns-4 returns-5 returns-6)
+    (tie.spec (λ c κs. search needs) (λ c κs. search needs) (λ c κs. search needs) (λ c κs. search needs) (λ c κs. search needs) (λ c κs. search needs) (λ c κs. search needs) (λ c κs. search needs) (λ c κs. search needs) returns returns-2 (λ c. search needs) returns-3 returns-4 returns-5 returns-6 returns-7)

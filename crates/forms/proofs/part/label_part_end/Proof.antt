@@ -1,42 +1,30 @@
-use mathlib.Core.Path.{_≡_, ap, _∙_}
+use Prim.Native.Nat.{ℕ}
 use mathlib.Core.List.{List}
 use native.Mathlib.Omega.{arith}
-use Rattle.rights.specs.declared.path.Read.the-variants.{At}
-use Prim.Native.Nat.{ℕ, _+_, _-_}
-use Rattle.rights.proofs.PathLaws.{bad-onward, at-onward}
-use Rattle.forms.proofs.PartLaws.{label-none, label-long, label-good}
+use Rattle.rights.specs.Limits.{labelMax}
+use Rattle.rights.specs.Labels.{labelByte}
+use Rattle.rights.proofs.PathLaws.{bad-onward}
+use Rattle.forms.specs.Part.{labelEnd}
+use Rattle.forms.proofs.PartLaws.{short-long, short-moved}
 use borrow.Author.Needs.{needs}
 use Rattle.forms.proofs.part.label_part_end.Statement.{statement}
 use Rattle.forms.proofs.part.label_part_end.Tie as tie
 
-label-end-requires : tie.Need-label-end-requires
-label-end-requires c κs = search needs
-
-sub-n : tie.Need-sub-n
-sub-n c = search needs
-
 returns : tie.Need-returns
+unfolding labelEnd
 returns c =
     let at-label-end = c .before in let start = at-label-end .before .before in
     let s : List ℕ = start .args .s .now in
-    let at : ℕ = start .args .at in
-    bad-onward _ _ (label-none s at (at-label-end .label-end .result - at) (omega arith) (omega arith))
+    bad-onward _ _ (short-long labelByte labelMax s (start .args .at) (omega arith))
 
 returns-2 : tie.Need-returns-2
+unfolding labelEnd
 returns-2 c =
     let at-label-end = c .before .before in let start = at-label-end .before .before in
     let s : List ℕ = start .args .s .now in
-    let at : ℕ = start .args .at in
-    bad-onward _ _ (label-long s at (at-label-end .label-end .result - at) (omega arith) (omega arith))
-
-returns-3 : tie.Need-returns-3
-returns-3 c =
-    let at-label-end = c .before .before in let start = at-label-end .before .before in
-    let s : List ℕ = start .args .s .now in
-    let at : ℕ = start .args .at in
-    let e : ℕ = at-label-end .label-end .result in
-    let z : at + (e - at) ≡ e = omega arith in
-    at-onward _ _ e (label-good s at (e - at) (omega arith) (omega arith) (omega arith) ∙ ap At z) (omega arith) (omega arith)
+    rw (c .moved .ensures) (short-moved labelByte labelMax s (start .args .at) _ (at-label-end .label-end .ensures) (omega arith))
 
 pub label-part-end-spec : {M : Type 1} → statement M
-label-part-end-spec = tie.close (tie.spec label-end-requires sub-n returns returns-2 returns-3)
+label-part-end-spec =
+    tie.close
+    (tie.spec (λ c κs. search needs) (λ c. search needs) returns (λ c κs. search needs) returns-2)

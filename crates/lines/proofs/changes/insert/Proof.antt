@@ -54,7 +54,7 @@ part-insert-done-end c =
     let at-count-of = c .before .before in let at-mark-change = at-count-of .before .before .before in
     let start = to-start-from-mark-change at-mark-change in
     let a = start .args in
-    done-reach _ (a .state .now) (a .table .now) (a .path .now) (replicate 16384 0) _ _ _ (at-mark-change .mark-change .ensures) (at-count-of .count-of .ensures)
+    done-reach (at-mark-change .before .before .change-at .result) (a .state .now) (a .table .now) (a .path .now) (replicate 16384 0) _ _ (at-mark-change .mark-change .ensures .marks) (at-count-of .count-of .ensures)
 
 insert-done-requires : tie.Need-insert-done-requires
 insert-done-requires c κs =
@@ -63,7 +63,7 @@ insert-done-requires c κs =
     let a = start .args in
     let g = start .pre in
     let k = store-held (a .state .now) (a .table .now) (g .0) in
-    (omega (arith, k .size), k .table, done-cover _ (a .state .now) (a .table .now) (a .path .now) (replicate 16384 0) _ _ _ (at-mark-change .mark-change .ensures) (at-count-of .count-of .ensures), g .1, g .2)
+    (omega (arith, k .size), k .table, done-cover (at-mark-change .before .before .change-at .result) (a .state .now) (a .table .now) (a .path .now) (replicate 16384 0) _ _ (at-mark-change .mark-change .ensures .marks) (at-count-of .count-of .ensures), g .1, g .2)
 
 returns-2 : tie.Need-returns-2
 returns-2 c =

@@ -12,7 +12,7 @@ use Rattle.lines.proofs.queries.show_user.Tie as tie
 
 -- the places further back that answers read
 abbrev to-asked-on : tie.After-show-arg2 → tie.After-asked-on
-to-asked-on c = c .before .before .before .before
+to-asked-on c = c .before .before .before .before .before
 
 abbrev to-own-subjects : tie.After-asked-on-arg2 → tie.After-own-subjects
 to-own-subjects c = c .before .before .before .before
@@ -56,6 +56,11 @@ asked-on-requires c κs =
       omega (arith, table-few _ table, g .3),
     )
 
+day-in-requires : tie.Need-day-in-requires
+day-in-requires c κs =
+    let at-wide = c .before .before .before .before .before .before .before .before .before .before .before .before in
+    omega (arith, store-held _ _ (to-start (at-wide .before .before .before) .pre .0) .size)
+
 show-requires : tie.Need-show-requires
 show-requires c κs =
     let at-asked-on = to-asked-on c in let at-wide = at-asked-on .before .before .before .before .before .before .before .before .before in
@@ -74,7 +79,7 @@ returns c =
     let g = start .pre in
     let more = drop (count (a .table .now)) (a .rights .now) in
     let user = at-wide .wide .ensures in
-    let e = asked-shown (a .state .now) (a .table .now) _ more _ (a .asked) user (at-asked-on .asked-on .ensures) (g .2) in (
+    let e = asked-shown (a .state .now) (a .table .now) _ more _ (a .asked) user (at-asked-on .asked-on .ensures) (g .2) _ (at-show .before .before .day-in .ensures) in (
       user-own (a .state .now) _ user _ _ (at-own-subjects .own-subjects .ensures .0),
       rw e at (r .0),
       rw e at (r .1),
@@ -86,4 +91,4 @@ show-user-spec =
     tie.close
     (tie.spec sub-policy part-policy-start (λ c. search needs) shared-slice-read-wide (λ c κs. search needs) sub-user
     roles-of-requires own-subjects-requires (λ c. search needs) (λ c. search needs) (λ c. search needs) asked-on-requires
-    show-requires (λ c. search needs) (λ c. search needs) returns)
+    day-in-requires show-requires (λ c. search needs) (λ c. search needs) returns)

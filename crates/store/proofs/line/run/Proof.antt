@@ -291,6 +291,25 @@ returns-17 c =
     let told = at-enum-told17 .enum-told17 .given .1 in
     rw (read-as (start .pre .2) told, ← (at-part-of18 .part-of18 .ensures)) (at-sheet .sheet .ensures)
 
+returns-18 : tie.Need-returns-18
+unfolding saysBy
+returns-18 c =
+    let at-set-day = c .before .before .before .before in
+    let at-enum-told18 = at-set-day .before .before .before .before in
+    let start = at-enum-told18 .before .before .before .before .before .before .before .before .before in
+    let told = at-enum-told18 .enum-told18 .given .1 in
+    rw (read-as (start .pre .2) told, ← (says-as (start .pre .2) told 0 (omega arith))) (at-set-day .set-day .ensures)
+
+returns-19 : tie.Need-returns-19
+unfolding saysBy
+returns-19 c =
+    let at-window = c .before .before .before .before in
+    let at-part-of19 = at-window .before .before in
+    let at-enum-told19 = at-part-of19 .before .before .before .before in
+    let start = at-enum-told19 .before .before .before .before .before .before .before .before .before in
+    let told = at-enum-told19 .enum-told19 .given .1 in
+    rw (read-as (start .pre .2) told, ← (at-part-of19 .part-of19 .ensures), ← (says-as (start .pre .2) told 1 (omega arith)), ← (says-as (start .pre .2) told 2 (omega arith))) (at-window .window .ensures)
+
 pub run-spec : {M : Type 1} → statement M
 run-spec =
     tie.close
@@ -307,14 +326,17 @@ run-spec =
     (λ c. search needs) tree-of-requires-3 (λ c. search needs) insert-requires-2 (λ c. search needs)
     (λ c κs. search needs) (λ c. search needs) tree-of-requires-4 (λ c. search needs) insert-requires-3
     (λ c. search needs) (λ c κs. search needs) (λ c κs. search needs) (λ c. search needs) (λ c κs. search needs)
-    (λ c κs. search needs) returns (λ c. search needs) (λ c. search needs) (λ c. search needs) returns-2
-    (λ c. search needs) (λ c. search needs) (λ c. search needs) returns-3 (λ c. search needs) (λ c. search needs)
-    (λ c. search needs) returns-4 (λ c. search needs) (λ c. search needs) (λ c. search needs) returns-5
-    (λ c. search needs) (λ c. search needs) (λ c. search needs) returns-6 (λ c. search needs) (λ c. search needs)
-    (λ c. search needs) returns-7 (λ c. search needs) (λ c. search needs) (λ c. search needs) returns-8
-    (λ c. search needs) (λ c. search needs) (λ c. search needs) returns-9 (λ c. search needs) (λ c. search needs)
-    (λ c. search needs) returns-10 (λ c. search needs) (λ c. search needs) (λ c. search needs) returns-11
-    (λ c. search needs) (λ c. search needs) (λ c. search needs) returns-12 (λ c. search needs) (λ c. search needs)
-    (λ c. search needs) returns-13 (λ c. search needs) (λ c. search needs) (λ c. search needs) returns-14
-    (λ c. search needs) (λ c. search needs) (λ c. search needs) returns-15 (λ c. search needs) (λ c. search needs)
-    (λ c. search needs) returns-16 (λ c. search needs) (λ c. search needs) (λ c. search needs) returns-17)
+    (λ c κs. search needs) (λ c. search needs) (λ c. search needs) (λ c κs. search needs) (λ c. search needs)
+    (λ c κs. search needs) (λ c. search needs) (λ c. search needs) (λ c κs. search needs) returns (λ c. search needs)
+    (λ c. search needs) (λ c. search needs) returns-2 (λ c. search needs) (λ c. search needs) (λ c. search needs)
+    returns-3 (λ c. search needs) (λ c. search needs) (λ c. search needs) returns-4 (λ c. search needs)
+    (λ c. search needs) (λ c. search needs) returns-5 (λ c. search needs) (λ c. search needs) (λ c. search needs)
+    returns-6 (λ c. search needs) (λ c. search needs) (λ c. search needs) returns-7 (λ c. search needs)
+    (λ c. search needs) (λ c. search needs) returns-8 (λ c. search needs) (λ c. search needs) (λ c. search needs)
+    returns-9 (λ c. search needs) (λ c. search needs) (λ c. search needs) returns-10 (λ c. search needs)
+    (λ c. search needs) (λ c. search needs) returns-11 (λ c. search needs) (λ c. search needs) (λ c. search needs)
+    returns-12 (λ c. search needs) (λ c. search needs) (λ c. search needs) returns-13 (λ c. search needs)
+    (λ c. search needs) (λ c. search needs) returns-14 (λ c. search needs) (λ c. search needs) (λ c. search needs)
+    returns-15 (λ c. search needs) (λ c. search needs) (λ c. search needs) returns-16 (λ c. search needs)
+    (λ c. search needs) (λ c. search needs) returns-17 (λ c. search needs) (λ c. search needs) (λ c. search needs)
+    returns-18 (λ c. search needs) (λ c. search needs) (λ c. search needs) returns-19)

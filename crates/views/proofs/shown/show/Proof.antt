@@ -27,7 +27,7 @@ returns c =
     let at-show-first = c .before .before in let at-count-of = at-show-first .before .before in
     let start = to-start at-count-of in
     let a = start .args in
-    show-gives (a .table .now) (a .rights .now) _ (a .shown .now) _ _ (start .pre .0) (at-count-of .count-of .ensures) (at-show-first .show-first .ensures)
+    show-gives (a .day) (a .table .now) (a .rights .now) _ (a .shown .now) _ _ (start .pre .0) (at-count-of .count-of .ensures) (at-show-first .show-first .ensures)
 
 pub show-spec : {M : Type 1} → statement M
 show-spec = tie.close (tie.spec count-of-requires show-first-requires same-length returns)
