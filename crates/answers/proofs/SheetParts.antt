@@ -7,7 +7,7 @@ use native.Mathlib.Omega.{arith}
 use native.Mathlib.Numerals.{add-one}
 use lib.Dec.{ltb}
 use lib.ListN.{length, get_or, take, drop, replicate, get_or-eq_default, drop_of_length-le}
-use lib.Seq.{drop-cons, get_or-drop, drop-drop}
+use lib.Seq.{drop-cons, get_or-drop, drop-drop, take_at}
 use borrow.Author.Tests.{eq-eqb, ne_eqb, le-leb, lt-leb, lt-ltb, le-ltb, ltb-true, ltb-false}
 use Rattle.rights.specs.Bytes.{bytes}
 use Rattle.rights.specs.Nodes.{node, Nodes, level_at, label_at}
@@ -84,6 +84,10 @@ cell_filled s b r p h =
 pub cell-blank : (t : Nodes) (i : ℕ) → length t ≤ i → cell (label_at t i) ≡ bytes "             |"
 unfolding cell label_at
 cell-blank t i h = rw (get_or-eq_default t (node 0 []) h)
+
+-- the label as it is put into a lent area
+pub label-put : (s a b : List ℕ) (r : ℕ) → Puts s 0 a b r → r ≤ length a → take r b ≡ s
+label-put s a b r p h = let n : length s ≡ r = omega (arith, p.next) in ap (take r) (p.fits h) ∙ take_at s (drop r a) r n
 
 -- Children, one after the other
 

@@ -9,6 +9,7 @@ ghost use Rattle.answers.specs.How.AnswerArea.{Puts, Answered};
 ghost use Rattle.answers.specs.How.SheetParts.{First};
 
 use crate::answer::{digit, put_byte, put_bytes, put_label};
+use rights::labels::same_label;
 use rights::limits::LABEL_MAX;
 use rights::nodes::level_at;
 
@@ -25,7 +26,9 @@ fn is_labelled(table: &[u8], shown: &[u16], i: usize, room: &[u8]) -> bool
     requires { (Fits table.now shown.now) × (i < length shown.now) }
     ensures { result ≡ carries room.now (view_of table.now shown.now) i }
 {
-    rights::nodes::carries(table, shown, i, room)
+    let mut label = [0u8; LABEL_MAX];
+    let n = put_label(&mut label, 0, table, shown, i);
+    same_label(&label, 0, n, room, 0, room.len())
 }
 
 // The first node of level l from place i on, before a node of a level under l; where there is none, the place after the last node.

@@ -12,7 +12,6 @@
 ghost use Rattle.std.specs.Prelude.{◌≡◌, ◌≤◌, ◌<◌, length};
 
 use libc::{STDIN_FILENO, STDOUT_FILENO};
-use rights::bytes::smaller;
 use trials::{trial_path, trial_policy, trial_rights, trial_select, trial_table, trial_word};
 
 // Which of the lengths is that of the table, of the policy and of the shown numbers.
@@ -80,20 +79,26 @@ fn three(a: u8, b: u8, c: u8) -> usize {
     a as usize * 65536 + b as usize * 256 + c as usize
 }
 
+fn least(a: usize, b: usize) -> usize
+    ensures { (result ≤ a) × (result ≤ b) }
+{
+    if a < b { a } else { b }
+}
+
 // The first n elements, or all.
 fn part(s: &[u8], n: usize) -> &[u8] {
-    let e = smaller(n, s.len());
+    let e = least(n, s.len());
     &s[0..e]
 }
 
 fn part_of_numbers(s: &[u16], n: usize) -> &[u16] {
-    let e = smaller(n, s.len());
+    let e = least(n, s.len());
     &s[0..e]
 }
 
 // All from a place on, or nothing.
 fn rest(s: &[u8], n: usize) -> &[u8] {
-    let a = smaller(n, s.len());
+    let a = least(n, s.len());
     &s[a..]
 }
 

@@ -37,8 +37,6 @@ pub mod RuleXPathLaws
 pub mod NodeLaws
 pub mod RecordOfLaws
 pub mod BitLaws
-pub mod OrderLaws
-pub mod KeyLaws
 pub mod VocabularyLaws
 pub mod PackedLaws
 pub mod GroupLaws

@@ -3,7 +3,7 @@ use Prim.Native.Nat.{ℕ, zero, suc, ◌+◌, ◌-◌, ◌/◌, ◌≤◌, ◌<�
 use mathlib.Core.Bool.{Bool, true, false, cond, ◌||◌, or_assoc, or-false}
 use mathlib.Core.Logic.{⊎_elim}
 use mathlib.Core.Path.{◌≡◌, refl, sym, ap, ◌∙◌, subst}
-use mathlib.Core.List.{List}
+use mathlib.Core.List.{List, ◌∷◌}
 use native.Mathlib.Nat.{eq-or-lt_of_le, le_of_suc-le-suc}
 use native.Mathlib.Numerals.{add-one}
 use native.Mathlib.Omega.{arith}
@@ -11,14 +11,11 @@ use borrow.Author.Tests.{eq-eqb, ne_eqb, eqb-true, eqb-false, ltb-true, ltb-fals
 use lib.Dec.{eqb, ltb}
 use lib.ListN.{length, get_or, set, length-set}
 use lib.Seq.{get_or-set_same, get_or-set_other}
-use Rattle.rights.specs.Labels.{same_label}
+use Rattle.rights.specs.Labels.{folded_label, same_label}
 use Rattle.rights.specs.Table.{rec_at, label}
-use Rattle.rights.specs.How.Keys.{labelKey, lexOrder, keyOrder}
 use Rattle.rights.specs.How.Places.{Text}
-use Rattle.rights.specs.How.Vocabulary.{listed_word, word_number, listed_number, is_listed, Words, Inserted, Added}
-use Rattle.rights.proofs.LabelLaws.{same_sym, same_left, same_right}
-use Rattle.rights.proofs.OrderLaws.{order_flip, order-through}
-use Rattle.rights.proofs.KeyLaws.{Keyed, order-label, label-order, order_other, text-keyed}
+use Rattle.rights.specs.How.Vocabulary.{byte_order, label_order, listed_word, word_number, listed_number, is_listed, Words, Inserted, Added}
+use Rattle.rights.proofs.LabelLaws.{same_sym, same_left, same_right, same-order, order_flip, order-through, order_same, order_other}
 use Rattle.rights.proofs.BoolLaws.{both_ways, or_left, or_right, or_split}
 use Rattle.rights.proofs.ListLaws.{by_case}
 
@@ -75,26 +72,40 @@ module _ (f : ℕ → List ℕ) where
 -- Sorted words
 
 abbrev Ascending : (ℕ → List ℕ) → ℕ → Type 0
-Ascending f n = (i j : ℕ) → i < j → j < n → keyOrder (f i) (f j) ≡ 0
+Ascending f n = (i j : ℕ) → i < j → j < n → label_order (f i) (f j) ≡ 0
 
-flip_up : (x y : List ℕ) → keyOrder x y ≡ 0 → keyOrder y x ≡ 2
-flip_up x y e = order_flip (labelKey x) (labelKey y) ∙ ap (λ (k : ℕ). 2 - k) e
+flip_up : (x y : List ℕ) → label_order x y ≡ 0 → label_order y x ≡ 2
+flip_up x y e = order_flip (length x ∷ folded_label x) (length y ∷ folded_label y) ∙ ap (λ (k : ℕ). 2 - k) e
 
-flip_down : (x y : List ℕ) → keyOrder x y ≡ 2 → keyOrder y x ≡ 0
-flip_down x y e = order_flip (labelKey x) (labelKey y) ∙ ap (λ (k : ℕ). 2 - k) e
+flip_down : (x y : List ℕ) → label_order x y ≡ 2 → label_order y x ≡ 0
+flip_down x y e = order_flip (length x ∷ folded_label x) (length y ∷ folded_label y) ∙ ap (λ (k : ℕ). 2 - k) e
 
-through : (x y z : List ℕ) → keyOrder x y ≡ 0 → keyOrder y z ≡ 0 → keyOrder x z ≡ 0
-through x y z = order-through (labelKey x) (labelKey y) (labelKey z)
+through : (x y z : List ℕ) → label_order x y ≡ 0 → label_order y z ≡ 0 → label_order x z ≡ 0
+through x y z = order-through (length x ∷ folded_label x) (length y ∷ folded_label y) (length z ∷ folded_label z)
 
 module _ (f : ℕ → List ℕ) (n : ℕ) (up : Ascending f n) (x : List ℕ) where
+  -- a word is found at one place alone
+  pub number_found : (i : ℕ) → i < n → label_order (f i) x ≡ 1 → word_number f n x ≡ suc i
+  number_found i h e =
+      let pos = number_there f n i x h (order_same (f i) x e) in
+      let k = word_number f n x - 1 in
+      let z : word_number f n x ≡ suc k = omega arith in
+      let w = number_word f n k x z in
+      let same = same_left (f k) x w.1 (f i) ∙ same_sym x (f i) ∙ order_same (f i) x e in
+      let one = same-order (f k) (f i) same in
+      let two = same-order (f i) (f k) (same_sym (f i) (f k) ∙ same) in
+      by_case (ltb k i)
+      (λ l. absurd (omega (arith, up k i (ltb-true k i l) h)))
+      (λ l. by_case (ltb i k) (λ m. absurd (omega (arith, up i k (ltb-true i k m) w.0))) (λ m. omega (arith, z, ltb-false k i l, ltb-false i k m)))
+
   abbrev Below : ℕ → Type 0
-  Below low = (j : ℕ) → j < low → keyOrder (f j) x ≡ 0
+  Below low = (j : ℕ) → j < low → label_order (f j) x ≡ 0
 
   abbrev Above : ℕ → Type 0
-  Above high = (j : ℕ) → high ≤ j → j < n → keyOrder (f j) x ≡ 2
+  Above high = (j : ℕ) → high ≤ j → j < n → label_order (f j) x ≡ 2
 
   -- one step of the search: the word in the middle stands before the label, or behind it
-  pub low_raised : (o low middle : ℕ) → middle < n → o ≡ keyOrder (f middle) x → Below low → Below (cond (eqb o 0) (middle + 1) low)
+  pub low_raised : (o low middle : ℕ) → middle < n → o ≡ label_order (f middle) x → Below low → Below (cond (eqb o 0) (middle + 1) low)
   low_raised o low middle h e b =
       by_case (eqb o 0)
       (λ z. rw z
@@ -104,11 +115,11 @@ module _ (f : ℕ → List ℕ) (n : ℕ) (up : Ascending f n) (x : List ℕ) wh
       (eq-or-lt_of_le (le_of_suc-le-suc (rw add-one at l)))))
       (λ z. rw z b)
 
-  pub high_lowered : (o high middle : ℕ) → middle < n → o ≡ keyOrder (f middle) x → (o ≡ 1 → ⊥) → o ≤ 2 → Above high → Above (cond (eqb o 0) high middle)
+  pub high_lowered : (o high middle : ℕ) → middle < n → o ≡ label_order (f middle) x → (o ≡ 1 → ⊥) → o ≤ 2 → Above high → Above (cond (eqb o 0) high middle)
   high_lowered o high middle h e other most a =
       by_case (eqb o 0)
       (λ z. rw z a)
-      (λ z. let two : keyOrder (f middle) x ≡ 2 = sym e ∙ behind o (eqb-false o 0 z) other most in
+      (λ z. let two : label_order (f middle) x ≡ 2 = sym e ∙ behind o (eqb-false o 0 z) other most in
       rw z
       (λ j l m. ⊎_elim
       (λ (q : middle ≡ j). rw q at two)
@@ -121,36 +132,16 @@ module _ (f : ℕ → List ℕ) (n : ℕ) (up : Ascending f n) (x : List ℕ) wh
       behind (suc (suc zero)) p q l = refl
       behind (suc (suc (suc o))) p q l = absurd (omega arith)
 
--- where the words and the label have keys
-module _ (f : ℕ → List ℕ) (n : ℕ) (good : (i : ℕ) → i < n → Keyed (f i)) (up : Ascending f n) (x : List ℕ) (wx : Keyed x) where
-  -- a word is found at one place alone
-  pub number_found : (i : ℕ) → i < n → keyOrder (f i) x ≡ 1 → word_number f n x ≡ suc i
-  number_found i h e =
-      let pos = number_there f n i x h (order-label (f i) x (good i h) wx e) in
-      let k = word_number f n x - 1 in
-      let z : word_number f n x ≡ suc k = omega arith in
-      let w = number_word f n k x z in
-      let same = same_left (f k) x w.1 (f i) ∙ same_sym x (f i) ∙ order-label (f i) x (good i h) wx e in
-      let one = label-order (f k) (f i) (good k w.0) (good i h) same in
-      let two = label-order (f i) (f k) (good i h) (good k w.0) (same_sym (f i) (f k) ∙ same) in
-      by_case (ltb k i)
-      (λ l. absurd (omega (arith, up k i (ltb-true k i l) h)))
-      (λ l. by_case (ltb i k) (λ m. absurd (omega (arith, up i k (ltb-true i k m) w.0))) (λ m. omega (arith, z, ltb-false k i l, ltb-false i k m)))
-
   -- a label between the words is none of them
-  pub number_missing : (i : ℕ) → Below f n up x i → Above f n up x i → word_number f n x ≡ 0
+  pub number_missing : (i : ℕ) → Below i → Above i → word_number f n x ≡ 0
   number_missing i b a =
       number-none f n x
       (λ j h. by_case (ltb j i)
-      (λ l. order_other (f j) x (good j h) wx (λ d. omega (arith, d, b j (ltb-true j i l))))
-      (λ l. order_other (f j) x (good j h) wx (λ d. omega (arith, d, a j (ltb-false j i l) h))))
+      (λ l. order_other (f j) x (λ d. omega (arith, d, b j (ltb-true j i l))))
+      (λ l. order_other (f j) x (λ d. omega (arith, d, a j (ltb-false j i l) h))))
 
-pub order_most : (x y : List ℕ) → lexOrder x y ≤ 2
+pub order_most : (x y : List ℕ) → byte_order x y ≤ 2
 order_most x y = omega (arith, order_flip y x)
-
--- words have keys
-pub words-keyed : (p ws : List ℕ) (n : ℕ) → Words p ws n → (i : ℕ) → i < n → Keyed (listed_word p ws i)
-words-keyed p ws n k i h = text-keyed p (get_or ws i 0) (k.texts i h)
 
 -- The places from k on moved up by one
 
@@ -206,9 +197,9 @@ module _ (p ws ws' : List ℕ) (n i at : ℕ) (k : Words p ws n) (room : n < 211
   word_high : (j : ℕ) → i ≤ j → j < n → listed_word p ws' (j + 1) ≡ listed_word p ws j
   word_high j h l = ap (λ (z : ℕ). label (rec_at p z)) (put.high j h l)
 
-  module _ (below : (j : ℕ) → j < i → keyOrder (listed_word p ws j) x ≡ 0) (above : (j : ℕ) → i ≤ j → j < n → keyOrder (listed_word p ws j) x ≡ 2) where
+  module _ (below : (j : ℕ) → j < i → label_order (listed_word p ws j) x ≡ 0) (above : (j : ℕ) → i ≤ j → j < n → label_order (listed_word p ws j) x ≡ 2) where
     abbrev up : ℕ → ℕ → Type 0
-    up a b = keyOrder (listed_word p ws' a) (listed_word p ws' b) ≡ 0
+    up a b = label_order (listed_word p ws' a) (listed_word p ws' b) ≡ 0
 
     sorted_more : (a b : ℕ) → a < b → b < n + 1 → up a b
     sorted_more a b h l =

@@ -1,8 +1,8 @@
+#![tactic(auto)]
 // The lower crate: labels, tables, paths, policies and rights (document 01). It knows nothing of commands.
 pub mod bytes;
 mod groups;
 pub mod isa;
-mod keys;
 pub mod labels;
 pub mod limits;
 pub mod marks;

@@ -5,20 +5,19 @@ ghost use Rattle.rights.specs.Table.{rec_at, record_at, records_from, records_ok
 ghost use Rattle.rights.specs.Labels.{same_label};
 ghost use Rattle.rights.specs.Policy.{some, uses};
 ghost use Rattle.rights.specs.PolicyBytes.{rule_count, step_of, stored_path};
-ghost use Rattle.rights.specs.How.Keys.{labelKey, key_of, lexOrder};
 ghost use Rattle.rights.specs.How.Places.{Text};
 ghost use Rattle.rights.specs.How.Roles.{Subjects, name_among};
 ghost use Rattle.rights.specs.How.Automaton.{Each, Sound};
-ghost use Rattle.rights.specs.How.Vocabulary.{listed_word, listed_number, named, Words, Stands, Inserted, Added, Sorted};
+ghost use Rattle.rights.specs.How.Vocabulary.{label_order, listed_word, listed_number, named, Words, Stands, Inserted, Added, Sorted};
 
 use crate::bytes::wide;
-use crate::keys::{BEFORE, EQUAL, Key, compare_keys, key_at};
+use crate::labels::{BEFORE, EQUAL, compare_labels};
 use crate::limits::{
     COUNT_BYTES, LABEL_AT, RECORD_BYTES, RULE_BYTES, RULES_AT, STEPS_AT, SUBJECTS_AT,
 };
 
 // Where a label stands among the words: at one that it is, or missing before one.
-#[derive(Drop)]
+#[derive(Clone, Copy)]
 pub enum Spot {
     Found(usize),
     Missing(usize),
@@ -31,13 +30,15 @@ fn wide_place(x: u32) -> usize
     x as usize
 }
 
-// How word i and a label with this key stand to each other.
-fn compare_word(policy: &[u8], words: &[u32], i: usize, key: Key) -> u8
-    requires { (i < length words.now) × Text policy.now (get_or words.now i 0) }
-    ensures { result ≡ lexOrder (labelKey (listed_word policy.now words.now i)) (key_of key) }
+// How word i and the label of the record at byte `at` of s stand to each other.
+fn compare_word(policy: &[u8], words: &[u32], i: usize, s: &[u8], at: usize) -> u8
+    requires { (i < length words.now) × Text policy.now (get_or words.now i 0) × Text s.now at }
+    ensures { result ≡ label_order (listed_word policy.now words.now i) (label (rec_at s.now at)) }
 {
     let word = wide_place(words[i]);
-    compare_keys(key_at(policy, word + LABEL_AT), key)
+    let m = wide(policy[word + 1]);
+    let n = wide(s[at + 1]);
+    compare_labels(policy, word + LABEL_AT, m, s, at + LABEL_AT, n)
 }
 
 // The lower end of what is left to search, where the word in the middle was found to stand so.
@@ -66,12 +67,11 @@ fn search(policy: &[u8], words: &[u32], n: usize, s: &[u8], at: usize) -> Spot
     requires { Words policy.now words.now n × Text s.now at }
     ensures { Stands (listed_word policy.now words.now) n (label (rec_at s.now at)) result }
 {
-    let key = key_at(s, at + LABEL_AT);
     let mut low = 0;
     let mut high = n;
     while low < high {
         let middle = low + (high - low) / 2;
-        let o = compare_word(policy, words, middle, key);
+        let o = compare_word(policy, words, middle, s, at);
         if o == EQUAL {
             return Spot::Found(middle);
         }

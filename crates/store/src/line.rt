@@ -1,5 +1,5 @@
 // One call for every line (document 01, "Lines" and "Who can be turned down").
-ghost use Rattle.std.specs.Prelude.{◌≡◌, true, suc, ◌*◌, ◌≤◌, ◌<◌, length, take, replicate};
+ghost use Rattle.std.specs.Prelude.{◌≡◌, true, cond, suc, ◌*◌, ◌≤◌, ◌<◌, leb, length, take, replicate};
 ghost use Rattle.rights.specs.Marks.{bit};
 ghost use Rattle.rights.specs.Record.{pasted};
 ghost use Rattle.forms.specs.Text.{line_ok};
@@ -26,7 +26,6 @@ use lines::refusals::{BAD_LINE, BAD_STORE, NO_FORM, WRONG_STAGE};
 use lines::session::{log_in, set_day};
 use lines::state::store_ok;
 use lines::tree_lines::{child, root};
-use rights::bytes::smaller;
 use rights::limits::RECORD_BYTES;
 use views::done::Change;
 use views::insert::Place;
@@ -72,6 +71,13 @@ fn accept_byte(accept: bool) -> u8
     ensures { result ≡ bit accept }
 {
     if accept { 1 } else { 0 }
+}
+
+// The smaller of two numbers.
+fn smaller(a: usize, b: usize) -> usize
+    ensures { (result ≡ cond (leb a b) a b) × (result ≤ b) }
+{
+    if a <= b { a } else { b }
 }
 
 // The bytes of the part that stands after place i, as far as the line goes.

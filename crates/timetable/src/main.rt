@@ -11,7 +11,6 @@ use forms::limits::LINE_MAX;
 use libc::{STDIN_FILENO, STDOUT_FILENO};
 use lines::line::Answer;
 use lines::refusals::BAD_LINE;
-use rights::bytes::smaller;
 use store::line::line;
 
 // A line of so many bytes stands for every longer one.
@@ -34,6 +33,12 @@ struct Progress {
 struct Turn {
     used: usize,
     got: usize,
+}
+
+fn least(a: usize, b: usize) -> usize
+    ensures { (result ≤ a) × (result ≤ b) }
+{
+    if a < b { a } else { b }
 }
 
 // Writes the first `held` bytes; whether standard output took them all.
@@ -192,7 +197,7 @@ fn read_once(part: &mut [u8]) -> usize
 fn read_chunk(chunk: &mut [u8], most: usize) -> usize
     ensures { (result ≤ most) × (result ≤ length chunk.new) }
 {
-    let n = smaller(most, chunk.len());
+    let n = least(most, chunk.len());
     read_once(&mut chunk[0..n])
 }
 

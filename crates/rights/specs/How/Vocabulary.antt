@@ -1,15 +1,25 @@
 -- How a label is found among the words of a policy: the words sorted, each once, and a label's number its word's place among them. proofs/VocabularyLaws.antt shows that
 -- a label has a word's number exactly if it is that word.
-use Rattle.std.specs.Prelude.{ℕ, zero, suc, ◌+◌, ◌≤◌, ◌<◌, Bool, true, false, cond, ◌||◌, ◌≡◌, List, [], ltb, length, get_or}
+use Rattle.std.specs.Prelude.{ℕ, zero, suc, ◌+◌, ◌≤◌, ◌<◌, Bool, true, false, cond, ◌||◌, ◌≡◌, List, [], ◌∷◌, ltb, length, get_or}
 use Rattle.rights.specs.declared.vocabulary.Spot.{Spot}
 use Rattle.rights.specs.declared.vocabulary.Spot.TheVariants.{Found, Missing}
-use Rattle.rights.specs.Labels.{same_label}
+use Rattle.rights.specs.Labels.{same_label, folded_label}
 use Rattle.rights.specs.Table.{rec_at, label}
 use Rattle.rights.specs.Policy.{Rule, some, uses, policy_word}
 use Rattle.rights.specs.PolicyBytes.{policy_of, rule_count, rules_from}
-use Rattle.rights.specs.How.Keys.{keyOrder}
 use Rattle.rights.specs.How.Places.{Text}
 use Rattle.rights.specs.How.Roles.{name_among}
+
+-- Which of two lists stands first, by the first place where they differ: 0 for the first list, 2 for the second, 1 where they are equal.
+unfoldable pub byte_order : List ℕ → List ℕ → ℕ
+byte_order [] [] = 1
+byte_order [] (y ∷ ys) = 0
+byte_order (x ∷ xs) [] = 2
+byte_order (x ∷ xs) (y ∷ ys) = cond (ltb x y) 0 (cond (ltb y x) 2 (byte_order xs ys))
+
+-- Labels are sorted by their length, and those of one length by what their bytes are compared by.
+abbrev pub label_order : List ℕ → List ℕ → ℕ
+label_order x y = byte_order (length x ∷ folded_label x) (length y ∷ folded_label y)
 
 -- word i, where ws are the places of the words' records in the policy
 abbrev pub listed_word : List ℕ → List ℕ → ℕ → List ℕ
@@ -23,18 +33,18 @@ word_number f (suc n) x = cond (same_label (f n) x) (suc n) (word_number f n x)
 abbrev pub listed_number : List ℕ → List ℕ → ℕ → List ℕ → ℕ
 listed_number p ws n x = word_number (listed_word p ws) n x
 
--- n words, sorted by their keys and each once
+-- n words, sorted and each once
 pub record Words (p ws : List ℕ) (n : ℕ) : Type 0 where
   pub long : length ws ≡ 2112
   pub few : n ≤ 2112
   pub texts : (i : ℕ) → i < n → Text p (get_or ws i 0)
-  pub sorted : (i j : ℕ) → i < j → j < n → keyOrder (listed_word p ws i) (listed_word p ws j) ≡ 0
+  pub sorted : (i j : ℕ) → i < j → j < n → label_order (listed_word p ws i) (listed_word p ws j) ≡ 0
 
 -- where a label stands among n sorted words: at one that it is, or between those before it and those behind it
 abbrev pub Stands : (ℕ → List ℕ) → ℕ → List ℕ → Spot → Type 0
-Stands f n x (Found i) = (i < n) × (keyOrder (f i) x ≡ 1)
+Stands f n x (Found i) = (i < n) × (label_order (f i) x ≡ 1)
 Stands f n x (Missing i) =
-    (i ≤ n) × ((j : ℕ) → j < i → keyOrder (f j) x ≡ 0) × ((j : ℕ) → i ≤ j → j < n → keyOrder (f j) x ≡ 2)
+    (i ≤ n) × ((j : ℕ) → j < i → label_order (f j) x ≡ 0) × ((j : ℕ) → i ≤ j → j < n → label_order (f j) x ≡ 2)
 
 -- one place more among n, at place i; those behind it move up
 pub record Inserted (ws ws' : List ℕ) (n i at : ℕ) : Type 0 where

@@ -3,8 +3,8 @@ use native.Mathlib.Omega.{arith}
 use borrow.Author.Rules.{rules}
 use Rattle.rights.specs.Table.{rec_at, label}
 use Rattle.rights.specs.How.Vocabulary.{listed_word, Stands}
-use Rattle.rights.proofs.KeyLaws.{order-label, text-keyed}
-use Rattle.rights.proofs.VocabularyLaws.{added_old, added_new, words-keyed}
+use Rattle.rights.proofs.LabelLaws.{order_same}
+use Rattle.rights.proofs.VocabularyLaws.{added_old, added_new}
 use Rattle.rights.proofs.vocabulary.add_word.Statement.{statement}
 use Rattle.rights.proofs.vocabulary.add_word.Tie as tie
 
@@ -20,7 +20,7 @@ returns c =
     let p = a.policy.now in
     let x = label (rec_at p a.at) in
     let s = subst (Stands (listed_word p a.words.now) a.n x) c.enum_told.given.1 at-search.search.ensures in
-    (added_old p a.words.now a.n _ x g.0 s.0 (order-label _ x (words-keyed _ _ _ g.0 _ s.0) (text-keyed _ _ g.2) s.1), omega arith)
+    (added_old p a.words.now a.n _ x g.0 s.0 (order_same _ x s.1), omega arith)
 
 insert-word-requires : tie.Need-insert-word-requires
 insert-word-requires c κs =

@@ -5,8 +5,7 @@ use native.Mathlib.Omega.{arith}
 use borrow.Author.Rules.{rules}
 use Rattle.rights.specs.How.Vocabulary.{Stands, listed_word}
 use Rattle.rights.specs.Table.{rec_at, label}
-use Rattle.rights.proofs.KeyLaws.{text-keyed}
-use Rattle.rights.proofs.VocabularyLaws.{number_found, number_missing, words-keyed}
+use Rattle.rights.proofs.VocabularyLaws.{number_found, number_missing}
 use Rattle.rights.proofs.vocabulary.number_of.Statement.{statement}
 use Rattle.rights.proofs.vocabulary.number_of.Tie as tie
 
@@ -22,7 +21,7 @@ returns c =
     let f = listed_word a.policy.now a.words.now in
     let x = label (rec_at a.s.now a.at) in
     let s = subst (Stands f a.n x) c.enum_told.given.1 at-search.search.ensures in
-    (sym (number_missing f a.n (words-keyed _ _ _ g.0) g.0.sorted x (text-keyed _ _ g.1) _ s.1 s.2), omega arith)
+    (sym (number_missing f a.n g.0.sorted x _ s.1 s.2), omega arith)
 
 add-result : tie.Need-overflow-add-result
 add-result c =
@@ -40,7 +39,7 @@ returns-2 c =
     let f = listed_word a.policy.now a.words.now in
     let x = label (rec_at a.s.now a.at) in
     let s = subst (Stands f a.n x) at_i.i.given.1 at-search.search.ensures in
-    (add-one _ ∙ sym (number_found f a.n (words-keyed _ _ _ g.0) g.0.sorted x (text-keyed _ _ g.1) _ s.0 s.1), omega (arith, s.0))
+    (add-one _ ∙ sym (number_found f a.n g.0.sorted x _ s.0 s.1), omega (arith, s.0))
 
 pub number-of-spec : {M : Type 1} → statement M
 number-of-spec =

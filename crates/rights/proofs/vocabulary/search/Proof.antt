@@ -1,29 +1,26 @@
 -- The words before `low` stand before the label, and those from `high` on behind it.
 use Prim.Native.Nat.{ℕ, ◌+◌, ◌-◌, ◌/◌, ◌≤◌, ◌<◌}
-use mathlib.Core.Path.{◌≡◌, sym, ap, ◌∙◌}
+use mathlib.Core.Path.{◌≡◌, sym, ◌∙◌}
 use native.Mathlib.Omega.{arith}
-use borrow.Author.Rules.{rules}
 use Rattle.rights.specs.Table.{rec_at, label}
-use Rattle.rights.specs.How.Keys.{labelKey, lexOrder, keyOrder}
-use Rattle.rights.specs.How.Vocabulary.{listed_word}
-use Rattle.rights.proofs.KeyLaws.{text-key}
+use Rattle.rights.specs.How.Vocabulary.{label_order, listed_word}
 use Rattle.rights.proofs.VocabularyLaws.{low_raised, high_lowered, order_most, halved}
 use Rattle.rights.proofs.vocabulary.search.Statement.{statement}
 use Rattle.rights.proofs.vocabulary.search.Tie as tie
 
 abbrev invariant-loop : tie.invariant-loop
-invariant-loop policy words n s at key low₀ high₀ low high =
+invariant-loop policy words n s at low₀ high₀ low high =
     (low ≤ high)
     × (high ≤ n)
-    × ((j : ℕ) → j < low → keyOrder (listed_word policy words j) (label (rec_at s at)) ≡ 0)
-    × ((j : ℕ) → high ≤ j → j < n → keyOrder (listed_word policy words j) (label (rec_at s at)) ≡ 2)
+    × ((j : ℕ) → j < low → label_order (listed_word policy words j) (label (rec_at s at)) ≡ 0)
+    × ((j : ℕ) → high ≤ j → j < n → label_order (listed_word policy words j) (label (rec_at s at)) ≡ 2)
 
 abbrev decreases-loop : tie.decreases-loop
-decreases-loop policy words n s at key low₀ high₀ low high = high - low
+decreases-loop policy words n s at low₀ high₀ low high = high - low
 
 -- the places further back that answers read
 abbrev to_start : tie.At-loop invariant-loop decreases-loop → tie.Start invariant-loop decreases-loop
-to_start c = c.before.before.before.before.before
+to_start c = c.before.before.before.before
 
 loop-holds : tie.Need-loop-init invariant-loop decreases-loop
 loop-holds c = (omega arith, omega arith, (λ j h. absurd (omega arith)), λ j h l. absurd (omega arith))
@@ -38,17 +35,11 @@ compare-word-requires c κs =
     let at-loop = c.before in let start = to_start at-loop in
     let g = start.pre in
     let l = at-loop.loop in
-    (omega (arith, g.0.few, g.0.long), g.0.texts (l.low + (l.high - l.low) / 2) (omega arith))
+    (omega (arith, g.0.few, g.0.long), g.0.texts (l.low + (l.high - l.low) / 2) (omega arith), g.1)
 
 returns : tie.Need-returns invariant-loop decreases-loop
 returns c =
-    let at-compare-word = c.before in let at-loop = at-compare-word.before.before in let start = to_start at-loop in
-    let a = start.args in
-    let l = at-loop.loop in
-    let f = listed_word a.policy.now a.words.now in
-    let key = at-loop.before.key-at.ensures ∙ text-key a.s.now a.at start.pre.1 in
-    let e = at-compare-word.compare-word.ensures ∙ ap (lexOrder (labelKey (f (l.low + (l.high - l.low) / 2)))) key in
-    (omega arith, sym e ∙ c.if1.true)
+    (omega arith, sym c.before.compare-word.ensures ∙ c.if1.true)
 
 raised-requires : tie.Need-raised-requires invariant-loop decreases-loop
 raised-requires c κs =
@@ -71,9 +62,8 @@ loop-again c =
     let f = listed_word a.policy.now a.words.now in
     let x = label (rec_at a.s.now a.at) in
     let o = at-compare-word.compare-word.result in
+    let e = at-compare-word.compare-word.ensures in
     let middle = l.low + (l.high - l.low) / 2 in
-    let key = at-loop.before.key-at.ensures ∙ text-key a.s.now a.at g.1 in
-    let e : o ≡ keyOrder (f middle) x = at-compare-word.compare-word.ensures ∙ ap (lexOrder (labelKey (f middle))) key in
     let half = halved o l.low l.high _ _ (omega arith) at-raised.raised.ensures c.lowered.ensures in (
       half.0,
       omega (arith, half.2),
@@ -90,5 +80,5 @@ returns-2 c =
 pub search-spec : {M : Type 1} → statement M
 search-spec =
     tie.close
-    (tie.spec invariant-loop decreases-loop (λ c. search rules) (λ c κs. search rules) loop-holds (λ c. omega arith) add-middle compare-word-requires returns raised-requires
+    (tie.spec invariant-loop decreases-loop loop-holds (λ c. omega arith) add-middle compare-word-requires returns raised-requires
     (λ c κs. tt) loop-less loop-again returns-2)
