@@ -1,3 +1,4 @@
+#![tactic(auto)]
 // Runs cases of the lower crate from standard input, a line each, and prints an answer for each line that asks. Numbers and bytes are hexadecimal.
 //   p PATH     whether a path is well formed
 //   t BYTES    puts these bytes as the table, and says whether they are one

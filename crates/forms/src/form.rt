@@ -8,7 +8,7 @@ use crate::reader::{beginning, walk};
 
 // What a line says: its word and stage, the places after the word and after each part, and what each part says: 1 for accept, a right's bit, a day's number,
 // how many nodes a tree has. A tree's nodes stand in the lent area. The word of what is no form (refusal 2) is `Other`.
-#[derive(Drop)]
+#[derive(Clone, Copy)]
 pub struct Form {
     pub word: Word,
     pub stage: u8,

@@ -5,7 +5,7 @@ ghost use Rattle.forms.specs.Layout.{words};
 use crate::kind::{DAY, END, LABEL, PATH, RIGHT, SIGN, TREE};
 use crate::limits::{NO_STAGE, STAGE_A, STAGE_B, STAGE_C, STAGE_D, STAGE_E};
 
-#[derive(Drop)]
+#[derive(Clone, Copy)]
 pub enum Word {
     Subject,
     Isa,
@@ -29,7 +29,7 @@ pub enum Word {
 }
 
 // A form's word, its stage, and the kinds of its parts in order.
-#[derive(Drop)]
+#[derive(Clone, Copy)]
 pub struct Layout {
     pub word: Word,
     pub stage: u8,

@@ -1,3 +1,4 @@
+#![tactic(auto)]
 // Forms (document 01, "Lines"): the bytes of a line, its word and its parts, trees, and what the line says.
 pub mod form;
 pub mod kind;

@@ -9,7 +9,7 @@ use rights::path::{Read, label_end};
 
 // The place after a part, and what the form holds of it besides its place: a sign's number, a right's bit, a day's number, how many nodes a tree has,
 // 0 for a label or a path.
-#[derive(Drop)]
+#[derive(Clone, Copy)]
 pub struct PartRead {
     pub end: Read,
     pub says: usize,

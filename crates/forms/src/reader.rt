@@ -12,7 +12,7 @@ use rights::path::Read;
 
 // How far reading came: the reader's place, whether all was there so far, the form's word with the kinds of its parts, the places after the word and after
 // each part, and what each part says.
-#[derive(Drop)]
+#[derive(Clone, Copy)]
 pub struct Progress {
     pub at: usize,
     pub good: bool,
@@ -21,7 +21,7 @@ pub struct Progress {
     pub says: [usize; 4],
 }
 
-#[derive(Drop)]
+#[derive(Clone, Copy)]
 pub struct LineReader<'a> {
     line: &'a [u8],
     progress: Progress,

@@ -11,7 +11,7 @@ use rights::labels::label_byte;
 use rights::path::label_end;
 
 // The place after a run of label bytes, and the number of the word that they write.
-#[derive(Drop)]
+#[derive(Clone, Copy)]
 pub struct Run {
     pub end: usize,
     pub number: u64,

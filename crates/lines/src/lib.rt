@@ -1,3 +1,4 @@
+#![tactic(auto)]
 // Lines (document 01): the state, stages and refusals, and the work of every form.
 pub mod changes;
 pub mod limits;

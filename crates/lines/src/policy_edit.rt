@@ -17,7 +17,7 @@ use rights::policy::is_name;
 use rights::record::put_name;
 
 // A subject's number, or none of that name.
-#[derive(Drop)]
+#[derive(Clone, Copy)]
 pub enum Found {
     Subject(usize),
     Unknown,

@@ -29,14 +29,14 @@ use rights::selection::select;
 use views::shown::show;
 
 // What is printed of a view.
-#[derive(Drop)]
+#[derive(Clone, Copy)]
 enum Look {
     View,
     Sheet,
 }
 
 // What is asked of a path.
-#[derive(Drop)]
+#[derive(Clone, Copy)]
 pub enum Ask {
     Query,
     Find,
@@ -65,7 +65,7 @@ pub(crate) fn path_refusal(state: &[u8], path: &[u8]) -> u8
 }
 
 // What is worked out of a user: the subjects for which `$` stands, in the first `own` places of `subjects`, and how many nodes are shown.
-#[derive(Drop)]
+#[derive(Clone, Copy)]
 struct Seen {
     subjects: [u8; 64],
     own: usize,

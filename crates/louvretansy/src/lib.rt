@@ -1,3 +1,4 @@
+#![tactic(auto)]
 // The library for C and Rust: one call for every line, one that loads the solver's file, and the size of a state. Each slice is lent as a pointer and a length;
 // include/timetable.h tells callers.
 ghost use Rattle.std.specs.Prelude.{◌≡◌, pos, neg_ℤ, length};

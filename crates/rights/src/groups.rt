@@ -91,7 +91,7 @@ fn note_names(policy: &[u8], own: &[u8], words: &[u32], n: usize, bits: u64, row
 }
 
 // Steps in numbers: those that go to all descendants, those that all labels pass, and those that are `$`.
-#[derive(Drop)]
+#[derive(Clone, Copy)]
 struct Marks {
     deep: u64,
     every: u64,
@@ -211,7 +211,7 @@ fn group_end(policy: &[u8], roles: &[u8; 64], right: u8, from: usize, count: usi
 }
 
 // Rules in numbers: their steps' marks, the first states, the ends of the rules that accept and of those that deny, and the bits in use.
-#[derive(Drop)]
+#[derive(Clone, Copy)]
 struct Group {
     deep: u64,
     every: u64,

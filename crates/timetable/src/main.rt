@@ -1,3 +1,4 @@
+#![tactic(auto)]
 // The program (document 01, "Lines", "What is written"): reads lines from standard input, and writes the answer to each to standard output, or `(refused N)`.
 // It ends at the end of the input, at its limit, and where standard input or standard output is closed or fails.
 ghost use Rattle.std.specs.Prelude.{◌≡◌, ◌≤◌, true, cond, [], ◌⊎◌, leb, length, take};
@@ -21,7 +22,7 @@ const INPUT_MAX: usize = 4_294_967_295;
 const AREA_BYTES: usize = 65536;
 
 // The bytes that the line has so far, TOO_LONG where they are too many; the answers' bytes that wait to be written; whether standard output takes bytes.
-#[derive(Drop)]
+#[derive(Clone, Copy)]
 struct Progress {
     used: usize,
     held: usize,
@@ -29,7 +30,7 @@ struct Progress {
 }
 
 // The bytes that the line has after a read, and the bytes that were read: 0 at the end.
-#[derive(Drop)]
+#[derive(Clone, Copy)]
 struct Turn {
     used: usize,
     got: usize,

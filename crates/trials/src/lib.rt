@@ -1,3 +1,4 @@
+#![tactic(auto)]
 // The lower crate for callers that have checked nothing: C programs, tests and benches. Each function checks all that it is lent first, and answers a
 // number: what was asked, or -1 where the bytes are no table or no policy, the subject is not declared or an area is too short.
 ghost use Rattle.std.specs.Prelude.{◌≡◌};

@@ -20,7 +20,7 @@ use rights::table::count_of;
 const LAST_SLOT: usize = 15;
 
 // The seven changes.
-#[derive(Drop)]
+#[derive(Clone, Copy)]
 pub enum Change {
     Rename,
     Update,

@@ -15,7 +15,7 @@ use rights::marks::count_marks;
 use rights::table::{capacity_of, count_of, put_count};
 
 // Where the tree goes: as the last child of a node, directly behind the node and all below it, directly in front of it.
-#[derive(Drop)]
+#[derive(Clone, Copy)]
 pub enum Place {
     Append,
     After,
@@ -74,7 +74,7 @@ fn is_due(st: &[u8], d: usize, l: u8) -> bool
 }
 
 // Where a pass is: the next record to be taken, the place of the next to be written, and how many levels wait.
-#[derive(Drop)]
+#[derive(Clone, Copy)]
 struct At {
     i: usize,
     w: usize,
@@ -234,10 +234,10 @@ fn step_front(
     requires fixed { Fixed n gap m t.old marks.now tree.now }
     requires i_lt_n { (i < n) × (AtDone (λ r. Shallow 0 m tree.now (level r)) (marks_of (drop i marks.now)) (rest n gap i t.old))
         × (length (passing_front n gap m tree.now marks.now i w t.old) ≡ n + gap) }
-    ensures* { λ r. ⌜ (AtDone (λ r. Shallow 0 m tree.now (level r)) (marks_of (drop (i + 1) marks.now))
+    ensures { (AtDone (λ r. Shallow 0 m tree.now (level r)) (marks_of (drop (i + 1) marks.now))
         (rest n gap (i + 1) t.new))
-        × (passing_front n gap m tree.now marks.now (i + 1) r t.new ≡ passing_front n gap m tree.now
-        marks.now i w t.old) ⌝ }
+        × (passing_front n gap m tree.now marks.now (i + 1) result t.new ≡ passing_front n gap m tree.now
+        marks.now i w t.old) }
 {
     let at = COUNT_BYTES + (gap + i) * RECORD_BYTES;
     let l = t[at];

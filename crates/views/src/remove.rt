@@ -14,7 +14,7 @@ use rights::table::{count_of, put_count};
 const NO_CUT: u8 = 12;
 
 // How many records stay so far, and the level of the record whose descendants are being left out, or NO_CUT.
-#[derive(Drop)]
+#[derive(Clone, Copy)]
 struct Kept {
     w: usize,
     cut: u8,

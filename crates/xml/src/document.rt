@@ -15,28 +15,28 @@ use rights::labels::{is_restricted, label_byte};
 const WINDOW: usize = 16384;
 
 // How many nodes there are, the deepest level, and whether some label is RESTRICTED.
-#[derive(Drop)]
+#[derive(Clone, Copy)]
 pub struct Tally {
     pub nodes: usize,
     pub deepest: usize,
     pub restricted: bool,
 }
 
-#[derive(Drop)]
+#[derive(Clone, Copy)]
 pub enum Kind {
     NoDocument,
     Document(Tally),
 }
 
 // How far a pass has come: the place, how many elements are open there, and the nodes so far.
-#[derive(Drop)]
+#[derive(Clone, Copy)]
 pub(crate) struct Pass {
     pub at: usize,
     pub depth: usize,
     pub tally: Tally,
 }
 
-#[derive(Drop)]
+#[derive(Clone, Copy)]
 pub(crate) enum Step {
     On(Pass),
     Done(Kind),

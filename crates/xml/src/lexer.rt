@@ -9,7 +9,7 @@ use forms::part::label_part_end;
 use rights::path::{Read, byte_is};
 
 // A token: where its name or text begins and ends, and the place after the token. `</a>` is Closes, `<a/>` is Empty.
-#[derive(Drop)]
+#[derive(Clone, Copy)]
 pub(crate) enum Lexeme {
     Opens(usize, usize, usize),
     Closes(usize, usize, usize),

@@ -13,14 +13,14 @@ use rights::record::put_node;
 use rights::table::put_count;
 
 // How far the pass has come: the place, how many elements are open there, and how many records stand.
-#[derive(Drop)]
+#[derive(Clone, Copy)]
 pub(crate) struct Cursor {
     pub at: usize,
     pub depth: usize,
     pub nodes: usize,
 }
 
-#[derive(Drop)]
+#[derive(Clone, Copy)]
 pub(crate) enum Next {
     On(Cursor),
     Over,
