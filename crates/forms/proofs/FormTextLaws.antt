@@ -24,7 +24,7 @@ use Rattle.rights.proofs.RangeLaws.{on_range, beq_eq, lt_or_ge}
 use Rattle.forms.specs.Text.{line_byte}
 use Rattle.forms.specs.Part.{path_byte, label_end, day_digits, day_end, day_at, run_end, known_end}
 use Rattle.forms.specs.Kind.{Kind, Label, Path, Tree, Sign, Right as RightKind, Day, is_tree, part_end}
-use Rattle.forms.specs.Tree.{◌andThen◌}
+use Rattle.forms.specs.Tree.{◌and_then◌}
 use Rattle.forms.specs.Layout.{no_stage, stage_of, letters, shape_of, form_words, words, word_at}
 use Rattle.forms.specs.Form.{one_part, Places, are, none, ◌onTo◌, closes_line, parts_of, place_in, ReadForm, no_form, form_at, ends_in, read_form}
 use Rattle.forms.specs.Command.{Value, Values, Command, command, write_right, write_value, write_values, written, run_byte, GoodDay, GoodValue, GoodValues, GoodCommand}

@@ -19,7 +19,7 @@ use Rattle.rights.specs.declared.path.Read.TheVariants.{At, Bad}
 use Rattle.rights.proofs.PathTexts.{cond_elim, Reads, reads_more, reads_byte, reads_take, run-all, run_length, run_over, byte_here}
 use Rattle.forms.specs.Part.{short_end, label_end}
 use Rattle.rights.specs.Nodes.{Node, node}
-use Rattle.forms.specs.Tree.{◌andThen◌, open_end, tail_end, tail_nodes, tree_end, tree_nodes}
+use Rattle.forms.specs.Tree.{◌and_then◌, open_end, tail_end, tail_nodes, tree_end, tree_nodes}
 use Rattle.rights.specs.Tree.{Tree, tree, Trees, none, more, write_tree, write_trees, nodes_of, nodes_in}
 use Rattle.forms.specs.TreeText.{Short, GoodLabel, GoodTree, GoodTrees}
 use Rattle.forms.proofs.PartLaws.{short_is}

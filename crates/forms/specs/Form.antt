@@ -11,7 +11,7 @@ use Rattle.forms.specs.Word.{sign_at, right_at}
 use Rattle.forms.specs.Layout.{shape_of, word_at}
 use Rattle.forms.specs.Part.{run_end, day_at}
 use Rattle.forms.specs.Kind.{Kind, Label, Path, Tree, Sign, Right, Day, part_end}
-use Rattle.forms.specs.Tree.{◌andThen◌, tree_nodes}
+use Rattle.forms.specs.Tree.{◌and_then◌, tree_nodes}
 
 -- "Parts are parted by one space": a space and a part
 abbrev pub one_part : Kind → List ℕ → ℕ → Read

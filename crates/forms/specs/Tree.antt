@@ -8,11 +8,11 @@ use Rattle.rights.specs.declared.path.Read.TheVariants.{At, Bad}
 use Rattle.forms.specs.Part.{label_end}
 
 -- goes on at the place after what was read
-abbrev pub ◌andThen◌ : {A : Type 0} → Read → A × (ℕ → A) → A
-◌andThen◌ (At i) f = f.1 i
-◌andThen◌ Bad f = f.0
+abbrev pub ◌and_then◌ : {A : Type 0} → Read → A × (ℕ → A) → A
+◌and_then◌ (At i) f = f.1 i
+◌and_then◌ Bad f = f.0
 
-infixr 20 ◌andThen◌
+infixr 20 ◌and_then◌
 -- `(` and a label
 unfoldable pub open_end : List ℕ → ℕ → Read
 open_end s at = cond (eqb (byte_at s at) 40) (label_end s (at + 1)) Bad

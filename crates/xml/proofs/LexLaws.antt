@@ -18,7 +18,7 @@ use Rattle.rights.proofs.ListLaws.{by_case}
 use Rattle.rights.proofs.PathTexts.{and_left, and_right, cond_elim, Reads, reads_byte, reads_take, run-all, run_length, run_over, byte_after, byte_here}
 use Rattle.rights.proofs.TextLaws.{drop-take}
 use Rattle.forms.specs.Part.{label_end}
-use Rattle.forms.specs.Tree.{◌andThen◌}
+use Rattle.forms.specs.Tree.{◌and_then◌}
 use Rattle.forms.specs.TreeText.{GoodLabel}
 use Rattle.forms.proofs.TreeTextLaws.{drop_over, label_reads}
 use Rattle.xml.specs.Document.{blank_byte, name_start, Blanks, GoodName}

@@ -13,7 +13,7 @@ use Rattle.forms.specs.declared.form.Form.{Form}
 use Rattle.forms.specs.Part.{run_end}
 use Rattle.forms.specs.Kind.{Kind, code_of, part_end}
 use Rattle.forms.specs.Layout.{stage_of, shape_of, word_at}
-use Rattle.forms.specs.Tree.{◌andThen◌, tree_end, tree_nodes, tail_end, tail_nodes, records_of}
+use Rattle.forms.specs.Tree.{◌and_then◌, tree_end, tree_nodes, tail_end, tail_nodes, records_of}
 use Rattle.forms.specs.Form.{Places, place_in, are, none, ◌onTo◌, parts_of, closes_line, ends_in, form_at, read_form}
 use Rattle.forms.specs.How.Codes.{LaidOut, codes_of, end_by, says_by, area_by}
 

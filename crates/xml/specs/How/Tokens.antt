@@ -3,7 +3,7 @@ use Rattle.std.specs.Prelude.{ℕ, zero, suc, ◌+◌, ◌-◌, Bool, true, fals
 use Rattle.rights.specs.Bytes.{run, byte_at}
 use Rattle.rights.specs.Nodes.{Node, node}
 use Rattle.forms.specs.Part.{label_end}
-use Rattle.forms.specs.Tree.{◌andThen◌}
+use Rattle.forms.specs.Tree.{◌and_then◌}
 use Rattle.xml.specs.Document.{blank_byte, name_start}
 
 -- `<a>`, `</a>`, `<a/>`, and a text that holds a label
