@@ -352,12 +352,13 @@ fn run<R: Read, W: Write>(
         → AnswersWhole (R.remaining input.old) (W.contents output.old) (W.contents output.new) }
 {
     let last = read_lines(input, output, state, table, buffer, out, chunk);
-    if 0 < last.used {
-        let held = hold_answer(state, table, &buffer[..], last.used, out, 0);
-        let open = write_held(output, &out[..], held);
+    let used = last.used;
+    if 0 < used {
+        let held = hold_answer(state, table, &buffer[..], used, out, 0);
+        let wrote = write_held(output, &out[..], held);
         return Finish {
             heard: last.heard,
-            open,
+            open: wrote,
         };
     }
     Finish {

@@ -4,11 +4,11 @@ use Rattle.timetable.proofs.ByteLaws.{put_alone, line_new}
 use Rattle.timetable.proofs.StreamLaws.{last_put, last_written, none_written, answers_read, answers_whole}
 use Rattle.timetable.proofs.run.Goals as goal
 
-pub returns-then-last-gt0 : goal.returns-then-last-gt0
-returns-then-last-gt0 g c =
+pub returns-then-used-gt0 : goal.returns-then-used-gt0
+returns-then-used-gt0 g c =
     let n = c.read_lines-last.new in let used = c.read_lines-last.result.used in
     let r = c.read_lines-last.ensures.bytes in
-    let w = last_written r c.if-last-gt0.true (last_put n.state n.table n.buffer n.out used _ c.if-last-gt0.true c.hold_answer-held.ensures) c.write_held-open.ensures in
+    let w = last_written r c.if-used-gt0.true (last_put n.state n.table n.buffer n.out used _ c.if-used-gt0.true c.hold_answer-held.ensures) c.write_held-wrote.ensures in
     record {
       run = record {
         used = used;
@@ -24,7 +24,7 @@ pub returns : goal.returns
 returns g c =
     let n = c.read_lines-last.new in let used = c.read_lines-last.result.used in
     let r = c.read_lines-last.ensures.bytes in
-    let z : used ≡ 0 = omega (arith, c.if-last-gt0.false) in
+    let z : used ≡ 0 = omega (arith, c.if-used-gt0.false) in
     let w = none_written r (line_new n.buffer used z) in
     record {
       run = record {
