@@ -1,5 +1,5 @@
 #!/usr/bin/env python3
-"""program.py [PROGRAM]: tests of the program `timetable` by its input and output. The default is the program that `rt check timetable`
+"""program.py [PROGRAM]: tests of the program `timetable` by its input and output. The default is the program that `python3 tests/build.py program`
 builds. Every expected answer is worked out here, from documents 01 and 02.
 """
 

@@ -171,7 +171,7 @@ if not stages or set(stages) != set(staged) or set(stages) != set(told):
     wrong.append("docs/MODEL.md: other forms than `layout` has")
 
 # The picture of the crates has each of them, and its arrows lead, in one step or more, to all that each rests on and to nothing else.
-rests = {name: [one for one in names.split() if one in crates] for name, names in re.findall(r"(?m)^(\w+):(.*)$", open("crates.txt").read())}
+rests = {name: [one for one in names.split() if one in crates] for name, names in re.findall(r"(?m)^(\w+)(?: staticlib)?:(.*)$", open("crates.txt").read())}
 picture = open("docs/house.svg").read()
 drawn = re.findall(r'font-weight="bold">([^<]+)<', picture)
 arrows = re.findall(r'data-from="(\w+)" data-to="(\w+)"', picture)
