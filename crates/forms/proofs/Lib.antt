@@ -3,7 +3,6 @@ pub mod PartLaws
 pub mod TreeLaws
 pub mod FormLaws
 pub mod ReaderLaws
-pub mod Lent
 pub mod TreeTextLaws
 pub mod FormTextLaws
 pub mod CommandLaws

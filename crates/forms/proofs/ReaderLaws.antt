@@ -2,13 +2,12 @@
 use Prim.Native.Nat.{ℕ, suc, ◌+◌, ◌-◌, ◌*◌, ◌≤◌}
 use mathlib.Core.Path.{◌≡◌, refl, sym, ◌∙◌}
 use mathlib.Core.Bool.{true, false}
-use mathlib.Core.List.{List, []}
+use mathlib.Core.List.{List}
 use native.Mathlib.Omega.{arith}
-use lib.ListN.{length, drop}
+use lib.ListN.{length}
 use borrow.Author.Tests.{ne_eqb}
 use Rattle.rights.proofs.ListLaws.{by_case}
 use Rattle.forms.specs.declared.reader.Progress.{Progress}
-use Rattle.forms.specs.Layout.{shape_of}
 use Rattle.forms.specs.Form.{closes_line}
 use Rattle.forms.specs.How.Reader.{Going, Came, Reading, Begun, Moves, Takes, area_after, area_in, area_from, area_left, shut_at, stopped_at}
 use Rattle.forms.proofs.FormLaws.{none_came, line_closed, line_unclosed, area_four}

@@ -12,7 +12,7 @@ use Rattle.rights.proofs.RangeLaws.{flat, beq_eq, on_range}
 use Rattle.answers.specs.How.AnswerArea.{Answered, written}
 use Rattle.lines.specs.Outcome.{Outcome, says, refusal, Made}
 use Rattle.lines.specs.Refusal.{Check, order, rank, index_in, area_short, area_check, checked, first_refusal, Passed, all_numbered}
-use Rattle.lines.specs.Effect.{Work, state_after, table_after, guarded, checks_in, performed, Performs}
+use Rattle.lines.specs.Effect.{Work, state_after, table_after, guarded, performed, Performs}
 use Rattle.lines.specs.declared.line.Answer.TheVariants.{Accepted, Refused}
 use Rattle.lines.proofs.OutcomeLaws.{made_at}
 

@@ -10,7 +10,7 @@ use Rattle.rights.specs.Marks.{mark_count, keep}
 use Rattle.rights.specs.Policy.{read, update}
 use Rattle.rights.specs.Rights.{holds}
 use Rattle.rights.specs.Table.{record_at, level, records, count, table_ok}
-use Rattle.views.specs.Shown.{Stored, stored_from, stored, stored_level, showable, shown_after, shown}
+use Rattle.views.specs.Shown.{Stored, stored_from, stored, stored_level, showable, is_shown, shown_after, shown}
 use Rattle.views.specs.Nodes.{All}
 use Rattle.views.specs.How.Numbers.{shown_number, shown_numbers, is_next, shown_by_numbers, by_numbers}
 use Rattle.views.specs.Done.{does, asked_of, done_marks, in_table}
@@ -122,7 +122,9 @@ shown-length : (before : List (ℕ × Bool)) (day i : ℕ) (rs : List (List ℕ)
 unfolding shown_after stored_from
 shown-length before day i [] ss h = refl
 shown-length before day i (r ∷ rs) [] h = absurd (omega arith)
-shown-length before day i (r ∷ rs) (s ∷ ss) h = ap suc (shown-length _ day (suc i) rs ss (omega arith))
+shown-length before day i (r ∷ rs) (s ∷ ss) h =
+    let x : Stored = record { number = i; bytes = r; rights = s; day = day } in
+    ap suc (shown-length ((stored_level x, is_shown stored_level showable before x) ∷ before) day (suc i) rs ss (omega arith))
 
 -- The numbers of the shown nodes say which records are shown, and the marks of the shown nodes are at the places of their records.
 module _ (day : ℕ) (t ss : List ℕ) (ok : table_ok t ≡ true) (h : count t ≤ length ss) where

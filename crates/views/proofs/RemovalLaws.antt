@@ -23,7 +23,7 @@ module _ {E : Type 0} (lev : E → ℕ) where
   drop_twice b l (x ∷ u) = by_case (ltb l (lev x))
       (λ e. let k : l < lev x = ltb-true _ _ e in rw (e, lt-ltb (min b l) (lev x) (omega arith)) (drop_twice b l u))
       (λ e. let k : lev x ≤ l = ltb-false _ _ e in by_case (ltb b (lev x))
-      (λ q. let m : b < lev x = ltb-true _ _ q in let z : min b l ≡ b = omega arith in rw (e, q, z, q))
+      (λ q. let m : b < lev x = ltb-true _ _ q in let z : min b l ≡ b = omega arith in rw (e, q, lt-ltb (min b l) (lev x) (omega arith)) (ap (λ (k : ℕ). drop_below lev k u) (sym z)))
       (λ q. let m : lev x ≤ b = ltb-false _ _ q in rw (e, q, le-ltb (min b l) (lev x) (omega arith))))
 
   -- nothing is deeper than all

@@ -68,16 +68,16 @@ module _ {E : Type 0} (lev : E → ℕ) (gr : E → Bool) where
   dark_below l before (x ∷ xs) (suc i) d e =
       let f = both (ltb l (lev x)) (is_below lev l xs i) e in
       let hidden : is_shown lev gr before x ≡ false = rw (d (lev x) (ltb-true l (lev x) f.0)) (and-false (gr x)) in
-      dark_below l _ xs i (dark_more l (lev x) (is_shown lev gr before x) before hidden d) f.1
+      dark_below l ((lev x, is_shown lev gr before x) ∷ before) xs i (dark_more l (lev x) (is_shown lev gr before x) before hidden d) f.1
 
   hidden_after : (before : List (ℕ × Bool)) (xs : List E) (j i : ℕ) → is_ancestor lev xs j i ≡ true → get_or (shown_after lev gr before xs) j false ≡ false
       → get_or (shown_after lev gr before xs) i false ≡ false
   unfolding shown_after is_ancestor
   hidden_after before [] j i a e = refl
   hidden_after before (x ∷ xs) zero zero a e = e
-  hidden_after before (x ∷ xs) zero (suc i) a e = dark_below (lev x) _ xs i (dark_first (lev x) (is_shown lev gr before x) before e) a
+  hidden_after before (x ∷ xs) zero (suc i) a e = dark_below (lev x) ((lev x, is_shown lev gr before x) ∷ before) xs i (dark_first (lev x) (is_shown lev gr before x) before e) a
   hidden_after before (x ∷ xs) (suc j) zero a e = absurd (false≢true a)
-  hidden_after before (x ∷ xs) (suc j) (suc i) a e = hidden_after _ xs j i a e
+  hidden_after before (x ∷ xs) (suc j) (suc i) a e = hidden_after ((lev x, is_shown lev gr before x) ∷ before) xs j i a e
 
   -- Nothing below a node that is not shown is shown.
   pub hidden_below : (xs : List E) (j i : ℕ) → is_ancestor lev xs j i ≡ true → get_or (shown_by lev gr xs) j false ≡ false → get_or (shown_by lev gr xs) i false ≡ false

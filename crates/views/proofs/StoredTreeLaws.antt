@@ -1,5 +1,5 @@
 -- Where an insertion lands in the stored tree: directly before, directly after or as last child, at every node that is done and at no other. Assumes nothing.
-use Prim.Native.Nat.{ℕ, zero, suc, ◌+◌, ◌≤◌}
+use Prim.Native.Nat.{ℕ, suc, ◌+◌, ◌≤◌}
 use mathlib.Core.Path.{◌≡◌, refl, sym, ap, ap₂, subst, ◌∙◌}
 use mathlib.Core.Bool.{Bool, true, false, cond, ◌&&◌}
 use mathlib.Core.List.{List, [], ◌∷◌, ◌++◌, map, append_assoc, append-nil}
@@ -15,10 +15,10 @@ use Rattle.rights.specs.Tree.{Tree, tree, Trees, none, more, nodes_of, nodes_in,
 use Rattle.rights.proofs.ListLaws.{by_case}
 use Rattle.views.specs.declared.insert.Place.{Place}
 use Rattle.views.specs.declared.insert.Place.TheVariants.{Append, After, Before}
-use Rattle.views.specs.Change.{put_behind, insert_behind, insert_in_front, chunks, raised, raise, lower, placed}
+use Rattle.views.specs.Change.{insert_behind, insert_in_front, chunks, raised, raise, lower, placed}
 use Rattle.views.specs.Nodes.{Above, Front}
 use Rattle.views.specs.StoredTree.{HoldsTree, is_before, is_after, is_last_child, landing, inserted, inserted_among}
-use Rattle.views.proofs.InsertionLaws.{skip_one, in_front_lem, above_less}
+use Rattle.views.proofs.InsertionLaws.{skip_one, in_front_lem}
 use Rattle.views.proofs.NodeLaws.{front_less}
 use Rattle.views.proofs.MapLaws.{map-insert_behind, map-insert_in_front}
 

@@ -1,11 +1,10 @@
 -- Documents and what is none, computed.
 use mathlib.Core.Path.{◌≡◌, refl}
 use mathlib.Core.Bool.{true, false}
-use mathlib.Core.List.{List, [], ◌∷◌}
+use mathlib.Core.List.{[], ◌∷◌}
 use Rattle.rights.specs.Bytes.{bytes, digit_byte, run}
 use Rattle.rights.specs.Labels.{label_byte}
 use Rattle.rights.specs.Nodes.{node}
-use Rattle.rights.specs.PathReader.{run_at}
 use Rattle.forms.specs.Part.{label_end}
 use Rattle.xml.specs.Document.{blank_byte, name_start}
 use Rattle.xml.specs.How.Tokens.{is_document, document_nodes, lex, lex_after, tokens_from, nested, nested_in, matched_in, same_bytes, token_nodes}

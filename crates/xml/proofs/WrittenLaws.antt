@@ -2,11 +2,11 @@
 use Prim.Native.Nat.{ℕ}
 use mathlib.Core.Path.{◌≡◌, refl, ap}
 use mathlib.Core.List.{List, []}
-use mathlib.Core.Logic.{◌⊎◌, inl, inr, ◌↔◌}
+use mathlib.Core.Logic.{inl, inr, ◌↔◌}
 use Rattle.rights.specs.Bytes.{all}
 use Rattle.rights.specs.Tree.{Tree, tree, Trees, none, more}
-use Rattle.xml.specs.Document.{Text, blank, said, Element, empty, full, Content, ends, goes, Document}
-use Rattle.xml.specs.Document.{Blanks, write_document, with_text, element_tree, content_trees, GoodElement, GoodContent, GoodDocument, DocumentOf}
+use Rattle.xml.specs.Document.{blank, said, Element, empty, full, Content, ends, goes, Document}
+use Rattle.xml.specs.Document.{Blanks, write_document, element_tree, content_trees, GoodElement, GoodContent, DocumentOf}
 use Rattle.xml.specs.Written.{Leaf, Named, Contents, AfterText}
 
 -- the tree of a document

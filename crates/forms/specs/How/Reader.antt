@@ -6,7 +6,6 @@ use Rattle.rights.specs.Bytes.{byte_at}
 use Rattle.rights.specs.Labels.{label_byte}
 use Rattle.rights.specs.How.Reading.{Onward}
 use Rattle.rights.specs.Record.{pasted}
-use Rattle.forms.specs.declared.layout.Word.{Word}
 use Rattle.forms.specs.declared.part.PartRead.{PartRead}
 use Rattle.forms.specs.declared.reader.Progress.{Progress}
 use Rattle.forms.specs.declared.form.Form.{Form}

@@ -1,0 +1,16 @@
+use mathlib.Core.Path.{refl}
+use Rattle.rights.specs.Policy.{position, read}
+use Rattle.rights.proofs.FiveRights.{bit_right}
+use Rattle.views.proofs.shown.is_granted.Goals as goal
+
+pub holds_right-requires : goal.holds_right-requires
+holds_right-requires c = bit_right read
+
+pub returns-then-holds_right : goal.returns-then-holds_right
+returns-then-holds_right c = rw (← c.holds_right.ensures read refl, c.if-holds_right.true) refl
+
+pub holds_right-requires-2 : goal.holds_right-requires-2
+holds_right-requires-2 c = bit_right position
+
+pub returns : goal.returns
+returns c = rw (← c.holds_right.ensures read refl, c.if-holds_right.false) (c.holds_right-2.ensures position refl)
