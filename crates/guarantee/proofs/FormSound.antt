@@ -15,7 +15,7 @@ use Rattle.rights.specs.PolicyBytes.{subject_count, isa_count, rule_count, subje
 use Rattle.rights.specs.PolicyCheck.{bit_ok}
 use Rattle.rights.specs.Record.{name_record}
 use Rattle.rights.specs.Rights.{holds}
-use Rattle.rights.specs.Table.{count, records, records_from, record_at, record_ok, records_ok, level, label, day_ok, window_ok, table_ok}
+use Rattle.rights.specs.Table.{count, records, records_from, record_at, record_ok, records_ok, level, day_ok, window_ok, table_ok}
 use Rattle.rights.proofs.TableLaws.{both, sound}
 use Rattle.rights.proofs.RecordOfLaws.{length_name}
 use Rattle.rights.proofs.XPathLists.{or_right}

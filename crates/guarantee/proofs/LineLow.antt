@@ -8,7 +8,7 @@ use native.Mathlib.Omega.{arith}
 use lib.Dec.{leb, ltb}
 use lib.ListN.{get_or, length, drop}
 use Rattle.rights.specs.Labels.{restricted}
-use Rattle.rights.specs.Policy.{Policy, read, policy_word}
+use Rattle.rights.specs.Policy.{insert, Policy, read, policy_word}
 use Rattle.rights.specs.Isa.{passes_own}
 use Rattle.rights.specs.Rights.{holds, rights_on}
 use Rattle.rights.specs.XPath.{xpath_selection}
@@ -55,7 +55,7 @@ front-raise k (r ∷ rs) w = omega (arith, w.0)
 length_from : (c : Change) (bs is : List (ℕ × Bool)) (xs : List Item) → length (done_from c bs is xs) ≡ length xs
 unfolding done_from
 length_from c bs is [] = refl
-length_from c bs is (x ∷ xs) = ap suc (length_from c _ _ xs)
+length_from c bs is (x ∷ xs) = ap suc (length_from c ((x.level, x.selected) ∷ bs) ((x.level, holds insert x.rights) ∷ is) xs)
 
 module _ {E : Type 0} (lev : E → ℕ) (g : E → Bool) (set : E → ℕ) (word : E → Bool) where
   length-items : (ms : List Bool) (t : List E) → length (seen_items lev g set word ms t) ≡ length t

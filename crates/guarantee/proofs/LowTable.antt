@@ -51,7 +51,7 @@ shown-map : {E F : Type 0} (lev : F → ℕ) (gr : F → Bool) (f : E → F) (be
     → shown_after lev gr before (map f t) ≡ shown_after (λ x. lev (f x)) (λ x. gr (f x)) before t
 unfolding shown_after
 shown-map lev gr f before [] = refl
-shown-map lev gr f before (x ∷ t) = ap (λ r. is_shown lev gr before (f x) ∷ r) (shown-map lev gr f _ t)
+shown-map lev gr f before (x ∷ t) = ap (λ r. is_shown lev gr before (f x) ∷ r) (shown-map lev gr f ((lev (f x), is_shown lev gr before (f x)) ∷ before) t)
 
 -- a key that is a policy word
 abbrev pub is_word : Key → Bool

@@ -1,6 +1,6 @@
 -- What the call that loads the solver's file answers to some documents, in a store that has no root and passes 13; computed.
 use Prim.Native.Nat.{ℕ, ◌≤◌, ◌<◌}
-use mathlib.Core.Path.{◌≡◌, refl}
+use mathlib.Core.Path.{◌≡◌}
 use mathlib.Core.Bool.{true}
 use mathlib.Core.List.{List, [], ◌∷◌}
 use borrow.Author.Tests.{lt-leb, le-ltb, lt-ltb}

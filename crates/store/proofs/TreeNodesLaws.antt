@@ -49,6 +49,7 @@ module _ {A : Type 0} (P : A → Type 0) where
   none-all Q f (x ∷ xs) h = (f x (λ p. h (inl p)), none-all Q f xs (λ p. h (inr p)))
 
   all_none : (Q : A → Type 0) → ((x : A) → Q x → P x → ⊥) → (xs : List A) → All Q xs → Some P xs → ⊥
+  all_none Q f [] a h = elim h [ ]
   all_none Q f (x ∷ xs) a (inl p) = f x a.0 p
   all_none Q f (x ∷ xs) a (inr p) = all_none Q f xs a.1 p
 
