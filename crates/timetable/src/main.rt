@@ -9,9 +9,9 @@ ghost use Rattle.timetable.specs.How.Run.{run_in, byte_taken, byte_hands, chunk_
 
 use answers::answer::answer_refused;
 use forms::limits::LINE_MAX;
-use libc::{STDIN_FILENO, STDOUT_FILENO};
 use lines::line::Answer;
 use lines::refusals::BAD_LINE;
+use std::io::{Read, Write};
 use store::line::line;
 
 // A line of so many bytes stands for every longer one.
@@ -42,11 +42,19 @@ fn least(a: usize, b: usize) -> usize
     if a < b { a } else { b }
 }
 
-// Writes the first `held` bytes; whether standard output took them all.
-fn write_held(out: &[u8], held: usize) -> bool
+// Writes the first `held` bytes; whether the output took them all. It ends at the first write that takes nothing or fails.
+fn write_held<W: Write>(output: &mut W, out: &[u8], held: usize) -> bool
     requires { held ≤ length out.now }
 {
-    io::write_all(STDOUT_FILENO, &out[0..held])
+    let mut done = 0;
+    while done < held {
+        let took = output.write(&out[done..held]).unwrap_or(0);
+        if took == 0 {
+            return false;
+        }
+        done += took;
+    }
+    true
 }
 
 // Answers a line, or prints its refusal, at the start of the area; how many bytes that takes.
@@ -98,7 +106,7 @@ fn hold_answer(
 }
 
 // Writes what waits where the next answer might not fit behind it. A new line begins.
-fn make_room(out: &[u8], held: usize) -> Progress
+fn make_room<W: Write>(output: &mut W, out: &[u8], held: usize) -> Progress
     requires { held ≤ length out.now }
     ensures { (result.used ≡ 0) × (result.held ≡ cond (leb held 65536) held 0) × (leb held 65536 ≡ true → result.open ≡ true) }
 {
@@ -109,7 +117,7 @@ fn make_room(out: &[u8], held: usize) -> Progress
             open: true,
         };
     }
-    let open = write_held(out, held);
+    let open = write_held(output, out, held);
     Progress {
         used: 0,
         held: 0,
@@ -118,7 +126,8 @@ fn make_room(out: &[u8], held: usize) -> Progress
 }
 
 // Takes one byte of the input.
-fn take_byte(
+fn take_byte<W: Write>(
+    output: &mut W,
     state: &mut [u8],
     table: &mut [u8],
     buffer: &mut [u8],
@@ -135,7 +144,7 @@ fn take_byte(
 {
     if b == b'\n' {
         let waiting = hold_answer(state, table, &buffer[..], used, out, held);
-        return make_room(&out[..], waiting);
+        return make_room(output, &out[..], waiting);
     }
     if used < LINE_MAX {
         buffer[used] = b;
@@ -153,7 +162,8 @@ fn take_byte(
 }
 
 // Takes the bytes of a chunk, as long as standard output takes the answers. Nothing waits before it.
-fn take_chunk(
+fn take_chunk<W: Write>(
+    output: &mut W,
     state: &mut [u8],
     table: &mut [u8],
     buffer: &mut [u8],
@@ -170,7 +180,7 @@ fn take_chunk(
     let mut held = 0;
     let mut i = 0;
     while i < chunk.len() {
-        let p = take_byte(state, table, buffer, used, out, held, chunk[i]);
+        let p = take_byte(output, state, table, buffer, used, out, held, chunk[i]);
         if p.open {
             used = p.used;
             held = p.held;
@@ -187,23 +197,24 @@ fn take_chunk(
 }
 
 // Reads once; how many bytes came, 0 at the end of the input and where the read fails.
-fn read_once(part: &mut [u8]) -> usize
+fn read_once<R: Read>(input: &mut R, part: &mut [u8]) -> usize
     ensures { result ≤ length part.new }
 {
-    let got = libc::read(STDIN_FILENO, part);
-    io::count(got, part)
+    input.read(part).unwrap_or(0)
 }
 
 // The same, of at most `most` bytes.
-fn read_chunk(chunk: &mut [u8], most: usize) -> usize
+fn read_chunk<R: Read>(input: &mut R, chunk: &mut [u8], most: usize) -> usize
     ensures { (result ≤ most) × (result ≤ length chunk.new) }
 {
     let n = least(most, chunk.len());
-    read_once(&mut chunk[0..n])
+    read_once(input, &mut chunk[0..n])
 }
 
 // Reads at most `left` bytes, and writes the answers to the lines that end in them. Where standard output fails, all ends: no byte read, and no line begun.
-fn read_turn(
+fn read_turn<R: Read, W: Write>(
+    input: &mut R,
+    output: &mut W,
     state: &mut [u8],
     table: &mut [u8],
     buffer: &mut [u8],
@@ -219,10 +230,10 @@ fn read_turn(
         ≡ written (chunk_taken (run_in state.old table.old buffer.old used out.old 0)
         (take result.got chunk.new)))) }
 {
-    let got = read_chunk(chunk, left);
-    let p = take_chunk(state, table, buffer, used, out, &chunk[0..got]);
+    let got = read_chunk(input, chunk, left);
+    let p = take_chunk(output, state, table, buffer, used, out, &chunk[0..got]);
     if p.open {
-        if write_held(&out[..], p.held) {
+        if write_held(output, &out[..], p.held) {
             return Turn { used: p.used, got };
         }
     }
@@ -230,7 +241,9 @@ fn read_turn(
 }
 
 // Reads to the end of the input or to its limit, and answers every line that has its line feed; how many bytes the last one has, which lacks it.
-fn read_lines(
+fn read_lines<R: Read, W: Write>(
+    input: &mut R,
+    output: &mut W,
     state: &mut [u8],
     table: &mut [u8],
     buffer: &mut [u8],
@@ -243,7 +256,7 @@ fn read_lines(
     let mut used: usize = 0;
     let mut left: usize = INPUT_MAX;
     while 0 < left {
-        let t = read_turn(state, table, buffer, used, out, chunk, left);
+        let t = read_turn(input, output, state, table, buffer, used, out, chunk, left);
         used = t.used;
         if t.got == 0 {
             return used;
@@ -254,14 +267,22 @@ fn read_lines(
 }
 
 // "a last line that is not empty may lack its line feed"
-fn run(state: &mut [u8], table: &mut [u8], buffer: &mut [u8], out: &mut [u8], chunk: &mut [u8])
+fn run<R: Read, W: Write>(
+    input: &mut R,
+    output: &mut W,
+    state: &mut [u8],
+    table: &mut [u8],
+    buffer: &mut [u8],
+    out: &mut [u8],
+    chunk: &mut [u8],
+)
     requires { (state.old ≡ empty_state) × (table.old ≡ empty_table) × (length buffer.old ≡ 1024) × (length out.old ≡ 131072) }
     ensures { RunsAll out.new }
 {
-    let used = read_lines(state, table, buffer, out, chunk);
+    let used = read_lines(input, output, state, table, buffer, out, chunk);
     if 0 < used {
         let held = hold_answer(state, table, &buffer[..], used, out, 0);
-        write_held(&out[..], held);
+        write_held(output, &out[..], held);
     }
 }
 
@@ -285,11 +306,26 @@ fn output_buffer() -> [u8; 131072]
     [0; 131072]
 }
 
-fn main() {
+// Room for what one read brings.
+fn input_chunk() -> [u8; 65536]
+    ensures { 65536 ≡ length result }
+{
+    [0; 65536]
+}
+
+fn main(rt: HostRuntime) {
     let mut state = empty_state();
     let mut table = empty_table();
     let mut buffer = [0u8; LINE_MAX];
     let mut out = output_buffer();
-    let mut chunk = io::large_buffer();
-    run(&mut state, &mut table, &mut buffer, &mut out, &mut chunk);
+    let mut chunk = input_chunk();
+    run(
+        &mut rt.stdin(),
+        &mut rt.stdout(),
+        &mut state,
+        &mut table,
+        &mut buffer,
+        &mut out,
+        &mut chunk,
+    );
 }

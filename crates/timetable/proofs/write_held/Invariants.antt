@@ -1,0 +1,9 @@
+-- The bytes that are written are among those that wait.
+use Prim.Native.Nat.{◌≤◌, ◌-◌}
+use Rattle.timetable.proofs.write_held.Given as goal
+
+abbrev pub invariant-loop-done : goal.invariant-loop-done
+invariant-loop-done g l = l.done ≤ l.held
+
+abbrev pub decreases-loop-done : goal.decreases-loop-done
+decreases-loop-done g l = l.held - l.done
