@@ -21,24 +21,24 @@ loop-left-init g c =
 pub returns-then-t-eq0 : goal.returns-then-t-eq0
 returns-then-t-eq0 g c =
     let x = c.loop-left in
-    let e = c.read_turn-t.ensures.run in
+    let e = c.read_turn-t.ensures.run in let none = c.if-t-eq0.true in
     record {
-      run = ⊎_elim (λ w. read_shut x.invariant.6 _ _ w.0) (λ w. read_ended x.invariant.6 _ _ c.if-t-eq0.true w _) e.3;
-      bytes = lines_room x.invariant.5 (bytes_last x.invariant.7 c.read_turn-t.ensures.bytes c.if-t-eq0.true c.loop-left-test.true);
+      run = ⊎_elim (λ w. read_shut x.invariant.6 _ _ w.0) (λ w. read_ended x.invariant.6 _ _ none w _) e.3;
+      bytes = lines_room x.invariant.5 (bytes_last x.invariant.7 c.read_turn-t.ensures.bytes none c.loop-left-test.true);
     }
 
 pub loop-left-preserved : goal.loop-left-preserved
 loop-left-preserved g c =
     let x = c.loop-left in
-    let e = c.read_turn-t.ensures.run in (
+    let e = c.read_turn-t.ensures.run in let more = c.if-t-eq0.false in (
       e.0,
       search rules,
       search rules,
       search rules,
       search rules,
       search rules,
-      ⊎_elim (λ w. absurd (c.if-t-eq0.false w.1)) (λ w. read_more x.invariant.6 _ _ e.1 e.2 w) e.3,
-      bytes_more x.invariant.7 c.read_turn-t.ensures.bytes c.if-t-eq0.false,
+      ⊎_elim (λ w. absurd (more w.1)) (λ w. read_more x.invariant.6 _ _ e.1 e.2 w) e.3,
+      bytes_more x.invariant.7 c.read_turn-t.ensures.bytes more,
     )
 
 pub returns : goal.returns

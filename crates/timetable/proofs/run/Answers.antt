@@ -8,7 +8,8 @@ pub returns-then-used-gt0 : goal.returns-then-used-gt0
 returns-then-used-gt0 g c =
     let n = c.read_lines-last.new in let used = c.read_lines-last.result.used in
     let r = c.read_lines-last.ensures.bytes in
-    let w = last_written r c.if-used-gt0.true (last_put n.state n.table n.buffer n.out used _ c.if-used-gt0.true c.hold_answer-held.ensures) c.write_held-wrote.ensures in
+    let some = c.if-used-gt0.true in
+    let w = last_written r some (last_put n.state n.table n.buffer n.out used _ some c.hold_answer-held.ensures) c.write_held-wrote.ensures in
     record {
       run = record {
         used = used;
