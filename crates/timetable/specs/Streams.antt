@@ -1,6 +1,6 @@
 -- What the program reads and writes, where the bytes of its input and its output are known. Of others nothing is claimed.
-use Rattle.std.specs.Prelude.{ℕ, ◌≡◌, ◌≤◌, ◌<◌, Bool, true, List, [], ◌++◌, length, take, Option, Result, MatchResult, IfSome}
-use Rattle.std.specs.Io.KnownBytes.{Appends, Consumes, Keeps, IsAtEnd}
+use Rattle.std.specs.Prelude.{ℕ, ◌≡◌, ◌≤◌, Bool, true, List, [], ◌++◌, length, Option, IfSome}
+use Rattle.std.specs.Io.KnownBytes.{Appends, Consumes}
 use Rattle.timetable.specs.Program.{input_max, answers_to}
 
 -- Bytes are written: all of them, or, where `all` is false, some that they begin with.
@@ -10,11 +10,6 @@ pub record Writes (held held' : Option (List ℕ)) (bytes : List ℕ) (all : Boo
   pub parts : bytes ≡ front ++ rest
   pub grown : Appends held held' front
   pub whole : all ≡ true → rest ≡ []
-
--- One read of at most `most` bytes brings the first n bytes of the chunk, none only at the end of the input; one that fails brings none.
-abbrev pub Reads : {E : Type 0} → Option (List ℕ) → Option (List ℕ) → Result ℕ E → ℕ → List ℕ → Type 0
-Reads left left' r most chunk =
-    MatchResult r (λ n. Consumes left left' (take n chunk) × (n ≡ 0 → 0 < most → 0 < length chunk → IsAtEnd left')) (λ _. Keeps left left')
 
 -- The program answers what it read: all of it, or as far as its output took the answers.
 pub record Answers (left left' held held' : Option (List ℕ)) (all : Bool) : Type 0 where

@@ -7,8 +7,8 @@ ghost use Rattle.store.specs.Line.{step};
 ghost use Rattle.timetable.specs.Program.{empty_state, empty_table};
 ghost use Rattle.timetable.specs.How.Run.{Prints, TakesChunk, ReadsAll, RunsAll, ended, line_in};
 ghost use Rattle.timetable.specs.How.Run.{run_in, byte_taken, byte_hands, overflow, handed, chunk_taken, written, start};
-ghost use Rattle.timetable.specs.Streams.{Writes, Reads, Answers, AnswersWhole};
-ghost use Rattle.timetable.specs.How.Bytes.{Turned, LinesRead};
+ghost use Rattle.timetable.specs.Streams.{Writes, Answers, AnswersWhole};
+ghost use Rattle.timetable.specs.How.Bytes.{Reads, Turned, LinesRead};
 
 use answers::answer::answer_refused;
 use forms::limits::LINE_MAX;

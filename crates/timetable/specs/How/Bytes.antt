@@ -1,9 +1,14 @@
 -- What a read, and all reads, do to the known bytes of the input and the output.
-use Rattle.std.specs.Prelude.{ℕ, ◌≡◌, ◌≤◌, ◌<◌, Bool, true, false, ◌⊎◌, List, length, Option}
-use Rattle.std.specs.Io.KnownBytes.{Appends, Consumes, IsAtEnd}
+use Rattle.std.specs.Prelude.{ℕ, ◌≡◌, ◌≤◌, ◌<◌, Bool, true, false, ◌⊎◌, List, length, take, Option, Result, MatchResult}
+use Rattle.std.specs.Io.KnownBytes.{Appends, Consumes, Keeps, IsAtEnd}
 use Rattle.timetable.specs.Program.{input_max}
 use Rattle.timetable.specs.Streams.{Writes}
 use Rattle.timetable.specs.How.Run.{Run, chunk_taken, chunk_hands, written, chunks_taken, joined, reads_hand, run_hands, start}
+
+-- One read of at most `most` bytes brings the first n bytes of the chunk, none only at the end of the input; one that fails brings none.
+abbrev pub Reads : {E : Type 0} → Option (List ℕ) → Option (List ℕ) → Result ℕ E → ℕ → List ℕ → Type 0
+Reads left left' r most chunk =
+    MatchResult r (λ n. Consumes left left' (take n chunk) × (n ≡ 0 → 0 < most → 0 < length chunk → IsAtEnd left')) (λ _. Keeps left left')
 
 -- One read: the chunk that it brings is taken, and what it hands over is written; m' is the program then. Where the output fails, the program stops.
 pub record Turned (m m' : Run) (left left' held held' : Option (List ℕ)) (most room used got : ℕ) (heard open' : Bool) : Type 0 where
