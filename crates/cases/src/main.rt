@@ -12,7 +12,7 @@
 // Any other line is left out. tests/make_cases.py writes the lines, and their answers from document 01.
 ghost use Rattle.std.specs.Prelude.{◌≡◌, ◌≤◌, ◌<◌, length};
 
-use libc::{STDIN_FILENO, STDOUT_FILENO};
+use std::io::Read;
 use trials::{trial_path, trial_policy, trial_rights, trial_select, trial_table, trial_word};
 
 // Which of the lengths is that of the table, of the policy and of the shown numbers.
@@ -30,21 +30,22 @@ const AFTER_SUBJECT: usize = 5;
 // A byte that is no mark and no set of rights: what was not written still has it.
 const UNTOUCHED: u8 = 255;
 
-fn say(text: &[u8]) {
-    io::write_all(STDOUT_FILENO, text);
+// What the output doesn't take is lost, and the cases go on.
+fn say(to: &impl Print, text: &[u8]) {
+    let _ = to.write_all(text);
 }
 
 // What a number of crate trials says.
-fn say_code(n: i64) {
+fn say_code(to: &impl Print, n: i64) {
     if n == 1 {
-        say(b"yes\n");
+        say(to, b"yes\n");
         return;
     }
     if n == 0 {
-        say(b"no\n");
+        say(to, b"no\n");
         return;
     }
-    say(b"refused\n");
+    say(to, b"refused\n");
 }
 
 // The value of a hexadecimal digit, and 0 of any other byte.
@@ -166,59 +167,74 @@ fn fill(out: &mut [u8], v: u8) {
     }
 }
 
-fn say_byte(b: u8) {
-    io::print_hex(STDOUT_FILENO, b as u64, 2);
+fn say_byte(to: &impl Print, b: u8) {
+    let _ = print!(to; "{b:02x}");
 }
 
 // Prints the bytes that were written.
-fn say_written(out: &[u8]) {
+fn say_written(to: &impl Print, out: &[u8]) {
     let mut i = 0;
     while i < out.len() {
         if out[i] == UNTOUCHED {
             break;
         }
-        say_byte(out[i]);
+        say_byte(to, out[i]);
         i += 1;
     }
-    say(b"\n");
+    say(to, b"\n");
 }
 
 // The answer of a call that writes: what it wrote, or its refusal.
-fn say_answer(n: i64, out: &[u8]) {
+fn say_answer(to: &impl Print, n: i64, out: &[u8]) {
     if n == -1 {
-        say(b"refused\n");
+        say(to, b"refused\n");
         return;
     }
     if n == -2 {
-        say(b"not well formed\n");
+        say(to, b"not well formed\n");
         return;
     }
-    say_written(out);
+    say_written(to, out);
 }
 
-fn try_rights(line: &[u8], table: &[u8], policy: &[u8], out: &mut [u8]) {
+fn try_rights(to: &impl Print, line: &[u8], table: &[u8], policy: &[u8], out: &mut [u8]) {
     fill(out, UNTOUCHED);
     let u = read_byte(line, PART_AT) as usize;
     let n = trial_rights(policy, u, table, out);
-    say_answer(n, &out[..]);
+    say_answer(to, n, &out[..]);
 }
 
-fn try_select(line: &[u8], table: &[u8], policy: &[u8], shown: &[u16], out: &mut [u8]) {
+fn try_select(
+    to: &impl Print,
+    line: &[u8],
+    table: &[u8],
+    policy: &[u8],
+    shown: &[u16],
+    out: &mut [u8],
+) {
     fill(out, UNTOUCHED);
     let u = read_byte(line, PART_AT) as usize;
     let n = trial_select(policy, u, table, shown, rest(line, AFTER_SUBJECT), out);
-    say_answer(n, &out[..]);
+    say_answer(to, n, &out[..]);
 }
 
 // A line that asks.
-fn ask(kind: u8, line: &[u8], table: &[u8], policy: &[u8], shown: &[u16], out: &mut [u8]) {
+fn ask(
+    to: &impl Print,
+    kind: u8,
+    line: &[u8],
+    table: &[u8],
+    policy: &[u8],
+    shown: &[u16],
+    out: &mut [u8],
+) {
     match kind {
-        b'p' => say_code(trial_path(rest(line, PART_AT))),
-        b't' => say_code(trial_table(table)),
-        b'k' => say_code(trial_policy(policy)),
-        b'w' => say_code(trial_word(policy, rest(line, PART_AT))),
-        b'r' => try_rights(line, table, policy, out),
-        b's' => try_select(line, table, policy, shown, out),
+        b'p' => say_code(to, trial_path(rest(line, PART_AT))),
+        b't' => say_code(to, trial_table(table)),
+        b'k' => say_code(to, trial_policy(policy)),
+        b'w' => say_code(to, trial_word(policy, rest(line, PART_AT))),
+        b'r' => try_rights(to, line, table, policy, out),
+        b's' => try_select(to, line, table, policy, shown, out),
         _ => {}
     }
 }
@@ -251,6 +267,7 @@ fn put(
 }
 
 fn take_line(
+    to: &impl Print,
     line: &[u8],
     table: &mut [u8],
     policy: &mut [u8],
@@ -263,7 +280,7 @@ fn take_line(
     let t = part(&table[..], lengths[TABLE]);
     let p = part(&policy[..], lengths[POLICY]);
     let s = part_of_numbers(&shown[..], lengths[SHOWN]);
-    ask(kind, line, t, p, s, out);
+    ask(to, kind, line, t, p, s, out);
 }
 
 // The end of the line that starts at a place.
@@ -282,6 +299,7 @@ fn line_end(input: &[u8], from: usize) -> usize
 }
 
 fn take_lines(
+    to: &impl Print,
     input: &[u8],
     table: &mut [u8],
     policy: &mut [u8],
@@ -292,7 +310,7 @@ fn take_lines(
     let mut at = 0;
     while at < input.len() {
         let e = line_end(input, at);
-        take_line(&input[at..e], table, policy, shown, out, lengths);
+        take_line(to, &input[at..e], table, policy, shown, out, lengths);
         if e == input.len() {
             return;
         }
@@ -307,15 +325,38 @@ fn policy_area() -> [u8; 68873]
     [0; 68873]
 }
 
-fn main() {
-    let mut input = io::large_buffer();
-    let n = io::read_full(STDIN_FILENO, &mut input);
+// Room for the input.
+fn input_area() -> [u8; 65536]
+    ensures { 65536 ≡ length result }
+{
+    [0; 65536]
+}
+
+// Reads until the area is full, the input ends or a read fails; how many bytes came.
+fn read_input(from: &mut impl Read, input: &mut [u8]) -> usize
+    ensures { result ≤ length input.new }
+{
+    let mut n = 0;
+    while n < input.len() {
+        let got = from.read(&mut input[n..]).unwrap_or(0);
+        if got == 0 {
+            return n;
+        }
+        n += got;
+    }
+    n
+}
+
+fn main(rt: HostRuntime) {
+    let mut input = input_area();
+    let n = read_input(&mut rt.stdin(), &mut input);
     let mut table = [0u8; 4096];
     let mut policy = policy_area();
     let mut shown = [0u16; 64];
     let mut out = [0u8; 64];
     let mut lengths = [0usize; 3];
     take_lines(
+        &rt,
         part(&input[..], n),
         &mut table,
         &mut policy,

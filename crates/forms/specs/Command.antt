@@ -92,7 +92,7 @@ pub record GoodCommand (c : Command) : Type 0 where
   pub word : 1 ≤ length (letters c.word)
   pub values : GoodValues (shape_of c.word) c.values
 
--- The command as a form that is read: a tree by its nodes, a right by its bit, a day by its number (law written-read)
+-- The command as a form that is read: a tree by its nodes, a right by its bit, a day by its number (law written_read)
 abbrev pub held_of : (k : Kind) → Value k → Held k
 held_of kind.Label l = l
 held_of kind.Path p = p

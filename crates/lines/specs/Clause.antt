@@ -1,6 +1,6 @@
 -- What each form does (document 01, "Lines", "Changes", "What is written", "Who can be turned down"): its own checks, its answer and its effect on the state s
 -- and the table t, one clause a form. A line that writes a command does what the command's clause says (store, law step-written); every other line is refused
--- (law step-unwritten).
+-- (law step_unwritten).
 use Rattle.std.specs.Prelude.{ℕ, true, List, [], ◌∷◌, length}
 use Rattle.rights.specs.Marks.{bit}
 use Rattle.rights.specs.Tree.{Tree, nodes_of}

@@ -141,7 +141,7 @@ abbrev pub Holds : ℕ → Conditions → Type 0
 Holds n [] = ⊥
 Holds n (r ∷ rs) = ((r.0 ≡ n) × r.1) ⊎ Holds n rs
 
--- m is tested before n: "13 is tested first, then 1 to 12 rising" (law rank-is)
+-- m is tested before n: "13 is tested first, then 1 to 12 rising" (law rank_is)
 abbrev pub Before : ℕ → ℕ → Type 0
 Before m n = rank m < rank n
 

@@ -1,5 +1,5 @@
 -- Loading a tree in place of its lines (document 02, card 2): "Table and state must equal those that the matching lines would leave if lines had no
--- length limit." A tree is taken exactly if all these lines would be answered `(ok)` (law load-exactly), and leaves what they would (law lines-load).
+-- length limit." A tree is taken exactly if all these lines would be answered `(ok)` (law load_exactly), and leaves what they would (law lines_load).
 use Rattle.std.specs.Prelude.{ℕ, ◌≤◌, ◌≡◌, not, List, [], ◌∷◌, map, length}
 use Rattle.rights.specs.Held.{table_bytes, node_bytes}
 use Rattle.rights.specs.Table.{capacity}
@@ -24,7 +24,7 @@ abbrev pub matching_lines : Tree → List Command
 matching_lines (tree l us) = command word.Root (l, tt) ∷ child_commands us
 
 -- What the line of a command would answer and leave "if lines had no length limit": 13 and 3, the form's own checks and 12. A line within the limit
--- does just this (law step-unlimited).
+-- does just this (law step_unlimited_lem).
 abbrev pub unlimited_checks : Command → List ℕ → List ℕ → List Check
 unlimited_checks c s t = check bad_store (not (store_ok s t)) ∷ check wrong_stage (not (in_stage (stage_for c) (stage s))) ∷ []
 

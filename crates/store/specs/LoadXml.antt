@@ -1,7 +1,7 @@
 -- The call that loads the solver's file (document 02, card 2): "A reader takes one XML 1.0 document of a narrow kind into an empty table, in place of root
 -- and child lines." What it answers and leaves is `load_xml`, and what it is turned away for is `load_refusals`. It is refused with a number exactly if the
--- number's condition holds and none before it does (law load-refused-exactly), accepted exactly if none holds (law load-accepted-exactly), and then it
--- leaves what the matching lines would (law load-accepted).
+-- number's condition holds and none before it does (law load_refused_exactly), accepted exactly if none holds (law load_accepted_exactly), and then it
+-- leaves what the matching lines would (law load_accepted).
 use Rattle.std.specs.Prelude.{ℕ, ◌≤◌, ◌<◌, cond, not, List, [], ◌∷◌, ◌++◌, map, leb, ltb, length}
 use Rattle.rights.specs.Held.{table_bytes, node_bytes}
 use Rattle.rights.specs.Labels.{same_label, restricted}
@@ -18,7 +18,7 @@ use Rattle.lines.specs.Refusal.{Check, check, area_check, checked, bad_store, wr
 use Rattle.lines.specs.State.{stage_c, stage_d, stage, with_stage, store_ok}
 use Rattle.store.specs.Refusals.{NoStore}
 
--- The refusals in words. A document is of one tree at most (xml, law one-tree); the tree of this document has P:
+-- The refusals in words. A document is of one tree at most (xml, law one_tree); the tree of this document has P:
 abbrev pub DocumentWith : List ℕ → (Tree → Type 0) → Type 0
 DocumentWith xml P = (u : Tree) × DocumentOf xml u × P u
 

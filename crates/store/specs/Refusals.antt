@@ -1,6 +1,6 @@
 -- The refusals of a line in one table (document 01, "Who can be turned down, and for what"): the conditions of every line around those of its form (lines,
--- Conditions). A line is refused with a number exactly if the number's condition holds and none before it does (law refused-exactly), and accepted exactly if
--- none holds (law accepted-exactly).
+-- Conditions). A line is refused with a number exactly if the number's condition holds and none before it does (law refused_exactly), and accepted exactly if
+-- none holds (law accepted_exactly).
 use Rattle.std.specs.Prelude.{ℕ, ◌≤◌, ◌<◌, ◌≡◌, not, List, [], ◌∷◌, ◌++◌, ◌⊎◌, length}
 use Rattle.forms.specs.Text.{line_ok}
 use Rattle.forms.specs.Command.{Command, stage_for, written, GoodCommand}
@@ -34,7 +34,7 @@ BadLine line = (1024 < length line) ⊎ Some (λ b. (b < 32) ⊎ (126 < b)) line
 abbrev pub WrongStage : List ℕ → Command → Type 0
 WrongStage s c = (stage_for c < stage s) ⊎ ((stage_c < stage_for c) × (stage s < stage_c)) ⊎ ((stage_for c ≡ stage_c) × (stage_c ≤ stage s))
 
--- What a line says: a good command that is written so, or nothing. Law line-says: every line says one of both.
+-- What a line says: a good command that is written so, or nothing. Law line_says: every line says one of both.
 pub data Says (line : List ℕ) : Type 0 where
   says : (c : Command) → GoodCommand c → line ≡ written c → Says line
   nothing : ((c : Command) → GoodCommand c → line ≡ written c → ⊥) → Says line

@@ -1,4 +1,4 @@
--- Which trees have a document (law tree-documents): the root and every node with children carry names, and a leaf that does not is a text. Two texts do not
+-- Which trees have a document (law tree_documents): the root and every node with children carry names, and a leaf that does not is a text. Two texts do not
 -- stand next to each other, since what is between two tags is one label. So (a (1) (2)) has no document, and (a (1) (b) (2)) has `<a>1<b/>2</a>`.
 use Rattle.std.specs.Prelude.{◌⊎◌}
 use Rattle.rights.specs.Tree.{Tree, tree, Trees, none, more}
