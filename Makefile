@@ -1,6 +1,7 @@
 # The library and the companion, installed and packed (GNU make, x86-64 Linux).
 #
-#   make lib             the static archive, which rt writes, and a shared library made from it
+#   make program         the program target/bin/timetable, which rt proves and builds
+#   make lib             the static archive, which rt proves and builds too, and a shared library made from it
 #   make install         install-lib and install-office
 #   make install-lib     both libraries, the header, a pkg-config file, the man page, docs/FORMAT.md, and the program
 #                        if it was built
@@ -48,16 +49,20 @@ below_prefix = $(patsubst $(PREFIX)/%,$${prefix}/%,$(1))
 PACKAGE = $(wildcard office/timetable_office/*.py) $(addprefix office/timetable_office/,page.css page.js py.typed)
 COMPLETIONS = PYTHONPATH=office $(PYTHON) -B -m timetable_office --completions
 
-.PHONY: lib install install-lib install-office uninstall dist check check-lib help
+.PHONY: program lib install install-lib install-office uninstall dist check check-lib help
 
 lib: $(ARCHIVE) $(BUILD)/$(FILE)
 
 ifeq ($(origin ARCHIVE),file)
-$(ARCHIVE): crates.txt $(shell find crates -name '*.rt' -o -name '*.antt')
+$(ARCHIVE): crates.txt $(shell find crates -name out -prune -o \( -name '*.rt' -o -name '*.antt' \) -print)
 	@command -v $(RT) > /dev/null || { echo "$(RT) is missing; ARCHIVE=FILE names an archive that is there"; exit 1; }
-	$(RT) staticlib louvretansy
+	$(PYTHON) tests/build.py library
 	touch $@
 endif
+
+program:
+	@command -v $(RT) > /dev/null || { echo "$(RT) is missing; it comes with the Rattle kit"; exit 1; }
+	$(PYTHON) tests/build.py program
 
 $(BUILD)/$(FILE): $(ARCHIVE) packaging/louvretansy.map include/timetable.h
 	mkdir -p $(BUILD)

@@ -1,13 +1,13 @@
 # For the benches: builds the C driver over crate `trials`, and counts instructions with callgrind. Sourced.
 set -eu
 root=$(cd "$(dirname "${BASH_SOURCE[0]}")/.." && pwd)
-for tool in rt gcc valgrind; do
+for tool in rt gcc valgrind python3; do
     command -v "$tool" > /dev/null || { echo "FAILED: $tool is missing"; exit 1; }
 done
 work=$(mktemp -d)
 trap 'rm -rf "$work"' EXIT
-(cd "$root" && rt staticlib trials > "$work/log" 2>&1) || { cat "$work/log"; echo "FAILED: rt staticlib trials"; exit 1; }
-gcc -O2 -o "$work/driver" "$root/bench/driver.c" "$root/target/staticlib/libtrials.a"
+python3 "$root/tests/build.py" trials
+gcc -O2 -o "$work/driver" "$root/bench/driver.c" "$root/target/staticlib/libtrials_c.a"
 
 # callgrind counts `rep stosb` and `rep movsb` once a byte: with this the C library sets and copies by vector instructions while it counts
 no_rep=glibc.cpu.x86_rep_stosb_threshold=1000000000:glibc.cpu.x86_rep_movsb_threshold=1000000000

@@ -35,10 +35,10 @@ class Bounds:
 def build(work, archive, program):
     """The driver; the Rattle library, the straightforward one and the view alone as shared objects; the two programs, Rattle first."""
     if archive is None:
-        run("rt", "staticlib", "louvretansy", cwd=ROOT)
+        run(sys.executable, ROOT / "tests/build.py", "library")
         archive = ROOT / "target/staticlib/liblouvretansy.a"
     if program is None:
-        run("rt", "check", "timetable", cwd=ROOT)
+        run(sys.executable, ROOT / "tests/build.py", "program")
         program = ROOT / "target/bin/timetable"
     source = ROOT / "docs/src"
     run("cargo", "build", "--quiet", "--release", "--offline", "--bins", "--examples", "--manifest-path", source / "Cargo.toml")

@@ -110,7 +110,7 @@ def machine(runs):
 HEAD = """\
 # Benchmark
 
-Written by `bash bench/run`. The Rattle library (`rt staticlib louvretansy`) and program beside the straightforward Rust version of docs/src (opt-level 3), both
+Written by `bash bench/run`. The Rattle library (`rt lib`) and program beside the straightforward Rust version of docs/src (opt-level 3), both
 through the same C call, turn by turn in one process, from the same bytes; both left the same bytes in every case. A time is the median of CPU times; the ratio
 is Rattle over Rust, so below 1 Rattle is faster. Instructions are counted by callgrind, which other work on the machine does not disturb, with the C library
 kept from `rep stosb` and `rep movsb`, which callgrind would count once a byte. Growth is from a full table of 1,024 records to one of 16,384, 16 times as many.

@@ -1,7 +1,7 @@
 #!/usr/bin/env bash
 # library.sh [ARCHIVE]: the library for others. The header in C and C++, tests/library.c, the stack, the texts of the
 # refusals; the wrapper in Rust; what make builds, installs and packs, and the examples linked with the installed tree.
-# Without an archive it has rt write target/staticlib/liblouvretansy.a. Warnings are errors. Needs gcc, g++, make, git,
+# Without an archive it has tests/build.py make target/staticlib/liblouvretansy.a. Warnings are errors. Needs gcc, g++, make, git,
 # pkg-config, cargo with rustfmt (and clippy, if it is there), and rt for the archive. Ends with `N passed, M failed`.
 set -u
 root=$(cd "$(dirname "${BASH_SOURCE[0]}")/.." && pwd)
@@ -293,7 +293,7 @@ END
 archive=$root/target/staticlib/liblouvretansy.a
 if [ $# -gt 0 ]; then
     archive=$(realpath "$1")
-elif ! (cd "$root" && rt staticlib louvretansy > "$work/log" 2>&1); then
+elif ! python3 "$root/tests/build.py" library > "$work/log" 2>&1; then
     tail -n 20 "$work/log"
     echo "0 passed, 1 failed"
     exit 1

@@ -2148,7 +2148,7 @@ def main():
     kills = options.kills
     archive = os.path.abspath(options.archive)
     if not os.path.exists(archive):
-        sys.exit(f"FAILED: {archive} is missing; `rt staticlib louvretansy` makes it")
+        sys.exit(f"FAILED: {archive} is missing; `python3 tests/build.py library` makes it")
     with tempfile.TemporaryDirectory() as folder:
         library_file = os.environ["TIMETABLE_LIBRARY"] = make_library(folder, archive)
         library = Library(library_file)

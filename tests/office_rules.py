@@ -717,7 +717,7 @@ def main():
         sys.exit(__doc__)
     archive = os.path.abspath(words[0]) if words else office.ARCHIVE
     if not os.path.exists(archive):
-        sys.exit(f"FAILED: {archive} is missing; `rt staticlib louvretansy` makes it")
+        sys.exit(f"FAILED: {archive} is missing; `python3 tests/build.py library` makes it")
     with tempfile.TemporaryDirectory() as folder:
         office.library_file = os.environ["TIMETABLE_LIBRARY"] = office.make_library(folder, archive)
         office.library = library = Library(office.library_file)

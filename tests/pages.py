@@ -959,7 +959,7 @@ def main():
     parser.add_argument("--pictures")
     options = parser.parse_args()
     if not os.path.exists(options.archive):
-        sys.exit(f"FAILED: {options.archive} is missing; `rt staticlib louvretansy` makes it")
+        sys.exit(f"FAILED: {options.archive} is missing; `python3 tests/build.py library` makes it")
     for tool in ("chromium", "tidy") if options.browser else ():
         if not shutil.which(tool):
             sys.exit(f"FAILED: {tool} is missing")

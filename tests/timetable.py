@@ -26,7 +26,7 @@ def arguments(description):
         sys.exit(description)
     program = os.path.abspath(words[0]) if words else os.path.join(ROOT, "target", "bin", "timetable")
     if not os.path.exists(program):
-        sys.exit(f"FAILED: {program} is missing; `rt check timetable` builds it")
+        sys.exit(f"FAILED: {program} is missing; `python3 tests/build.py program` builds it")
     return program
 
 

@@ -25,11 +25,11 @@ functions, types = set(), set()
 for path in glob.glob("crates/*/src/*.rt"):
     module = os.path.basename(path)[:-3]
     text = open(path).read()
-    for name in re.findall(r"(?m)^\s*(?:#\[no_mangle\] )?(?:pub(?:\(crate\))? )?(?:extern \"C\" )?fn (\w+)", text):
+    for name in re.findall(r"(?m)^\s*(?:pub(?:\(crate\))? )?(?:extern \"C\" )?fn (\w+)", text):
         functions.update((name, module + "::" + name))
     types.update(re.findall(r"(?m)^\s*(?:pub(?:\(crate\))? )?(?:enum|struct|const) (\w+)", text))
     types.update(re.findall(r"(?m)^    ([A-Z]\w*)\b", text))
-edits = {path.split("/")[1] + "/" + os.path.basename(path)[:-5] for path in glob.glob("crates/*/edits/*.edit")}
+edits = {path.split("/")[1] + "/" + os.path.basename(path)[:-5] for folder in ("edits", "must-fail") for path in glob.glob("crates/*/%s/*.edit" % folder)}
 crates = {os.path.basename(path) for path in glob.glob("crates/*")}
 
 # the most lines of definitions to be believed; 1,700 until card 3, whose own definitions have 49, and since then the table of the forms counts too; 1,800 until card 7,
@@ -144,23 +144,23 @@ for name in PAGES:
         if not re.search(r"(?m)^\[%s\]: " % re.escape(word), text):
             wrong.append("%s: [%s] leads nowhere" % (name, word))
 
-# docs/MODEL.md's tables of the forms: the stage of each is that of its row in `layout`, and the numbers that it may be refused with are those of `rowsBy`.
+# docs/MODEL.md's tables of the forms: the stage of each is that of its row in `layout`, and the numbers that it may be refused with are those of `rows_by`.
 model = open("docs/MODEL.md").read()
 conditions = open("crates/lines/specs/Conditions.antt").read()
-stages = {form: stage for stage, form in re.findall(r'(?m)^layout word\.\w+ = row stage(\w) \(bytes "(\w+)"\)', open("crates/forms/specs/Layout.antt").read())}
+stages = {form: stage.upper() for stage, form in re.findall(r'(?m)^layout word\.\w+ = row stage_(\w) \(bytes "(\w+)"\)', open("crates/forms/specs/Layout.antt").read())}
 
 
 def numbers(body):
     """The numbers of rows, in order, each once; rows that are named are those of their definition."""
     found = []
-    for number, name in re.findall(r"\((\d+),|\b(\w+Rows)\b", body):
+    for number, name in re.findall(r"\((\d+),|\b(\w+_rows)\b", body):
         for one in [int(number)] if number else numbers(re.search(r"(?ms)^  %s\b[^=:\n]*=(.*?)(?:\n\n|\Z)" % name, conditions).group(1)):
             if one not in found:
                 found.append(one)
     return found
 
 
-clauses = {form.lower(): numbers(body) for form, body in re.findall(r"(?ms)^  rowsBy word\.(\w+)[^=\n]*=(.*?)(?=^  rowsBy |\n\n)", conditions)}
+clauses = {form.lower(): numbers(body) for form, body in re.findall(r"(?ms)^  rows_by word\.(\w+)[^=\n]*=(.*?)(?=^  rows_by |\n\n)", conditions)}
 told = {form: [int(one) for one in said.split(", ")] for names, said in re.findall(r"(?m)^\| ((?:`\w+`(?:, )?)+) \| ([\d, ]+) \|$", model) for form in re.findall(r"\w+", names)}
 staged = {form: stage for stage, form in re.findall(r"(?m)^\| ([A-E]) \| `\((\w+)", model)}
 for form in stages:
@@ -171,7 +171,7 @@ if not stages or set(stages) != set(staged) or set(stages) != set(told):
     wrong.append("docs/MODEL.md: other forms than `layout` has")
 
 # The picture of the crates has each of them, and its arrows lead, in one step or more, to all that each rests on and to nothing else.
-rests = {name: [one for one in names.split() if one in crates] for name, names in re.findall(r"(?m)^(\w+):(.*)$", open("crates.txt").read())}
+rests = {name: [one for one in names.split() if one in crates] for name, names in re.findall(r"(?m)^(\w+)(?: staticlib)?:(.*)$", open("crates.txt").read())}
 picture = open("docs/house.svg").read()
 drawn = re.findall(r'font-weight="bold">([^<]+)<', picture)
 arrows = re.findall(r'data-from="(\w+)" data-to="(\w+)"', picture)

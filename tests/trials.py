@@ -1,4 +1,4 @@
-"""The functions of crate `trials` for Python: builds its archive into a shared object and calls it. Tables, policies and trees as Python values.
+"""The functions of crate `trials` for Python: builds the archive of `trials_c` into a shared object and calls it. Tables, policies and trees as Python values.
 
 A tree is (label, [trees]). A table is the bytes of document 01; a policy those of docs/FORMAT.md.
 """
@@ -9,6 +9,8 @@ import shutil
 import subprocess
 import sys
 import tempfile
+
+import build
 
 ROOT = os.path.dirname(os.path.dirname(os.path.abspath(__file__)))
 LABEL_BYTES, RECORD_BYTES = 24, 32
@@ -26,25 +28,15 @@ def need(tool, package):
     return path
 
 
-def archive():
-    """The archive of crate `trials`, built by `rt`."""
-    need("rt", "(none: rt comes with the Rattle kit)")
-    made = subprocess.run(["rt", "staticlib", "trials"], cwd=ROOT, capture_output=True, text=True)
-    path = os.path.join(ROOT, "target", "staticlib", "libtrials.a")
-    if made.returncode != 0 or not os.path.exists(path):
-        sys.exit("FAILED: rt staticlib trials:\n" + made.stdout + made.stderr)
-    return path
-
-
 class Trials:
     """The functions of the archive. Bytes are lent as a pointer and a length."""
 
     def __init__(self):
         gcc = need("gcc", "gcc")
-        path = archive()
+        build.build(["trials"])
         with tempfile.TemporaryDirectory() as folder:
             shared = os.path.join(folder, "trials.so")
-            subprocess.run([gcc, "-shared", "-o", shared, "-Wl,--whole-archive", path, "-Wl,--no-whole-archive"], check=True)
+            subprocess.run([gcc, "-shared", "-o", shared, "-Wl,--whole-archive", build.TRIALS, "-Wl,--no-whole-archive"], check=True)
             self.library = ctypes.CDLL(shared)
         for name in ("path", "table", "policy", "rights", "select", "word"):
             getattr(self.library, "trial_" + name).restype = ctypes.c_int64

@@ -1,6 +1,6 @@
 #!/usr/bin/env python3
 """vectors.py [PROGRAM]: runs the program on each list of lines in tests/vectors, NAME.in, and compares what it writes with NAME.out,
-byte for byte. The lists in card-KK use what card KK of document 02 brings. The default is the program that `rt check timetable` builds.
+byte for byte. The lists in card-KK use what card KK of document 02 brings. The default is the program that `python3 tests/build.py program` builds.
 """
 
 import os

@@ -1,5 +1,5 @@
 //! Links liblouvretansy.a: the one that `LOUVRETANSY_ARCHIVE` names; or target/staticlib of the repository, where
-//! `rt staticlib louvretansy` writes it; or the one that is installed, which pkg-config knows. Where there is none
+//! `make lib` writes it; or the one that is installed, which pkg-config knows. Where there is none
 //! `cargo check` and `cargo doc` do without it, and what must be linked fails.
 
 use std::env;
@@ -49,7 +49,7 @@ fn main() {
             println!("cargo:rustc-link-search=native={}", archive.parent().expect("a file has a folder").display());
         }
         None => println!(
-            "cargo:warning=there is no {ARCHIVE} to link with: `rt staticlib louvretansy` in the repository writes it, \
+            "cargo:warning=there is no {ARCHIVE} to link with: `make lib` in the repository writes it, \
              `make install` installs it, {VARIABLE} names it"
         ),
     }

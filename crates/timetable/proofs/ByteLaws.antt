@@ -3,17 +3,17 @@ use Prim.Native.Nat.{ℕ, suc, ◌+◌, ◌-◌, ◌≤◌, ◌<◌}
 use mathlib.Core.Path.{◌≡◌, refl, sym, ap, ◌∙◌}
 use mathlib.Core.Bool.{Bool, true, false, cond}
 use mathlib.Core.List.{List, [], ◌∷◌, ◌++◌, append_assoc, append-nil}
-use mathlib.Core.Logic.{◌⊎◌, inl, inr}
+use mathlib.Core.Logic.{inl, inr}
 use native.Mathlib.Omega.{arith}
 use native.Mathlib.Numerals.{add-one}
 use borrow.Author.Tests.{eq-eqb, ne_eqb, leb-true, leb-false, le-leb, lt-leb, lt-ltb, le-ltb}
-use lib.Dec.{leb, ltb, eqb}
+use lib.Dec.{leb}
 use lib.ListN.{length, get_or, take, drop, set, length-append, length-set}
 use lib.Seq.{take_all, take_at, take-suc, take-suc-set, length-take-le}
 use Rattle.rights.proofs.ListLaws.{by_case}
 use Rattle.lines.specs.Outcome.{Outcome}
 use Rattle.timetable.specs.Program.{input_max, line_feed, empty_state, empty_table, printed}
-use Rattle.timetable.specs.How.Run.{Line, short, too_long, longer, ended, line_in, Prints, Run, run_in, answered, overflow, room_made, byte_taken, byte_hands, chunk_taken, Stops, TakesChunk, written, chunks_taken, joined, ReadsAll, start}
+use Rattle.timetable.specs.How.Run.{Line, short, ended, line_in, Prints, Run, run_in, overflow, byte_taken, byte_hands, chunk_taken, TakesChunk, written, chunks_taken, joined, ReadsAll, start}
 
 -- what was put behind the bytes that wait, waits with them
 put_whole : (o : Outcome) (out : List ℕ) (held w : ℕ) {s' t' out' : List ℕ} → held ≤ length out → Prints o held out w s' t' out'
@@ -30,6 +30,9 @@ put_whole o out held w {s'} {t'} {out'} h p =
 pub put_alone : (o : Outcome) (out : List ℕ) (w : ℕ) {s' t' out' : List ℕ} → Prints o 0 out w s' t' out'
     → take (length (take 0 out ++ printed o.reply)) out' ≡ take 0 out ++ printed o.reply
 put_alone o out w p = let q = put_whole o out 0 w (omega arith) p in rw q.0 q.1
+
+pub put_ends : (o : Outcome) (out : List ℕ) (w : ℕ) {s' t' out' : List ℕ} → Prints o 0 out w s' t' out' → take w out' ≡ take 0 out ++ printed o.reply
+put_ends o out w p = (put_whole o out 0 w (omega arith) p).1
 
 -- where room is made
 room_kept : (whole out' : List ℕ) (w h : ℕ) → length whole ≡ w → take w out' ≡ whole → h ≡ cond (leb w 65536) w 0 → take h out' ≡ cond (leb (length whole) 65536) whole []
@@ -59,6 +62,14 @@ module _ (s t buffer out : List ℕ) (used held b w u h : ℕ) (open' : Bool) {s
       (λ e.
       let k : take held out ++ printed (ended s t (line_in buffer used) 65536).reply ≡ [] = rw (eq-eqb b line_feed feed, q.0, e) at z in
       absurd (omega (arith, leb-false w 65536 e, q.0, ap length k)))
+
+  pub feed_hands : byte_hands (run_in s t buffer used out held) b ≡ overflow (take w out')
+  unfolding byte_hands
+  feed_hands = let q = put_whole (ended s t (line_in buffer used) 65536) out held w within p in rw (eq-eqb b line_feed feed, q.1)
+
+pub other_hands : (m : Run) (b : ℕ) → (b ≡ line_feed → ⊥) → byte_hands m b ≡ []
+unfolding byte_hands
+other_hands m b other = rw (ne_eqb b line_feed other)
 
 -- Any other byte: the line has one more, or is too long.
 module _ (s t buffer out : List ℕ) (used held b : ℕ) (other : b ≡ line_feed → ⊥) (size : length buffer ≡ 1024) where
@@ -123,6 +134,9 @@ pub record ReadSoFar (m m' : Run) (left : ℕ) : Type 0 where
 pub read_none : (s t buffer out : List ℕ) → s ≡ empty_state → t ≡ empty_table → ReadSoFar start (run_in s t buffer 0 out 0) input_max
 unfolding chunks_taken joined
 read_none s t buffer out p q = record { chunks = []; brought = omega arith; is = rw (p, q, line_new buffer 0 refl) }
+
+pub run_new : (s t buffer out : List ℕ) → s ≡ empty_state → t ≡ empty_table → run_in s t buffer 0 out 0 ≡ start
+run_new s t buffer out p q = rw (p, q, line_new buffer 0 refl)
 
 chunks_snoc : (m : Run) (cs : List (List ℕ)) (c : List ℕ) → chunks_taken m (cs ++ (c ∷ [])) ≡ written (chunk_taken (chunks_taken m cs) c)
 unfolding chunks_taken

@@ -3,3 +3,4 @@ pub mod ByteLaws
 pub mod ProgramLaws
 pub mod ProgramRefusals
 pub mod LinesLaws
+pub mod StreamLaws

@@ -64,7 +64,7 @@ replies_refuse : (s t : List ℕ) → Good s t → (lines : List (List ℕ)) (n 
 unfolding replies_from
 replies_refuse s t g [] n m = absurd (Memᴰ.not-nil m)
 replies_refuse s t g (line ∷ lines) n m =
-    ⊎_elim (λ e. outcome_refuses s t line g n (sym e)) (λ k. replies_refuse _ _ (outcome_good s t line g) lines n k) (Memᴰ.cases_cons m)
+    ⊎_elim (λ e. outcome_refuses s t line g n (sym e)) (λ k. replies_refuse (outcome_of s t line).state (outcome_of s t line).table (outcome_good s t line g) lines n k) (Memᴰ.cases_cons m)
 
 -- A line that is too long is no case of its own: from a store that passes, `step` refuses it as the program does.
 pub long_lines_stepped : (s t line : List ℕ) → store_ok s t ≡ true → outcome_of s t line ≡ step s t line area_bytes

@@ -1,16 +1,20 @@
 #![tactic(auto)]
 // The program (document 01, "Lines", "What is written"): reads lines from standard input, and writes the answer to each to standard output, or `(refused N)`.
 // It ends at the end of the input, at its limit, and where standard input or standard output is closed or fails.
-ghost use Rattle.std.specs.Prelude.{◌≡◌, ◌≤◌, true, cond, [], ◌⊎◌, leb, length, take};
+ghost use Rattle.std.specs.Prelude.{◌≡◌, ◌≤◌, ◌<◌, true, cond, [], ◌⊎◌, leb, length, take, min, IfOk};
+ghost use Rattle.std.specs.Io.KnownBytes.{ReadConsumes};
 ghost use Rattle.store.specs.Line.{step};
 ghost use Rattle.timetable.specs.Program.{empty_state, empty_table};
 ghost use Rattle.timetable.specs.How.Run.{Prints, TakesChunk, ReadsAll, RunsAll, ended, line_in};
-ghost use Rattle.timetable.specs.How.Run.{run_in, byte_taken, byte_hands, chunk_taken, written, start};
+ghost use Rattle.timetable.specs.How.Run.{run_in, byte_taken, byte_hands, overflow, handed, chunk_taken, written, start};
+ghost use Rattle.timetable.specs.Streams.{Writes, Reads, Answers, AnswersWhole};
+ghost use Rattle.timetable.specs.How.Bytes.{Turned, LinesRead};
 
 use answers::answer::answer_refused;
 use forms::limits::LINE_MAX;
 use lines::line::Answer;
 use lines::refusals::BAD_LINE;
+use std::io;
 use std::io::{Read, Write};
 use store::line::line;
 
@@ -29,15 +33,33 @@ struct Progress {
     open: bool,
 }
 
-// The bytes that the line has after a read, and the bytes that were read: 0 at the end.
+// The bytes that the line has after a read, and the bytes that were read: 0 at the end. Whether the input could be read, and standard output took every answer.
 #[derive(Clone, Copy)]
 struct Turn {
     used: usize,
     got: usize,
+    heard: bool,
+    open: bool,
+}
+
+// The same after the last read.
+#[derive(Clone, Copy)]
+struct LastLine {
+    used: usize,
+    heard: bool,
+    open: bool,
+}
+
+// Whether the input could be read to its end or its limit, and standard output took every answer.
+#[derive(Clone, Copy)]
+struct Finish {
+    heard: bool,
+    open: bool,
 }
 
 fn least(a: usize, b: usize) -> usize
-    ensures { (result ≤ a) × (result ≤ b) }
+    ensures bounds { (result ≤ a) × (result ≤ b) }
+    ensures value { result ≡ min a b }
 {
     if a < b { a } else { b }
 }
@@ -45,6 +67,7 @@ fn least(a: usize, b: usize) -> usize
 // Writes the first `held` bytes; whether the output took them all. It ends at the first write that takes nothing or fails.
 fn write_held<W: Write>(output: &mut W, out: &[u8], held: usize) -> bool
     requires { held ≤ length out.now }
+    ensures { Writes (W.contents output.old) (W.contents output.new) (take held out.now) result }
 {
     let mut done = 0;
     while done < held {
@@ -108,7 +131,8 @@ fn hold_answer(
 // Writes what waits where the next answer might not fit behind it. A new line begins.
 fn make_room<W: Write>(output: &mut W, out: &[u8], held: usize) -> Progress
     requires { held ≤ length out.now }
-    ensures { (result.used ≡ 0) × (result.held ≡ cond (leb held 65536) held 0) × (leb held 65536 ≡ true → result.open ≡ true) }
+    ensures room { (result.used ≡ 0) × (result.held ≡ cond (leb held 65536) held 0) × (leb held 65536 ≡ true → result.open ≡ true) }
+    ensures writes { Writes (W.contents output.old) (W.contents output.new) (overflow (take held out.now)) result.open }
 {
     if held <= AREA_BYTES {
         return Progress {
@@ -137,10 +161,12 @@ fn take_byte<W: Write>(
     b: u8,
 ) -> Progress
     requires { (length buffer.old ≡ 1024) × (used ≤ 1025) × (length out.old ≡ 131072) × (held ≤ 65536) }
-    ensures { (result.used ≤ 1025) × (result.held ≤ 65536)
+    ensures run { (result.used ≤ 1025) × (result.held ≤ 65536)
         × (run_in state.new table.new buffer.new result.used out.new result.held
         ≡ byte_taken (run_in state.old table.old buffer.old used out.old held) b)
         × (byte_hands (run_in state.old table.old buffer.old used out.old held) b ≡ [] → result.open ≡ true) }
+    ensures writes { Writes (W.contents output.old) (W.contents output.new)
+        (byte_hands (run_in state.old table.old buffer.old used out.old held) b) result.open }
 {
     if b == b'\n' {
         let waiting = hold_answer(state, table, &buffer[..], used, out, held);
@@ -172,9 +198,11 @@ fn take_chunk<W: Write>(
     chunk: &[u8],
 ) -> Progress
     requires { (length buffer.old ≡ 1024) × (from ≤ 1025) × (length out.old ≡ 131072) }
-    ensures { (result.used ≤ 1025) × (result.held ≤ 65536)
+    ensures run { (result.used ≤ 1025) × (result.held ≤ 65536)
         × TakesChunk (run_in state.old table.old buffer.old from out.old 0) chunk.now
         (run_in state.new table.new buffer.new result.used out.new result.held) result.open }
+    ensures writes { Writes (W.contents output.old) (W.contents output.new)
+        (handed (run_in state.old table.old buffer.old from out.old 0) chunk.now) result.open }
 {
     let mut used = from;
     let mut held = 0;
@@ -196,22 +224,24 @@ fn take_chunk<W: Write>(
     }
 }
 
-// Reads once; how many bytes came, 0 at the end of the input and where the read fails.
-fn read_once<R: Read>(input: &mut R, part: &mut [u8]) -> usize
-    ensures { result ≤ length part.new }
+// Reads once; how many bytes came, 0 at the end of the input.
+fn read_once<R: Read>(input: &mut R, part: &mut [u8]) -> io::Result<usize>
+    ensures bound { IfOk result (λ n. n ≤ length part.new) }
+    ensures bytes { ReadConsumes (R.remaining input.old) (R.remaining input.new) result part.new }
 {
-    input.read(part).unwrap_or(0)
+    input.read(part)
 }
 
 // The same, of at most `most` bytes.
-fn read_chunk<R: Read>(input: &mut R, chunk: &mut [u8], most: usize) -> usize
-    ensures { (result ≤ most) × (result ≤ length chunk.new) }
+fn read_chunk<R: Read>(input: &mut R, chunk: &mut [u8], most: usize) -> io::Result<usize>
+    ensures bound { IfOk result (λ n. (n ≤ most) × (n ≤ length chunk.new)) }
+    ensures bytes { Reads (R.remaining input.old) (R.remaining input.new) result most chunk.new }
 {
     let n = least(most, chunk.len());
     read_once(input, &mut chunk[0..n])
 }
 
-// Reads at most `left` bytes, and writes the answers to the lines that end in them. Where standard output fails, all ends: no byte read, and no line begun.
+// Reads at most `left` bytes, and writes the answers to the lines that end in them. A failed read is the end. Where standard output fails, all ends: no byte read, and no line begun.
 fn read_turn<R: Read, W: Write>(
     input: &mut R,
     output: &mut W,
@@ -224,20 +254,42 @@ fn read_turn<R: Read, W: Write>(
     left: usize,
 ) -> Turn
     requires { (length buffer.old ≡ 1024) × (used ≤ 1025) × (length out.old ≡ 131072) }
-    ensures { (result.used ≤ 1025) × (result.got ≤ left) × (result.got ≤ length chunk.new)
+    ensures run { (result.used ≤ 1025) × (result.got ≤ left) × (result.got ≤ length chunk.new)
         × (((result.used ≡ 0) × (result.got ≡ 0))
         ⊎ (run_in state.new table.new buffer.new result.used out.new 0
         ≡ written (chunk_taken (run_in state.old table.old buffer.old used out.old 0)
         (take result.got chunk.new)))) }
+    ensures bytes { Turned (run_in state.old table.old buffer.old used out.old 0)
+        (run_in state.new table.new buffer.new result.used out.new 0)
+        (R.remaining input.old) (R.remaining input.new)
+        (W.contents output.old) (W.contents output.new)
+        left (length chunk.old) result.used result.got result.heard result.open }
 {
-    let got = read_chunk(input, chunk, left);
+    let Ok(got) = read_chunk(input, chunk, left) else {
+        return Turn {
+            used,
+            got: 0,
+            heard: false,
+            open: true,
+        };
+    };
     let p = take_chunk(output, state, table, buffer, used, out, &chunk[0..got]);
     if p.open {
         if write_held(output, &out[..], p.held) {
-            return Turn { used: p.used, got };
+            return Turn {
+                used: p.used,
+                got,
+                heard: true,
+                open: true,
+            };
         }
     }
-    Turn { used: 0, got: 0 }
+    Turn {
+        used: 0,
+        got: 0,
+        heard: false,
+        open: false,
+    }
 }
 
 // Reads to the end of the input or to its limit, and answers every line that has its line feed; how many bytes the last one has, which lacks it.
@@ -249,9 +301,13 @@ fn read_lines<R: Read, W: Write>(
     buffer: &mut [u8],
     out: &mut [u8],
     chunk: &mut [u8],
-) -> usize
+) -> LastLine
     requires { (state.old ≡ empty_state) × (table.old ≡ empty_table) × (length buffer.old ≡ 1024) × (length out.old ≡ 131072) }
-    ensures { ReadsAll start (run_in state.new table.new buffer.new result out.new 0) result }
+    ensures run { ReadsAll start (run_in state.new table.new buffer.new result.used out.new 0) result.used }
+    ensures bytes { LinesRead (run_in state.new table.new buffer.new result.used out.new 0)
+        (R.remaining input.old) (R.remaining input.new)
+        (W.contents output.old) (W.contents output.new)
+        (length chunk.old) result.used result.heard result.open }
 {
     let mut used: usize = 0;
     let mut left: usize = INPUT_MAX;
@@ -259,11 +315,19 @@ fn read_lines<R: Read, W: Write>(
         let t = read_turn(input, output, state, table, buffer, used, out, chunk, left);
         used = t.used;
         if t.got == 0 {
-            return used;
+            return LastLine {
+                used,
+                heard: t.heard,
+                open: t.open,
+            };
         }
         left -= t.got;
     }
-    used
+    LastLine {
+        used,
+        heard: true,
+        open: true,
+    }
 }
 
 // "a last line that is not empty may lack its line feed"
@@ -275,14 +339,31 @@ fn run<R: Read, W: Write>(
     buffer: &mut [u8],
     out: &mut [u8],
     chunk: &mut [u8],
-)
+) -> Finish
     requires { (state.old ≡ empty_state) × (table.old ≡ empty_table) × (length buffer.old ≡ 1024) × (length out.old ≡ 131072) }
-    ensures { RunsAll out.new }
+    ensures run { RunsAll out.new }
+
+    // What was read is answered, as far as the output took the answers.
+    ensures answers { Answers (R.remaining input.old) (R.remaining input.new)
+        (W.contents output.old) (W.contents output.new) result.open }
+
+    // An input that could be read to its end has its answers in an output that took them.
+    ensures whole { 0 < length chunk.old → result.heard ≡ true → result.open ≡ true
+        → AnswersWhole (R.remaining input.old) (W.contents output.old) (W.contents output.new) }
 {
-    let used = read_lines(input, output, state, table, buffer, out, chunk);
+    let last = read_lines(input, output, state, table, buffer, out, chunk);
+    let used = last.used;
     if 0 < used {
         let held = hold_answer(state, table, &buffer[..], used, out, 0);
-        write_held(output, &out[..], held);
+        let wrote = write_held(output, &out[..], held);
+        return Finish {
+            heard: last.heard,
+            open: wrote,
+        };
+    }
+    Finish {
+        heard: last.heard,
+        open: last.open,
     }
 }
 

@@ -1,6 +1,6 @@
 #![tactic(auto)]
-// The lower crate for callers that have checked nothing: C programs, tests and benches. Each function checks all that it is lent first, and answers a
-// number: what was asked, or -1 where the bytes are no table or no policy, the subject is not declared or an area is too short.
+// The lower crate for callers that have checked nothing: C programs (by crate trials_c), tests and benches. Each function checks all that it is lent first,
+// and answers a number: what was asked, or -1 where the bytes are no table or no policy, the subject is not declared or an area is too short.
 ghost use Rattle.std.specs.Prelude.{◌≡◌};
 ghost use Rattle.rights.specs.Bytes.{all};
 ghost use Rattle.rights.specs.Table.{table_ok};
@@ -18,8 +18,7 @@ use rights::selection::select;
 use rights::table::{count_of, table_ok};
 
 // Whether s is a well-formed path: 1 or 0.
-#[unsafe(no_mangle)]
-pub extern "C" fn trial_path(s: &[u8]) -> i64
+pub fn trial_path(s: &[u8]) -> i64
     ensures { result ≡ path_code s.now }
 {
     let Read::At(_) = check_path(s) else {
@@ -29,8 +28,7 @@ pub extern "C" fn trial_path(s: &[u8]) -> i64
 }
 
 // Whether t is a table: 1 or 0.
-#[unsafe(no_mangle)]
-pub extern "C" fn trial_table(t: &[u8]) -> i64
+pub fn trial_table(t: &[u8]) -> i64
     ensures { result ≡ yes (table_ok t.now) }
 {
     if table_ok(t) {
@@ -40,8 +38,7 @@ pub extern "C" fn trial_table(t: &[u8]) -> i64
 }
 
 // Whether p is a policy: 1 or 0.
-#[unsafe(no_mangle)]
-pub extern "C" fn trial_policy(p: &[u8]) -> i64
+pub fn trial_policy(p: &[u8]) -> i64
     ensures { result ≡ yes (policy_ok p.now) }
 {
     if policy_ok(p) {
@@ -51,8 +48,7 @@ pub extern "C" fn trial_policy(p: &[u8]) -> i64
 }
 
 // Whether a label is a policy word: 1 or 0, or -1 where the bytes are no policy.
-#[unsafe(no_mangle)]
-pub extern "C" fn trial_word(policy: &[u8], label: &[u8]) -> i64
+pub fn trial_word(policy: &[u8], label: &[u8]) -> i64
     ensures { result ≡ word_code policy.now label.now }
 {
     if policy_ok(policy) {
@@ -88,8 +84,7 @@ fn may_ask_rights(policy: &[u8], u: usize, table: &[u8], room: usize) -> bool
 }
 
 // The rights of subject u on each node of a table, one byte a node in out, and the number of nodes; or -1, and out as it was.
-#[unsafe(no_mangle)]
-pub extern "C" fn trial_rights(policy: &[u8], u: usize, table: &[u8], out: &mut [u8]) -> i64
+pub fn trial_rights(policy: &[u8], u: usize, table: &[u8], out: &mut [u8]) -> i64
     ensures { RightsTried policy.now u table.now out.old out.new result }
 {
     if may_ask_rights(policy, u, table, out.len()) {
@@ -137,8 +132,7 @@ fn may_select(policy: &[u8], u: usize, table: &[u8], shown: &[u16], room: usize)
 
 // Which of the shown nodes a path selects, 1 or 0 in the first bytes of marks, and the number of shown nodes; or marks as it was, and -2 where the path
 // is not well formed, -1 where it was asked of something else than nodes of a table.
-#[unsafe(no_mangle)]
-pub extern "C" fn trial_select(
+pub fn trial_select(
     policy: &[u8],
     u: usize,
     table: &[u8],

@@ -1,7 +1,4 @@
 -- The answer stands where the call put it, or the refusal's text is put there.
-use native.Mathlib.Omega.{arith}
-use lib.ListN.{length}
-use mathlib.Core.Path.{◌≡◌}
 use Rattle.lines.proofs.OutcomeLaws.{accepted_within}
 use borrow.Author.Rules.{rules}
 use Rattle.timetable.proofs.PrintLaws.{prints_accepted, prints_refused}

@@ -1,4 +1,3 @@
-use native.Mathlib.Omega.{arith}
 use lib.ListN.{length}
 use borrow.Author.Rules.{rules}
 use Rattle.timetable.proofs.PrintLaws.{prints_refusal, ended_long, ended_short}

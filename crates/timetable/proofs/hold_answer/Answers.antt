@@ -1,6 +1,3 @@
-use native.Mathlib.Omega.{arith}
-use lib.ListN.{length}
-use borrow.Author.Rules.{rules}
 use Rattle.timetable.specs.How.Run.{ended, line_in}
 use Rattle.timetable.proofs.PrintLaws.{prints_behind}
 use Rattle.timetable.proofs.hold_answer.Goals as goal

@@ -1,27 +1,36 @@
-use Prim.Native.Nat.{◌≤◌}
-use mathlib.Core.Path.{◌≡◌, refl}
+use mathlib.Core.Path.{refl}
 use mathlib.Core.Logic.{⊎_elim}
-use lib.ListN.{length}
 use borrow.Author.Rules.{rules}
-use Rattle.timetable.specs.How.Run.{run_in, start}
-use Rattle.timetable.proofs.ByteLaws.{ReadSoFar, read_none, read_more, read_ended, read_all, read_shut}
+use Rattle.timetable.proofs.ByteLaws.{read_none, read_more, read_ended, read_all, read_shut, run_new}
+use Rattle.timetable.proofs.StreamLaws.{bytes_none, bytes_more, bytes_last, bytes_limit, lines_room}
 use Rattle.timetable.proofs.read_lines.Goals as goal
 
 pub loop-left-init : goal.loop-left-init
 loop-left-init g c =
-    let a = c.args in
-    (search rules, refl, refl, refl, refl, refl, read_none a.state.now a.table.now a.buffer.now a.out.now c.requires.0 c.requires.1)
+    let a = c.args in (
+      search rules,
+      refl,
+      refl,
+      refl,
+      refl,
+      refl,
+      read_none a.state.now a.table.now a.buffer.now a.out.now c.requires.0 c.requires.1,
+      bytes_none _ (run_new a.state.now a.table.now a.buffer.now a.out.now c.requires.0 c.requires.1) _ _,
+    )
 
 pub returns-then-t-eq0 : goal.returns-then-t-eq0
 returns-then-t-eq0 g c =
     let x = c.loop-left in
-    let e = c.read_turn-t.ensures in
-    ⊎_elim (λ w. read_shut x.invariant.6 _ _ w.0) (λ w. read_ended x.invariant.6 _ _ c.if-t-eq0.true w _) e.3
+    let e = c.read_turn-t.ensures.run in
+    record {
+      run = ⊎_elim (λ w. read_shut x.invariant.6 _ _ w.0) (λ w. read_ended x.invariant.6 _ _ c.if-t-eq0.true w _) e.3;
+      bytes = lines_room x.invariant.5 (bytes_last x.invariant.7 c.read_turn-t.ensures.bytes c.if-t-eq0.true c.loop-left-test.true);
+    }
 
 pub loop-left-preserved : goal.loop-left-preserved
 loop-left-preserved g c =
     let x = c.loop-left in
-    let e = c.read_turn-t.ensures in (
+    let e = c.read_turn-t.ensures.run in (
       e.0,
       search rules,
       search rules,
@@ -29,7 +38,11 @@ loop-left-preserved g c =
       search rules,
       search rules,
       ⊎_elim (λ w. absurd (c.if-t-eq0.false w.1)) (λ w. read_more x.invariant.6 _ _ e.1 e.2 w) e.3,
+      bytes_more x.invariant.7 c.read_turn-t.ensures.bytes c.if-t-eq0.false,
     )
 
 pub returns : goal.returns
-returns g c = read_all c.loop-left.invariant.6 c.loop-left-test.false _
+returns g c = record {
+  run = read_all c.loop-left.invariant.6 c.loop-left-test.false _;
+  bytes = bytes_limit c.loop-left.invariant.7 c.loop-left-test.false _ _;
+}

@@ -79,6 +79,11 @@ unfoldable pub chunk_hands : Run → List ℕ → List ℕ
 chunk_hands m [] = m.waits
 chunk_hands m (b ∷ bs) = byte_hands m b ++ chunk_hands (byte_taken m b) bs
 
+-- the same without what waits behind the chunk
+unfoldable pub handed : Run → List ℕ → List ℕ
+handed m [] = []
+handed m (b ∷ bs) = byte_hands m b ++ handed (byte_taken m b) bs
+
 -- The program after a chunk, m' being what it is then: all of it is taken; or, where `open'` is false, it stops at a byte that handed something over.
 pub record Stops (m : Run) (chunk : List ℕ) (m' : Run) : Type 0 where
   pub at : ℕ
@@ -108,6 +113,11 @@ last_hands m too_long = (line_ended m).waits
 unfoldable pub run_hands : Run → List (List ℕ) → List ℕ
 run_hands m [] = last_hands m m.line
 run_hands m (c ∷ cs) = chunk_hands m c ++ run_hands (written (chunk_taken m c)) cs
+
+-- the same before the end of the input
+unfoldable pub reads_hand : Run → List (List ℕ) → List ℕ
+reads_hand m [] = []
+reads_hand m (c ∷ cs) = chunk_hands m c ++ reads_hand (written (chunk_taken m c)) cs
 
 -- the program before its first byte
 abbrev pub start : Run
