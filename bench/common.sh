@@ -7,7 +7,7 @@ done
 work=$(mktemp -d)
 trap 'rm -rf "$work"' EXIT
 python3 "$root/tests/build.py" trials
-gcc -O2 -o "$work/driver" "$root/bench/driver.c" "$root/target/staticlib/libtrials_c.a"
+gcc -O2 -o "$work/driver" "$root/bench/driver.c" "$root/target/staticlib/libtrials.a"
 
 # callgrind counts `rep stosb` and `rep movsb` once a byte: with this the C library sets and copies by vector instructions while it counts
 no_rep=glibc.cpu.x86_rep_stosb_threshold=1000000000:glibc.cpu.x86_rep_movsb_threshold=1000000000

@@ -3,7 +3,7 @@
 
     program   target/bin/timetable
     library   target/staticlib/liblouvretansy.a
-    trials    target/staticlib/libtrials_c.a, the lower crate for tests and benches
+    trials    target/staticlib/libtrials.a, the lower crate for tests and benches
     mir       target/mir/CRATE.json: what the compiler was given of each library of the repository
 
 rt proves what has changed, and nothing is built of what is not proved. A part whose files are made from the crates as they now are is left as it is. With
@@ -21,7 +21,7 @@ ROOT = os.path.dirname(os.path.dirname(os.path.abspath(__file__)))
 TARGET = os.path.join(ROOT, "target")
 PROGRAM = os.path.join(TARGET, "bin", "timetable")
 ARCHIVE = os.path.join(TARGET, "staticlib", "liblouvretansy.a")
-TRIALS = os.path.join(TARGET, "staticlib", "libtrials_c.a")
+TRIALS = os.path.join(TARGET, "staticlib", "libtrials.a")
 MIR = os.path.join(TARGET, "mir")
 
 
