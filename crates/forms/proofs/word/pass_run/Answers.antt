@@ -63,7 +63,7 @@ loop-i-preserved c =
     let more = run-yes label_byte s i (omega arith) (sym c.label_byte.ensures ∙ c.if-not-label_byte.false) in
     let few = weighed at i w inv.0 inv.3 inv.6 c.if-weight-eq0.false in
     let is = inv.6.0 few in
-    let letter = c.shared_slice_known-in-loop-i-1.given i in
+    let letter = c.type_inv.s i in
     let sum : c.lettered-number.result ≡ text_number (take (i - at) (drop at s)) + get_or s i 0 * 256 ^ (i - at) = c.lettered-number.ensures ∙ rw (is, inv.4) in (
       omega arith,
       omega arith,

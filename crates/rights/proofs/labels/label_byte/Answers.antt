@@ -1,57 +1,51 @@
--- On each range between the tests the class is constant, or is the last test.
-use Prim.Native.Nat.{ℕ}
-use mathlib.Core.Path.{◌≡◌, refl, sym}
-use mathlib.Core.Bool.{Bool, true, false, ◌||◌, beq}
+-- Each way to a return fixes a range, over which the class is constant.
+use mathlib.Core.Bool.{true, false}
+use mathlib.Core.Logic.{⊎_elim}
 use native.Mathlib.Omega.{arith}
-use lib.Dec.{eqb}
-use borrow.Author.Tests.{ne_eqb}
 use Rattle.rights.specs.Labels.{label_byte}
-use Rattle.rights.proofs.RangeLaws.{on_range}
+use Rattle.rights.proofs.RangeLaws.{on_range, lt_or_ge}
 use Rattle.rights.proofs.labels.label_byte.Goals as goal
 
-same : (a b : Bool) → true ≡ beq a b → a ≡ b
-same true true e = refl
-same true false e = e
-same false true e = sym e
-same false false e = refl
-
-later : (a b : Bool) → a ≡ false → true ≡ a || b → true ≡ b
-later true b h e = cc
-later false b h e = e
-
-pub returns-then-b-le122 : goal.returns-then-b-le122
+pub returns-in-97-to-122 : goal.returns-in-97-to-122
 unfolding label_byte
-returns-then-b-le122 c = on_range label_byte true 97 26 tt c.args.b (omega arith) (omega arith)
+returns-in-97-to-122 c = on_range label_byte true 48 10 tt c.args.b (omega arith) (omega arith)
 
-pub returns-then-b-ge97 : goal.returns-then-b-ge97
+pub returns-in-97-to-122-2 : goal.returns-in-97-to-122-2
 unfolding label_byte
-returns-then-b-ge97 c = on_range label_byte false 123 133 tt c.args.b (omega arith) (omega arith)
+returns-in-97-to-122-2 c = on_range label_byte true 65 26 tt c.args.b (omega arith) (omega arith)
 
-pub returns-then-b-le90 : goal.returns-then-b-le90
+pub returns-in-97-to-122-3 : goal.returns-in-97-to-122-3
 unfolding label_byte
-returns-then-b-le90 c = on_range label_byte true 65 26 tt c.args.b (omega arith) (omega arith)
+returns-in-97-to-122-3 c = on_range label_byte true 97 26 tt c.args.b (omega arith) (omega arith)
 
-pub returns-then-b-ge65 : goal.returns-then-b-ge65
+pub returns-in_default : goal.returns-in_default
 unfolding label_byte
-returns-then-b-ge65 c =
-    let b : ℕ = c.args.b in
-    same (eqb b 95) (label_byte b) (on_range (λ z. beq (eqb z 95) (label_byte z)) true 91 6 tt b (omega arith) (omega arith))
+returns-in_default c = on_range label_byte false 0 45 tt c.args.b (omega arith) (omega arith)
 
-pub returns-then-b-le57 : goal.returns-then-b-le57
+pub returns-in_default-2 : goal.returns-in_default-2
 unfolding label_byte
-returns-then-b-le57 c = on_range label_byte true 48 10 tt c.args.b (omega arith) (omega arith)
+returns-in_default-2 c = on_range label_byte false 47 1 tt c.args.b (omega arith) (omega arith)
 
-pub returns-then-b-ge48 : goal.returns-then-b-ge48
+pub returns-in_default-3 : goal.returns-in_default-3
 unfolding label_byte
-returns-then-b-ge48 c = on_range label_byte false 58 7 tt c.args.b (omega arith) (omega arith)
+returns-in_default-3 c = on_range label_byte false 58 7 tt c.args.b (omega arith) (omega arith)
 
-pub returns-then-b-eq45 : goal.returns-then-b-eq45
+pub returns-in_default-4 : goal.returns-in_default-4
 unfolding label_byte
-returns-then-b-eq45 c = rw c.if-b-eq45.true
+returns-in_default-4 c =
+    ⊎_elim
+    (λ l. on_range label_byte false 91 4 tt c.args.b (omega arith) (omega arith))
+    (λ l. on_range label_byte false 96 1 tt c.args.b (omega arith) (omega arith))
+    (lt_or_ge c.args.b 95)
 
-pub returns : goal.returns
+pub returns-in_default-5 : goal.returns-in_default-5
 unfolding label_byte
-returns c =
-    let b : ℕ = c.args.b in
-    let e = on_range (λ z. eqb z 45 || beq (eqb z 46) (label_byte z)) true 0 48 tt b (omega arith) (omega arith) in
-    same (eqb b 46) (label_byte b) (later (eqb b 45) (beq (eqb b 46) (label_byte b)) (ne_eqb b 45 c.if-b-eq45.false) e)
+returns-in_default-5 c = on_range label_byte false 123 133 tt c.args.b (omega arith) (omega arith)
+
+pub returns-in-45 : goal.returns-in-45
+unfolding label_byte
+returns-in-45 c = on_range label_byte true 95 1 tt c.args.b (omega arith) (omega arith)
+
+pub returns-in-45-2 : goal.returns-in-45-2
+unfolding label_byte
+returns-in-45-2 c = on_range label_byte true 45 2 tt c.args.b (omega arith) (omega arith)

@@ -1,13 +1,9 @@
 use mathlib.Core.Bool.{and-false}
 use mathlib.Core.Path.{sym, ◌∙◌}
-use native.Mathlib.Omega.{arith}
 use borrow.Author.Tests.{lt-leb, le-leb}
 use Rattle.rights.specs.PolicyCheck.{text_ok}
 use Rattle.rights.proofs.ListLaws.{part_of, rest_of}
 use Rattle.rights.proofs.policy_check.text_ok.Goals as goal
-
-pub overflow_cast-first : goal.overflow_cast-first
-overflow_cast-first c = omega (arith, c.shared_slice_known-2-1.given 0)
 
 pub returns-then-high-first : goal.returns-then-high-first
 unfolding text_ok

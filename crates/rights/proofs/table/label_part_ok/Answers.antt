@@ -18,9 +18,6 @@ by_field : (r : List ℕ) (n : ℕ) (v : Bool) → n ≡ get_or r 1 0 → 1 ≤ 
     → v ≡ label_part_ok r
 by_field r n v e a b h = h ∙ rw (take-take n 24 (drop 2 r) b, e) (sym (label_part_yes r (omega arith) (omega arith)))
 
-pub overflow_cast-n : goal.overflow_cast-n
-overflow_cast-n c = omega (arith, c.shared_slice_known-2-1.given 1)
-
 pub returns-then-n-lt1 : goal.returns-then-n-lt1
 unfolding label_part_ok
 returns-then-n-lt1 c = simp (lt-leb _ _ c.if-n-lt1.true, and-false)

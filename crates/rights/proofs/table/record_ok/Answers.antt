@@ -1,12 +1,8 @@
 use mathlib.Core.Bool.{and-false, and-true}
 use mathlib.Core.Path.{sym, ◌∙◌}
-use native.Mathlib.Omega.{arith}
 use borrow.Author.Tests.{lt-leb, le-leb}
 use Rattle.rights.specs.Table.{record_ok}
 use Rattle.rights.proofs.table.record_ok.Goals as goal
-
-pub overflow_cast-level : goal.overflow_cast-level
-overflow_cast-level c = omega (arith, c.shared_slice_known-2-1.given 0)
 
 pub returns-then-level-low : goal.returns-then-level-low
 unfolding record_ok

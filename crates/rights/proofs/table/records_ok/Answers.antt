@@ -16,12 +16,6 @@ pub returns-then-not-record_ok : goal.returns-then-not-record_ok
 returns-then-not-record_ok c =
     sym (c.loop-i.invariant.1 ∙ ok_stop _ _ _ _ _ c.loop-i-test.true (simp part_of at (sym c.record_ok.ensures ∙ c.if-not-record_ok.true)))
 
-pub overflow_cast-high : goal.overflow_cast-high
-overflow_cast-high c = omega (arith, c.shared_slice_known-in-loop-i-1.given 0)
-
-pub overflow_add-high : goal.overflow_add-high
-overflow_add-high c = omega (arith, c.shared_slice_known-in-loop-i-1.given 0)
-
 pub loop-i-preserved : goal.loop-i-preserved
 loop-i-preserved c = (
   omega arith,
