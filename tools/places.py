@@ -9,7 +9,7 @@
 6 slices with a length beside them
 7 matches that only choose the function to call, and last lines that several functions share
 8 answers in proofs/F, and of these those that only call a search that the check makes by itself
-A place that stays has a comment `// Kept: ..` above it or above its function; these are counted apart.
+A place that stays is found again; a comment `// Kept ..` above it, above its function or its type says why.
 """
 import collections
 import glob
@@ -100,7 +100,7 @@ def point4(name, body, out):
 def main():
     wanted = [int(a) for a in sys.argv[1:] if a.isdigit()] or list(range(1, 9))
     found = collections.defaultdict(list)
-    kept = collections.defaultdict(int)
+    kept = 0
     skeletons = collections.defaultdict(list)
     groups = collections.defaultdict(set)
     facts = collections.defaultdict(set)
@@ -108,8 +108,7 @@ def main():
     for file in SOURCES:
         text = open(file, encoding="utf-8").read()
         here = file.split("/", 1)[1]
-        for m in re.finditer(r"// Kept(?: \((\d)\))?:", text):
-            kept[int(m.group(1) or 0)] += 1
+        kept += len(re.findall(r"// Kept\b", text))
         types = []
         types1(text, types)
         found[1] += [here + ": " + t for t in types]
@@ -159,9 +158,10 @@ def main():
             if re.match(r"\s*(search rules|refl|omega arith|grind arith|search \(?rules\)?)\s*$", m.group(3)):
                 found[8].append(file.split("/", 1)[1] + ": " + m.group(1))
     for point in wanted:
-        print("point %d: %d places, %d kept" % (point, len(found[point]), kept[point]))
+        print("point %d: %d places" % (point, len(found[point])))
         if "--list" in sys.argv:
             print("\n".join("  " + place for place in found[point]))
+    print("%d comments say why a place is kept" % kept)
 
 
 main()

@@ -12,7 +12,7 @@ use Rattle.rights.specs.PathText.{decimal}
 use Rattle.rights.specs.Nodes.{Node, level_of, label_of, level_at, TreeShaped}
 use Rattle.rights.specs.Marks.{keep}
 use Rattle.rights.proofs.ListLaws.{by_case}
-use Rattle.answers.specs.Answer.{done_text, hit_line, hit_lines, query_text, find_text, opening, closing, child_lines, view_text}
+use Rattle.answers.specs.Answer.{done_text, refused_text, hit_line, hit_lines, query_text, find_text, opening, closing, child_lines, view_text}
 
 -- Numbers
 
@@ -65,6 +65,15 @@ query_most ns a = simp length-append (omega (arith, hits_most ns a, digits_few 2
 pub find_most : (ns : List Node) → AllSmall ns → length (find_text ns) ≤ 12 + 35 * length ns
 find_most [] a = omega arith
 find_most (n ∷ ns) a = omega (arith, hit_most n a.0)
+
+-- `(refused N)`
+refused_digits : (k n : ℕ) → length (decimal k n) ≤ k
+unfolding decimal
+refused_digits zero n = omega arith
+refused_digits (suc k) n = by_case (ltb n 10) (λ e. rw e (omega arith)) (λ e. rw (e, length-append) (omega (arith, refused_digits k (n / 10))))
+
+pub refused_most : (n : ℕ) → length (refused_text n) < 32
+refused_most n = simp length-append (omega (arith, refused_digits 20 n))
 
 -- `(done S D)`, of nodes that are no more than k
 pub done_most : (s d k : ℕ) → s ≤ k → d ≤ k → length (done_text s d) ≤ 12 + 35 * k

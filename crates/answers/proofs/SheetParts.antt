@@ -13,7 +13,7 @@ use Rattle.rights.specs.Bytes.{bytes}
 use Rattle.rights.specs.Nodes.{node, Nodes, level_at, label_at}
 use Rattle.rights.specs.XPath.{at, children, filter, each, stretch}
 use Rattle.rights.proofs.ListLaws.{by_case}
-use Rattle.answers.specs.Sheet.{cell, nth, days, lesson, row_text, head_row, row, periods, sheet_text}
+use Rattle.answers.specs.Sheet.{cell, nth, days, labelled, lesson, row_text, head_row, row, periods, sheet_text}
 use Rattle.answers.specs.How.AnswerArea.{Puts}
 use Rattle.answers.specs.How.SheetParts.{siblings, onward, First}
 
@@ -119,6 +119,29 @@ module _ (t : Nodes) (l j : ℕ) where
       let z : k + 0 ≡ k = omega arith in
       sym (onward_first h) ∙ ap (λ (u : List ℕ). get_or u 0 (length t)) (sym e) ∙ get_or-drop k js 0 (length t) ∙ ap (λ (m : ℕ). get_or js m (length t)) z
 
+-- where there is none of that number
+pub child_missed : (t : Nodes) (l : ℕ) (js : List ℕ) (k m : ℕ) → drop k js ≡ onward t l (length t) → k ≤ m → length t ≡ nth t js m
+child_missed t l js k m e h =
+    let z : k + (m - k) ≡ m = omega arith in
+    sym (ap (λ (u : List ℕ). get_or u (m - k) (length t)) (e ∙ onward_end t l (length t) (omega arith)))
+    ∙ get_or-drop k js (m - k) (length t) ∙ ap (λ (n : ℕ). get_or js n (length t)) z
+
+-- What is missing has no children.
+
+module _ (t : Nodes) where
+  pub none_of_none : (k : ℕ) → length t ≡ nth t (children t (at (length t))) k
+  none_of_none k = rw (children-none t (length t) (omega arith))
+
+  pub none_labelled : (room : List ℕ) → length t ≡ labelled room t (length t)
+  unfolding labelled filter
+  none_labelled room = rw (children-none t (length t) (omega arith))
+
+-- A lesson is a child of a child of a child.
+pub lesson_found : (room : List ℕ) (t : Nodes) (n day period held r : ℕ)
+    → period ≡ nth t (children t (at day)) (n - 1) → held ≡ labelled room t period → r ≡ nth t (children t (at held)) 0 → r ≡ lesson room t n day
+unfolding lesson
+lesson_found room t n day period held r e f g = g ∙ ap (λ (i : ℕ). nth t (children t (at i)) 0) (f ∙ ap (labelled room t) e)
+
 -- Those that carry a label
 
 module _ (f : ℕ → Bool) (t : Nodes) (l j : ℕ) (js : List ℕ) (e : filter f js ≡ filter f (onward t l j)) where
@@ -136,14 +159,13 @@ module _ (f : ℕ → Bool) (t : Nodes) (l j : ℕ) (js : List ℕ) (e : filter 
 
 -- Texts one after the other
 
-module _ (f : ℕ → List ℕ) (xs : List ℕ) (i : ℕ) where
-  pub each_step : i < length xs → each f (drop i xs) ≡ f (get_or xs i 0) ++ each f (drop (i + 1) xs)
-  unfolding each
-  each_step h = rw (add-one i, drop-cons xs i 0)
+pub each_step : (f : ℕ → List ℕ) (xs : List ℕ) (d i : ℕ) → i < length xs → each f (drop i xs) ≡ f (get_or xs i d) ++ each f (drop (i + 1) xs)
+unfolding each
+each_step f xs d i h = rw (add-one i, drop-cons xs i d)
 
-  pub each_end : length xs ≤ i → each f (drop i xs) ≡ []
-  unfolding each
-  each_end h = rw drop_of_length-le
+pub each_end : (f : ℕ → List ℕ) (xs : List ℕ) (i : ℕ) → length xs ≤ i → each f (drop i xs) ≡ []
+unfolding each
+each_end f xs i h = rw drop_of_length-le
 
 -- Rows
 
@@ -152,10 +174,10 @@ pub row_of : (first : ℕ) (t : Nodes) (places : List ℕ)
 unfolding row_text
 row_of first t places = refl
 
-pub numbered-row : (room : List ℕ) (t : Nodes) (n first : ℕ) (places lessons : List ℕ) → places ≡ days t → lessons ≡ map (lesson room t n) places → n < 10 → first ≡ 48 + n % 10
+pub numbered-row : (room : List ℕ) (t : Nodes) (n first : ℕ) (lessons : List ℕ) → lessons ≡ map (lesson room t n) (days t) → n < 10 → first ≡ 48 + n % 10
     → row_text first t lessons ≡ row room t n
 unfolding row
-numbered-row room t n first places lessons e q h d = let z : first ≡ 48 + n = omega arith in rw (q, e, z)
+numbered-row room t n first lessons q h d = let z : first ≡ 48 + n = omega arith in rw (q, z)
 
 period-number : (i : ℕ) → i < 8 → get_or periods i 0 ≡ i + 1
 period-number zero h = refl
@@ -169,7 +191,7 @@ period-number (suc (suc (suc (suc (suc (suc (suc zero))))))) h = refl
 period-number (suc (suc (suc (suc (suc (suc (suc (suc i)))))))) h = absurd (omega arith)
 
 pub rows_step : (f : ℕ → List ℕ) (i : ℕ) → i < 8 → each f (drop i periods) ≡ f (i + 1) ++ each f (drop (i + 1) periods)
-rows_step f i h = each_step f periods i h ∙ ap (λ (n : ℕ). f n ++ each f (drop (i + 1) periods)) (period-number i h)
+rows_step f i h = each_step f periods 0 i h ∙ ap (λ (n : ℕ). f n ++ each f (drop (i + 1) periods)) (period-number i h)
 
 pub rows_end : (f : ℕ → List ℕ) (i : ℕ) → 8 ≤ i → each f (drop i periods) ≡ []
 rows_end f i h = each_end f periods i h
@@ -178,13 +200,10 @@ pub sheet_of : (room : List ℕ) (t : Nodes) (places : List ℕ) → places ≡ 
 unfolding sheet_text head_row
 sheet_of room t places e = rw e
 
--- five elements, one by one
-pub map_five : (f : ℕ → ℕ) (xs : List ℕ) → length xs ≡ 5
-    → f (get_or xs 0 0) ∷ f (get_or xs 1 0) ∷ f (get_or xs 2 0) ∷ f (get_or xs 3 0) ∷ f (get_or xs 4 0) ∷ [] ≡ map f xs
-map_five f [] h = absurd (omega arith)
-map_five f (a ∷ []) h = absurd (omega arith)
-map_five f (a ∷ b ∷ []) h = absurd (omega arith)
-map_five f (a ∷ b ∷ c ∷ []) h = absurd (omega arith)
-map_five f (a ∷ b ∷ c ∷ d ∷ []) h = absurd (omega arith)
-map_five f (a ∷ b ∷ c ∷ d ∷ e ∷ []) h = refl
-map_five f (a ∷ b ∷ c ∷ d ∷ e ∷ x ∷ xs) h = absurd (omega arith)
+-- lists that are alike place by place
+pub map_alike : {A B C : Type 0} (f : A → C) (g : B → C) (xs : List A) (ys : List B) (d : A) (e : B) → length xs ≡ length ys
+    → ((i : ℕ) → i < length ys → f (get_or xs i d) ≡ g (get_or ys i e)) → map f xs ≡ map g ys
+map_alike f g [] [] d e n h = refl
+map_alike f g [] (y ∷ ys) d e n h = absurd (omega arith)
+map_alike f g (x ∷ xs) [] d e n h = absurd (omega arith)
+map_alike f g (x ∷ xs) (y ∷ ys) d e n h = rw (h 0 (omega arith), map_alike f g xs ys d e (omega arith) (λ i l. h (suc i) (omega arith)))

@@ -1,20 +1,23 @@
 // The sheet for a room's door (document 02, card 3), put into the lent area.
 // The time is in proportion to the nodes: five passes find the days; each row goes once more through each day's stretch, and through no other.
 ghost use Rattle.std.specs.Prelude.{◌≡◌, ◌+◌, ◌^◌, ◌≤◌, ◌<◌, map, length};
+ghost use Rattle.std.specs.List.{All};
 ghost use Rattle.rights.specs.Nodes.{label_at};
 ghost use Rattle.rights.specs.XPath.{at, children, each};
-ghost use Rattle.rights.specs.How.Numbers.{view_of, Fits};
+ghost use Rattle.rights.specs.How.Seen.{nodes_in};
 ghost use Rattle.answers.specs.Sheet.{cell, nth, days, carries, labelled, lesson, row_text, row, periods, sheet_text};
 ghost use Rattle.answers.specs.How.AnswerArea.{Puts, Answered};
-ghost use Rattle.answers.specs.How.SheetParts.{First};
+ghost use Rattle.answers.specs.How.SheetParts.{First, place, Inside};
 
 use crate::answer::{digit, put_byte, put_bytes, put_label};
 use rights::labels::same_label;
 use rights::limits::LABEL_MAX;
-use rights::nodes::level_at;
+use rights::nodes::Shown;
 
 // Nine rows of 72 bytes and a line feed.
 const SHEET_BYTES: usize = 657;
+
+const DAYS: usize = 5;
 
 const PERIODS: usize = 8;
 
@@ -22,134 +25,127 @@ const PERIODS: usize = 8;
 const CELL_BYTES: usize = 13;
 
 // Whether shown node i carries the label `room`.
-fn is_labelled(table: &[u8], shown: &[u16], i: usize, room: &[u8]) -> bool
-    requires { (Fits table.now shown.now) × (i < length shown.now) }
-    ensures { result ≡ carries room.now (view_of table.now shown.now) i }
+fn is_labelled(shown: &Shown, i: usize, room: &[u8]) -> bool
+    requires { i < length shown.now.numbers.now }
+    ensures { result ≡ carries room.now (nodes_in shown.now) i }
 {
     let mut label = [0u8; LABEL_MAX];
-    let n = put_label(&mut label, 0, table, shown, i);
-    same_label(&label, 0, n, room, 0, room.len())
+    let n = put_label(&mut label, 0, shown, i);
+    same_label(&label[..n], room)
 }
 
-// The first node of level l from place i on, before a node of a level under l; where there is none, the place after the last node.
-fn child_from(table: &[u8], shown: &[u16], l: usize, i: usize) -> usize
-    requires { Fits table.now shown.now }
-    ensures { First (view_of table.now shown.now) l i result }
+// The first node of level l from place i on, before a node of a level under l.
+fn child_from(shown: &Shown, l: usize, i: usize) -> Option<usize>
+    ensures first { First (nodes_in shown.now) l i (place (nodes_in shown.now) result) }
+    ensures inside { Inside (nodes_in shown.now) result }
 {
-    let mut j = i;
-    while j < shown.len() {
-        let level = level_at(table, shown, j);
+    for j in i..shown.len() {
+        let level = shown.level(j);
         if level < l {
-            return shown.len();
+            return None;
         }
         if level == l {
-            return j;
+            return Some(j);
         }
-        j += 1;
     }
-    shown.len()
+    None
 }
 
-// The child of node i that k others stand before; where there is none, the place after the last node. So below.
-fn nth_child(table: &[u8], shown: &[u16], i: usize, k: usize) -> usize
-    requires { Fits table.now shown.now }
-    ensures { (result ≡ nth (view_of table.now shown.now)
-        (children (view_of table.now shown.now) (at i)) k) × (result ≤ length shown.now) }
+// The child of node i that k others stand before.
+fn nth_child(shown: &Shown, i: usize, k: usize) -> Option<usize>
+    ensures nth { place (nodes_in shown.now) result
+        ≡ nth (nodes_in shown.now) (children (nodes_in shown.now) (at i)) k }
+    ensures inside { Inside (nodes_in shown.now) result }
 {
     if shown.len() <= i {
-        return shown.len();
+        return None;
     }
-    let l = level_at(table, shown, i) + 1;
-    let mut j = child_from(table, shown, l, i + 1);
-    let mut passed = 0;
-    while passed < k {
-        j = child_from(table, shown, l, j + 1);
-        passed += 1;
+    let l = shown.level(i) + 1;
+    let mut j = child_from(shown, l, i + 1)?;
+    for _passed in 0..k {
+        j = child_from(shown, l, j + 1)?;
     }
-    j
+    Some(j)
 }
 
 // The first child of node i that carries the label `room`.
-fn labelled_child(table: &[u8], shown: &[u16], i: usize, room: &[u8]) -> usize
-    requires { Fits table.now shown.now }
-    ensures { (result ≡ labelled room.now (view_of table.now shown.now) i) × (result ≤ length shown.now) }
+fn labelled_child(shown: &Shown, i: usize, room: &[u8]) -> Option<usize>
+    requires { i < length shown.now.numbers.now }
+    ensures first { place (nodes_in shown.now) result ≡ labelled room.now (nodes_in shown.now) i }
+    ensures inside { Inside (nodes_in shown.now) result }
 {
-    if shown.len() <= i {
-        return shown.len();
-    }
-    let l = level_at(table, shown, i) + 1;
-    let mut j = child_from(table, shown, l, i + 1);
-    while j < shown.len() {
-        if is_labelled(table, shown, j, room) {
-            return j;
+    let l = shown.level(i) + 1;
+    let mut next = child_from(shown, l, i + 1);
+    while let Some(j) = next {
+        if is_labelled(shown, j, room) {
+            return Some(j);
         }
-        j = child_from(table, shown, l, j + 1);
+        next = child_from(shown, l, j + 1);
     }
-    shown.len()
+    None
 }
 
-// Puts the cell that holds the label of shown node i, blank where i is the place after the last node.
-fn put_cell(area: &mut [u8], at: usize, table: &[u8], shown: &[u16], i: usize) -> usize
-    requires { (Fits table.now shown.now) × (at < 2 ^ 62) }
-    ensures { (Puts (cell (label_at (view_of table.now shown.now) i)) at area.old area.new result)
+// Puts the cell that holds the label of a shown node, blank where there is none.
+fn put_cell(area: &mut [u8], at: usize, shown: &Shown, node: Option<usize>) -> usize
+    requires { Inside (nodes_in shown.now) node × (at < 2 ^ 62) }
+    ensures { (Puts (cell (label_at (nodes_in shown.now) (place (nodes_in shown.now) node))) at
+        area.old area.new result)
         × (result ≡ at + 14) }
 {
-    if shown.len() <= i {
+    let Some(i) = node else {
         return put_bytes(area, at, b"             |");
-    }
+    };
     let mut filled = [b' '; LABEL_MAX];
-    put_label(&mut filled, 0, table, shown, i);
+    put_label(&mut filled, 0, shown, i);
     let next = put_bytes(area, at, &filled[0..CELL_BYTES]);
     put_byte(area, next, b'|')
 }
 
 // The first child of the first child labelled `room` of the day's n-th child.
-fn find_lesson(table: &[u8], shown: &[u16], room: &[u8], n: usize, day: usize) -> usize
-    requires { (Fits table.now shown.now) × (1 ≤ n) }
-    ensures { result ≡ lesson room.now (view_of table.now shown.now) n day }
+fn find_lesson(shown: &Shown, room: &[u8], n: usize, day: Option<usize>) -> Option<usize>
+    requires { 1 ≤ n }
+    ensures first { place (nodes_in shown.now) result
+        ≡ lesson room.now (nodes_in shown.now) n (place (nodes_in shown.now) day) }
+    ensures inside { Inside (nodes_in shown.now) result }
 {
-    let period = nth_child(table, shown, day, n - 1);
-    let held = labelled_child(table, shown, period, room);
-    nth_child(table, shown, held, 0)
+    let period = nth_child(shown, day?, n - 1)?;
+    let held = labelled_child(shown, period, room)?;
+    nth_child(shown, held, 0)
 }
 
 // The root's first five children.
-fn find_days(table: &[u8], shown: &[u16]) -> [usize; 5]
-    requires { Fits table.now shown.now }
-    ensures { result ≡ days (view_of table.now shown.now) }
+fn find_days(shown: &Shown) -> [Option<usize>; DAYS]
+    ensures found { map (place (nodes_in shown.now)) result ≡ days (nodes_in shown.now) }
+    ensures inside { All (Inside (nodes_in shown.now)) result }
 {
-    let a = nth_child(table, shown, 0, 0);
-    let b = nth_child(table, shown, 0, 1);
-    let c = nth_child(table, shown, 0, 2);
-    let d = nth_child(table, shown, 0, 3);
-    let e = nth_child(table, shown, 0, 4);
-    [a, b, c, d, e]
+    [0, 1, 2, 3, 4].map(|k| nth_child(shown, 0, k))
 }
 
 // The lessons of period n, one for each of the five days.
-fn find_lessons(table: &[u8], shown: &[u16], room: &[u8], n: usize, days: &[usize]) -> [usize; 5]
-    requires { (Fits table.now shown.now) × (1 ≤ n) × (length days.now ≡ 5) }
-    ensures { result ≡ map (lesson room.now (view_of table.now shown.now) n) days.now }
+fn find_lessons(
+    shown: &Shown,
+    room: &[u8],
+    n: usize,
+    days: [Option<usize>; DAYS],
+) -> [Option<usize>; DAYS]
+    requires { 1 ≤ n }
+    ensures found { map (place (nodes_in shown.now)) result
+        ≡ map (lesson room.now (nodes_in shown.now) n) (map (place (nodes_in shown.now)) days) }
+    ensures inside { All (Inside (nodes_in shown.now)) result }
 {
-    let a = find_lesson(table, shown, room, n, days[0]);
-    let b = find_lesson(table, shown, room, n, days[1]);
-    let c = find_lesson(table, shown, room, n, days[2]);
-    let d = find_lesson(table, shown, room, n, days[3]);
-    let e = find_lesson(table, shown, room, n, days[4]);
-    [a, b, c, d, e]
+    days.map(|day| find_lesson(shown, room, n, day))
 }
 
-// Puts a cell with the label of the node at each place.
-fn put_cells(area: &mut [u8], at: usize, table: &[u8], shown: &[u16], places: &[usize]) -> usize
-    requires { (Fits table.now shown.now) × (length places.now ≡ 5) × (at < 2 ^ 61) }
-    ensures { (Puts (each (λ i. cell (label_at (view_of table.now shown.now) i)) places.now) at
+// Puts a cell for each of five nodes.
+fn put_cells(area: &mut [u8], at: usize, shown: &Shown, nodes: &[Option<usize>; DAYS]) -> usize
+    requires { All (Inside (nodes_in shown.now)) nodes.now × (at < 2 ^ 61) }
+    ensures { (Puts (each (λ i. cell (label_at (nodes_in shown.now) i))
+        (map (place (nodes_in shown.now)) nodes.now)) at
         area.old area.new result) × (result ≡ at + 70) }
 {
     let mut next = at;
-    let mut i = 0;
-    while i < places.len() {
-        next = put_cell(area, next, table, shown, places[i]);
-        i += 1;
+    for node in nodes {
+        next = put_cell(area, next, shown, *node);
     }
     next
 }
@@ -158,18 +154,17 @@ fn put_cells(area: &mut [u8], at: usize, table: &[u8], shown: &[u16], places: &[
 fn put_row(
     area: &mut [u8],
     at: usize,
-    table: &[u8],
-    shown: &[u16],
+    shown: &Shown,
     first: u8,
-    places: &[usize],
+    nodes: &[Option<usize>; DAYS],
 ) -> usize
-    requires { (Fits table.now shown.now) × (length places.now ≡ 5) × (at < 2 ^ 60) }
-    ensures { (Puts (row_text first (view_of table.now shown.now) places.now) at area.old
+    requires { All (Inside (nodes_in shown.now)) nodes.now × (at < 2 ^ 60) }
+    ensures { (Puts (row_text first (nodes_in shown.now) (map (place (nodes_in shown.now)) nodes.now)) at area.old
         area.new result) × (result ≡ at + 73) }
 {
     let a = put_byte(area, at, first);
     let b = put_byte(area, a, b' ');
-    let c = put_cells(area, b, table, shown, places);
+    let c = put_cells(area, b, shown, nodes);
     put_byte(area, c, b'\n')
 }
 
@@ -177,44 +172,40 @@ fn put_row(
 fn put_rows(
     area: &mut [u8],
     at: usize,
-    table: &[u8],
-    shown: &[u16],
+    shown: &Shown,
     room: &[u8],
-    places: &[usize],
+    found: [Option<usize>; DAYS],
 ) -> usize
-    requires { (Fits table.now shown.now) × (places.now ≡ days (view_of table.now shown.now)) × (at < 2 ^ 32) }
-    ensures { (Puts (each (row room.now (view_of table.now shown.now)) periods) at
+    requires { (map (place (nodes_in shown.now)) found ≡ days (nodes_in shown.now)) × (at < 2 ^ 32) }
+    ensures { (Puts (each (row room.now (nodes_in shown.now)) periods) at
         area.old area.new result) × (result ≡ at + 584) }
 {
     let mut next = at;
-    let mut n = 0;
-    while n < PERIODS {
-        n += 1;
-        let lessons = find_lessons(table, shown, room, n, places);
-        next = put_row(area, next, table, shown, digit(n), &lessons);
+    for i in 0..PERIODS {
+        let n = i + 1;
+        let lessons = find_lessons(shown, room, n, found);
+        next = put_row(area, next, shown, digit(n), &lessons);
     }
     next
 }
 
 // Puts the sheet.
-fn put_sheet(area: &mut [u8], table: &[u8], shown: &[u16], room: &[u8]) -> usize
-    requires { Fits table.now shown.now }
-    ensures { Puts (sheet_text room.now (view_of table.now shown.now)) 0 area.old
+fn put_sheet(area: &mut [u8], shown: &Shown, room: &[u8]) -> usize
+    ensures { Puts (sheet_text room.now (nodes_in shown.now)) 0 area.old
         area.new result }
 {
-    let places = find_days(table, shown);
-    let a = put_row(area, 0, table, shown, b' ', &places);
-    put_rows(area, a, table, shown, room, &places)
+    let found = find_days(shown);
+    let a = put_row(area, 0, shown, b' ', &found);
+    put_rows(area, a, shown, room, found)
 }
 
 // Writes the answer to `sheet`, if the area has room for it; its length, fit or not.
-pub fn answer_sheet(table: &[u8], shown: &[u16], room: &[u8], area: &mut [u8]) -> usize
-    requires { Fits table.now shown.now }
-    ensures { Answered (sheet_text room.now (view_of table.now shown.now)) area.old
+pub fn answer_sheet(shown: &Shown, room: &[u8], area: &mut [u8]) -> usize
+    ensures { Answered (sheet_text room.now (nodes_in shown.now)) area.old
         area.new result }
 {
     if area.len() < SHEET_BYTES {
         return SHEET_BYTES;
     }
-    put_sheet(area, table, shown, room)
+    put_sheet(area, shown, room)
 }

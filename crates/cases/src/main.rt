@@ -13,14 +13,10 @@
 ghost use Rattle.std.specs.Prelude.{◌≡◌, ◌≤◌, ◌<◌, length};
 
 use std::io::Read;
-use trials::{trial_path, trial_policy, trial_rights, trial_select, trial_table, trial_word};
+use trials::{
+    TrialError, trial_path, trial_policy, trial_rights, trial_select, trial_table, trial_word,
+};
 
-// Which of the lengths is that of the table, of the policy and of the shown numbers.
-const TABLE: usize = 0;
-
-const POLICY: usize = 1;
-
-const SHOWN: usize = 2;
 // Where a line's first part starts; a number of three bytes ends 6 digits later, a subject's number 2 digits later.
 const PART_AT: usize = 2;
 
@@ -28,43 +24,50 @@ const AFTER_PLACE: usize = 9;
 
 const AFTER_SUBJECT: usize = 5;
 // A byte that is no mark and no set of rights: what was not written still has it.
+// Kept: a byte to look for, no kind.
 const UNTOUCHED: u8 = 255;
+
+// How much of each area is used.
+#[derive(Clone, Copy)]
+struct Lengths {
+    table: usize,
+    policy: usize,
+    shown: usize,
+}
+
+// What the lines have put, and room for what a call writes.
+#[derive(Drop)]
+struct Areas {
+    table: [u8; 4096],
+    policy: [u8; 68873],
+    shown: [u16; 64],
+    out: [u8; 64],
+    lengths: Lengths,
+}
 
 // What the output doesn't take is lost, and the cases go on.
 fn say(to: &impl Print, text: &[u8]) {
     let _ = to.write_all(text);
 }
 
-// What a number of crate trials says.
-fn say_code(to: &impl Print, n: i64) {
-    if n == 1 {
-        say(to, b"yes\n");
-        return;
+// Yes or no, or neither.
+fn say_whether(to: &impl Print, answer: Option<bool>) {
+    match answer {
+        Some(true) => say(to, b"yes\n"),
+        Some(false) => say(to, b"no\n"),
+        None => say(to, b"refused\n"),
     }
-    if n == 0 {
-        say(to, b"no\n");
-        return;
-    }
-    say(to, b"refused\n");
 }
 
 // The value of a hexadecimal digit, and 0 of any other byte.
 fn digit(b: u8) -> u8
     ensures { result < 16 }
 {
-    if b < b'0' {
-        return 0;
+    match b {
+        b'0'..=b'9' => b - b'0',
+        b'a'..=b'f' => b - b'a' + 10,
+        _ => 0,
     }
-    if b <= b'9' {
-        return b - b'0';
-    }
-    if b < b'a' {
-        return 0;
-    }
-    if b <= b'f' {
-        return b - b'a' + 10;
-    }
-    0
 }
 
 // The byte that two digits write.
@@ -72,99 +75,63 @@ fn byte(high: u8, low: u8) -> u8 {
     digit(high) * 16 + digit(low)
 }
 
-// Numbers of two and three bytes, the highest first.
-fn two(a: u8, b: u8) -> u16 {
-    a as u16 * 256 + b as u16
-}
-
-fn three(a: u8, b: u8, c: u8) -> usize {
-    a as usize * 65536 + b as usize * 256 + c as usize
-}
-
-fn least(a: usize, b: usize) -> usize
-    ensures { (result ≤ a) × (result ≤ b) }
-{
-    if a < b { a } else { b }
-}
-
 // The first n elements, or all.
-fn part(s: &[u8], n: usize) -> &[u8] {
-    let e = least(n, s.len());
-    &s[0..e]
-}
-
-fn part_of_numbers(s: &[u16], n: usize) -> &[u16] {
-    let e = least(n, s.len());
-    &s[0..e]
+fn part<T>(s: &[T], n: usize) -> &[T] {
+    let e = n.min(s.len());
+    &s[..e]
 }
 
 // All from a place on, or nothing.
 fn rest(s: &[u8], n: usize) -> &[u8] {
-    let a = least(n, s.len());
+    let a = n.min(s.len());
     &s[a..]
 }
 
 // The byte that stands at a place of a line, and 0 past the end.
 fn byte_at(line: &[u8], i: usize) -> u8 {
-    if i < line.len() {
-        return line[i];
-    }
-    0
+    if i < line.len() { line[i] } else { 0 }
 }
 
-// The bytes that two digits from a place on write, and six.
+// The byte that two digits from a place on write, and the number that six write.
 fn read_byte(line: &[u8], i: usize) -> u8
     requires { i < 4096 }
 {
     byte(byte_at(line, i), byte_at(line, i + 1))
 }
 
+fn read_subject(line: &[u8]) -> usize {
+    usize::from(read_byte(line, PART_AT))
+}
+
 fn read_place(line: &[u8]) -> usize {
-    three(
-        read_byte(line, PART_AT),
-        read_byte(line, PART_AT + 2),
-        read_byte(line, PART_AT + 4),
-    )
+    let high = read_byte(line, PART_AT);
+    let middle = read_byte(line, PART_AT + 2);
+    let low = read_byte(line, PART_AT + 4);
+    u32::from_be_bytes([0, high, middle, low]) as usize
 }
 
 // Puts the bytes that the digits of s write into out, from a place on; answers the place after them.
 fn put_bytes(s: &[u8], from: usize, out: &mut [u8]) -> usize {
-    let n = s.len() / 2;
     let mut at = from;
-    let mut i = 0;
-    while i < n {
+    for i in 0..s.len() / 2 {
         if out.len() <= at {
             return at;
         }
         out[at] = byte(s[i * 2], s[i * 2 + 1]);
         at += 1;
-        i += 1;
     }
     at
 }
 
 // Puts numbers of two bytes into out; answers how many.
 fn put_numbers(s: &[u8], out: &mut [u16]) -> usize {
-    let n = s.len() / 4;
-    let mut i = 0;
-    while i < n {
-        if out.len() <= i {
-            return i;
-        }
+    let n = (s.len() / 4).min(out.len());
+    for i in 0..n {
         let high = byte(s[i * 4], s[i * 4 + 1]);
         let low = byte(s[i * 4 + 2], s[i * 4 + 3]);
-        out[i] = two(high, low);
-        i += 1;
+        out[i] = u16::from_be_bytes([high, low]);
     }
-    i
-}
-
-fn fill(out: &mut [u8], v: u8) {
-    let mut i = 0;
-    while i < out.len() {
-        out[i] = v;
-        i += 1;
-    }
+    n
 }
 
 fn say_byte(to: &impl Print, b: u8) {
@@ -173,148 +140,76 @@ fn say_byte(to: &impl Print, b: u8) {
 
 // Prints the bytes that were written.
 fn say_written(to: &impl Print, out: &[u8]) {
-    let mut i = 0;
-    while i < out.len() {
-        if out[i] == UNTOUCHED {
+    for &b in out {
+        if b == UNTOUCHED {
             break;
         }
-        say_byte(to, out[i]);
-        i += 1;
+        say_byte(to, b);
     }
     say(to, b"\n");
 }
 
 // The answer of a call that writes: what it wrote, or its refusal.
-fn say_answer(to: &impl Print, n: i64, out: &[u8]) {
-    if n == -1 {
-        say(to, b"refused\n");
-        return;
-    }
-    if n == -2 {
-        say(to, b"not well formed\n");
-        return;
-    }
-    say_written(to, out);
-}
-
-fn try_rights(to: &impl Print, line: &[u8], table: &[u8], policy: &[u8], out: &mut [u8]) {
-    fill(out, UNTOUCHED);
-    let u = read_byte(line, PART_AT) as usize;
-    let n = trial_rights(policy, u, table, out);
-    say_answer(to, n, &out[..]);
-}
-
-fn try_select(
-    to: &impl Print,
-    line: &[u8],
-    table: &[u8],
-    policy: &[u8],
-    shown: &[u16],
-    out: &mut [u8],
-) {
-    fill(out, UNTOUCHED);
-    let u = read_byte(line, PART_AT) as usize;
-    let n = trial_select(policy, u, table, shown, rest(line, AFTER_SUBJECT), out);
-    say_answer(to, n, &out[..]);
-}
-
-// A line that asks.
-fn ask(
-    to: &impl Print,
-    kind: u8,
-    line: &[u8],
-    table: &[u8],
-    policy: &[u8],
-    shown: &[u16],
-    out: &mut [u8],
-) {
-    match kind {
-        b'p' => say_code(to, trial_path(rest(line, PART_AT))),
-        b't' => say_code(to, trial_table(table)),
-        b'k' => say_code(to, trial_policy(policy)),
-        b'w' => say_code(to, trial_word(policy, rest(line, PART_AT))),
-        b'r' => try_rights(to, line, table, policy, out),
-        b's' => try_select(to, line, table, policy, shown, out),
-        _ => {}
+fn say_answer(to: &impl Print, answer: Result<usize, TrialError>, out: &[u8]) {
+    match answer {
+        Ok(_) => say_written(to, out),
+        Err(TrialError::NotWellFormed) => say(to, b"not well formed\n"),
+        Err(TrialError::NotAsked) => say(to, b"refused\n"),
     }
 }
 
 // A line that puts.
-fn put(
-    kind: u8,
-    line: &[u8],
-    table: &mut [u8],
-    policy: &mut [u8],
-    shown: &mut [u16],
-    lengths: &mut [usize; 3],
-) {
-    if kind == b't' {
-        lengths[TABLE] = put_bytes(rest(line, PART_AT), 0, table);
-        return;
-    }
-    if kind == b'z' {
-        fill(policy, 0);
-        lengths[POLICY] = read_place(line);
-        return;
-    }
-    if kind == b'q' {
-        put_bytes(rest(line, AFTER_PLACE), read_place(line), policy);
-        return;
-    }
-    if kind == b'h' {
-        lengths[SHOWN] = put_numbers(rest(line, PART_AT), shown);
+fn put(kind: u8, line: &[u8], areas: &mut Areas) {
+    match kind {
+        b't' => areas.lengths.table = put_bytes(rest(line, PART_AT), 0, &mut areas.table),
+        b'z' => {
+            areas.policy.fill(0);
+            areas.lengths.policy = read_place(line);
+        }
+        b'q' => {
+            put_bytes(rest(line, AFTER_PLACE), read_place(line), &mut areas.policy);
+        }
+        b'h' => areas.lengths.shown = put_numbers(rest(line, PART_AT), &mut areas.shown),
+        _ => {}
     }
 }
 
-fn take_line(
-    to: &impl Print,
-    line: &[u8],
-    table: &mut [u8],
-    policy: &mut [u8],
-    shown: &mut [u16],
-    out: &mut [u8],
-    lengths: &mut [usize; 3],
-) {
+// A line that asks.
+fn ask(to: &impl Print, kind: u8, line: &[u8], areas: &mut Areas) {
+    let table = part(&areas.table, areas.lengths.table);
+    let policy = part(&areas.policy, areas.lengths.policy);
+    let shown = part(&areas.shown, areas.lengths.shown);
+    let out = &mut areas.out;
+    match kind {
+        b'p' => say_whether(to, Some(trial_path(rest(line, PART_AT)))),
+        b't' => say_whether(to, Some(trial_table(table))),
+        b'k' => say_whether(to, Some(trial_policy(policy))),
+        b'w' => say_whether(to, trial_word(policy, rest(line, PART_AT))),
+        b'r' => {
+            out.fill(UNTOUCHED);
+            let answer = trial_rights(policy, read_subject(line), table, out);
+            let answer = answer.ok_or(TrialError::NotAsked);
+            say_answer(to, answer, &out[..]);
+        }
+        b's' => {
+            out.fill(UNTOUCHED);
+            let path = rest(line, AFTER_SUBJECT);
+            let answer = trial_select(policy, read_subject(line), table, shown, path, out);
+            say_answer(to, answer, &out[..]);
+        }
+        _ => {}
+    }
+}
+
+fn take_line(to: &impl Print, line: &[u8], areas: &mut Areas) {
     let kind = byte_at(line, 0);
-    put(kind, line, table, policy, shown, lengths);
-    let t = part(&table[..], lengths[TABLE]);
-    let p = part(&policy[..], lengths[POLICY]);
-    let s = part_of_numbers(&shown[..], lengths[SHOWN]);
-    ask(to, kind, line, t, p, s, out);
+    put(kind, line, areas);
+    ask(to, kind, line, areas);
 }
 
-// The end of the line that starts at a place.
-fn line_end(input: &[u8], from: usize) -> usize
-    requires { from ≤ length input.now }
-    ensures { (from ≤ result) × (result ≤ length input.now) }
-{
-    let mut i = from;
-    while i < input.len() {
-        if input[i] == b'\n' {
-            return i;
-        }
-        i += 1;
-    }
-    i
-}
-
-fn take_lines(
-    to: &impl Print,
-    input: &[u8],
-    table: &mut [u8],
-    policy: &mut [u8],
-    shown: &mut [u16],
-    out: &mut [u8],
-    lengths: &mut [usize; 3],
-) {
-    let mut at = 0;
-    while at < input.len() {
-        let e = line_end(input, at);
-        take_line(to, &input[at..e], table, policy, shown, out, lengths);
-        if e == input.len() {
-            return;
-        }
-        at = e + 1;
+fn take_lines(to: &impl Print, input: &[u8], areas: &mut Areas) {
+    for line in input.split(|b| *b == b'\n') {
+        take_line(to, line, areas);
     }
 }
 
@@ -350,18 +245,16 @@ fn read_input(from: &mut impl Read, input: &mut [u8]) -> usize
 fn main(rt: HostRuntime) {
     let mut input = input_area();
     let n = read_input(&mut rt.stdin(), &mut input);
-    let mut table = [0u8; 4096];
-    let mut policy = policy_area();
-    let mut shown = [0u16; 64];
-    let mut out = [0u8; 64];
-    let mut lengths = [0usize; 3];
-    take_lines(
-        &rt,
-        part(&input[..], n),
-        &mut table,
-        &mut policy,
-        &mut shown,
-        &mut out,
-        &mut lengths,
-    );
+    let mut areas = Areas {
+        table: [0; 4096],
+        policy: policy_area(),
+        shown: [0; 64],
+        out: [UNTOUCHED; 64],
+        lengths: Lengths {
+            table: 0,
+            policy: 0,
+            shown: 0,
+        },
+    };
+    take_lines(&rt, part(&input, n), &mut areas);
 }

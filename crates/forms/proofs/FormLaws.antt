@@ -1,4 +1,5 @@
 -- A form's reader, turn by turn, as the code goes through it. Assumes nothing.
+use Rattle.std.specs.Prelude.{Option, Some, None}
 use Prim.Native.Nat.{ℕ, zero, suc, ◌+◌, ◌-◌, ◌^◌, ◌≤◌, ◌<◌}
 use mathlib.Core.Path.{◌≡◌, refl, sym, ap, subst, ◌∙◌}
 use mathlib.Core.List.{List, [], ◌∷◌, ◌++◌, map, append_assoc}
@@ -6,32 +7,32 @@ use mathlib.Core.Bool.{true, false}
 use native.Mathlib.Omega.{arith}
 use native.Mathlib.Numerals.{add-one}
 use lib.Dec.{eqb, leb}
-use lib.ListN.{length, get_or, set, drop, replicate, length-append, length-replicate, length-set}
+use lib.ListN.{length, get_or, set, drop, replicate, length-append, length-set}
+use Rattle.std.proofs.lemmas.List.{get_or-take}
 use lib.Seq.{get_or-set_same, get_or-set_other, get_or-append_seam}
-use borrow.Author.Tests.{ne_eqb, eqb-true, eqb-false, leb-true, leb-false}
+use borrow.Author.Tests.{eqb-true, eqb-false, leb-true, leb-false}
 use Rattle.rights.specs.Bytes.{byte_at, all}
 use Rattle.rights.specs.Labels.{label_byte}
-use Rattle.rights.specs.declared.path.Read.TheVariants.{At, Bad}
 use Rattle.rights.proofs.ListLaws.{by_case}
+use Rattle.rights.proofs.PassLaws.{map_at}
 use Rattle.rights.proofs.PathLaws.{inside}
 use Rattle.rights.proofs.PathTexts.{and_left}
+use Rattle.forms.specs.declared.kind.Kind.{Kind as Coded}
+use Rattle.forms.specs.declared.kind.Kind.TheVariants as coded
 use Rattle.forms.specs.declared.layout.Word.{Word}
 use Rattle.forms.specs.declared.layout.Word.TheVariants as word
 use Rattle.forms.specs.declared.layout.Layout.{Layout}
 use Rattle.forms.specs.declared.reader.Progress.{Progress}
 use Rattle.forms.specs.Layout.{words, stage_of, shape_of, word_at}
-use Rattle.forms.specs.How.Codes.{LaidOut, codes_of, by_number, text_number_at, end_by, says_by, area_by}
+use Rattle.forms.specs.How.Codes.{LaidOut, codes_of, kind_number, part_number, by_number, text_number_at, end_by, says_by, area_by}
 use Rattle.forms.specs.Part.{run_end}
 use Rattle.forms.specs.Kind.{Kind, Label, Path, Tree, Sign, Right, Day, code_of, part_end}
 use Rattle.forms.specs.Word.{rights, right_at, label_bytes_at}
 use Rattle.forms.specs.Form.{Places, are, none, ◌onTo◌, closes_line, parts_of, place_in, no_form, ends_in, read_form}
-use Rattle.forms.specs.How.Reader.{stopped_at, held_to, Reading, Whole, Came, Begun, Moves, area_after, area_in, area_from, FormRead}
+use Rattle.forms.specs.How.Reader.{held_to, Reading, Whole, Came, Begun, Moves, area_after, area_in, area_from, FormRead}
 use Rattle.forms.proofs.WordLaws.{among-is, numbered-among}
 
 -- A word with its kinds
-
-pub laid_out : (w : Word) → length (codes_of (shape_of w)) ≡ 5 → LaidOut w (record { word = w; stage = stage_of w; kinds = codes_of (shape_of w) })
-laid_out w e = record { word = refl; stage = refl; kinds = refl; size = e }
 
 pub laid_at : {w v : Word} {l : Layout} → w ≡ v → LaidOut w l → LaidOut v l
 laid_at e h = rw (← e) h
@@ -60,6 +61,14 @@ code_some Sign e = omega arith
 code_some Right e = omega arith
 code_some Day e = omega arith
 
+coded_some : (k : Coded) → kind_number k ≡ 0 → ⊥
+coded_some coded.Label e = omega arith
+coded_some coded.Path e = omega arith
+coded_some coded.Tree e = omega arith
+coded_some coded.Sign e = omega arith
+coded_some coded.Right e = omega arith
+coded_some coded.Day e = omega arith
+
 pub zeros : (m j : ℕ) → get_or {A = ℕ} (replicate m 0) j 0 ≡ 0
 zeros zero j = refl
 zeros (suc m) zero = refl
@@ -79,20 +88,12 @@ module _ (m : ℕ) where
   over_at (k ∷ ks) zero h = absurd (code_some k h)
   over_at (k ∷ ks) (suc i) h = over_at ks i h
 
-  length_codes : (ks : List Kind) → length (map code_of ks) ≡ length ks
-  length_codes [] = refl
-  length_codes (k ∷ ks) = ap suc (length_codes ks)
-
 pub kind_at : (ks : List Kind) (i : ℕ) → (get_or (codes_of ks) i 0 ≡ 0 → ⊥)
     → (k : Kind) × (drop i ks ≡ k ∷ drop (suc i) ks) × (get_or (codes_of ks) i 0 ≡ code_of k) × (i < length ks)
 kind_at ks i h = more_at (1 + (4 - length ks)) ks i h
 
 pub kinds_over : (ks : List Kind) (i : ℕ) → get_or (codes_of ks) i 0 ≡ 0 → drop i ks ≡ []
 kinds_over ks i h = over_at (1 + (4 - length ks)) ks i h
-
-pub few_kinds : (ks : List Kind) → length (codes_of ks) ≡ 5 → length ks ≤ 4
-few_kinds ks e =
-    omega (arith, e, length-append (map code_of ks) (replicate {A = ℕ} (1 + (4 - length ks)) 0), length_codes 0 ks, length-replicate {A = ℕ} (1 + (4 - length ks)) 0)
 
 -- The places of the parts
 
@@ -126,26 +127,20 @@ more_set xs ys n e l h same j =
 -- The word
 
 module _ (s : List ℕ) where
-  pub none_came : (i : ℕ) (p : Progress) → p.good ≡ false → ends_in s ≡ none → Came s i p
-  none_came i p g e = record { stops = λ _. e; reads = λ h. absurd (let z : false ≡ true = sym g ∙ h in let y : ◌≡◌ {A = ℕ} 0 1 = cc in omega arith) }
-
-  some_came : (i : ℕ) (p : Progress) → p.good ≡ true → Reading s i p → Came s i p
-  some_came i p g w = record { stops = λ h. absurd (let z : true ≡ false = sym g ∙ h in let y : ◌≡◌ {A = ℕ} 0 1 = cc in omega arith); reads = λ _. w }
-
-  pub unbegun : (p : Progress) → (byte_at s 0 ≡ 40 → ⊥) → Begun s (stopped_at p)
+  pub unbegun : eqb (byte_at s 0) 40 ≡ false → Begun s None
   unfolding ends_in area_in
-  unbegun p h = record { came = none_came 0 (stopped_at p) refl (rw (ne_eqb _ 40 h)); area = λ a. rw (ne_eqb _ 40 h) }
+  unbegun h = record { came = rw h; area = λ a. rw h }
 
-  module _ (h : byte_at s 0 ≡ 40) where
-    pub wordless : (p : Progress) → run_end label_byte s 1 ≡ Bad → Begun s (stopped_at p)
+  module _ (h : eqb (byte_at s 0) 40 ≡ true) where
+    pub wordless : run_end label_byte s 1 ≡ None → Begun s None
     unfolding ends_in area_in
-    wordless p e = record { came = none_came 0 (stopped_at p) refl (rw (h, e)); area = λ a. rw (h, e) }
+    wordless e = record { came = rw (h, e); area = λ a. rw (h, e) }
 
-    pub word_read : (e : ℕ) (l : Layout) → run_end label_byte s 1 ≡ At e → e ≤ length s → LaidOut (word_at s 1) l
-        → Begun s (record { at = e; good = true; layout = l; ends = e ∷ 0 ∷ 0 ∷ 0 ∷ 0 ∷ []; says = 0 ∷ 0 ∷ 0 ∷ 0 ∷ [] })
+    pub word_read : (e : ℕ) (l : Layout) → run_end label_byte s 1 ≡ Some e → e ≤ length s → LaidOut (word_at s 1) l
+        → Begun s (Some (record { at = e; layout = l; ends = e ∷ 0 ∷ 0 ∷ 0 ∷ 0 ∷ []; says = 0 ∷ 0 ∷ 0 ∷ 0 ∷ [] }))
     unfolding ends_in area_in
     word_read e l r m x = record {
-      came = some_came 0 _ refl (record {
+      came = record {
         laid = x;
         within = m;
         before = [];
@@ -157,7 +152,7 @@ module _ (s : List ℕ) where
         unsaid = λ j _. zeros 4 j;
         five = refl;
         four = refl;
-      });
+      };
       area = λ a. rw (h, r, x.word);
     }
       where
@@ -171,24 +166,28 @@ module _ (s : List ℕ) where
 
 -- A part
 
-module _ (s : List ℕ) (i : ℕ) (p : Progress) (g : p.good ≡ true) (w : Reading s i p) where
+module _ (s : List ℕ) (i : ℕ) (p : Progress) (w : Reading s i p) (few : i < 4) where
   abbrev ks : List Kind
   ks = shape_of (word_at s 1)
 
   abbrev code : ℕ
-  code = get_or p.layout.kinds i 0
+  code = get_or (map part_number p.layout.kinds) i 0
 
   code_is : code ≡ get_or (codes_of ks) i 0
-  code_is = ap (λ (xs : List ℕ). get_or xs i 0) w.laid.kinds
+  code_is = ap (λ (xs : List ℕ). get_or xs i 0) w.laid.kinds ∙ get_or-take 4 (codes_of ks) i 0 few
+
+  coded_at : (o : Option Coded) → get_or p.layout.kinds i None ≡ o → code ≡ part_number o
+  coded_at o e = map_at part_number p.layout.kinds i None 0 (omega (arith, w.laid.size, few)) ∙ ap part_number e
 
   -- the shape is over: the reader stays
-  pub next_over : code ≡ 0 → (a : List ℕ) → Came s (i + 1) p × Moves s i p a p a
+  pub next_over : ((k : Coded) → get_or p.layout.kinds i None ≡ Some k → ⊥) → (a : List ℕ) → Came s (i + 1) (Some p) × Moves s i p a (Some p) a
   unfolding area_after says_by
-  next_over h a =
+  next_over n a =
+      let h : code ≡ 0 = none_coded n in
       let z = kinds_over ks i (sym code_is ∙ h) in
       let y = drop_more ks i z in
       let f : length ks ≤ i = drop_over ks i z in (
-        rw (add-one i) (some_came s (suc i) p g (record {
+        rw (add-one i) (record {
           laid = w.laid;
           within = w.within;
           before = w.before;
@@ -202,10 +201,20 @@ module _ (s : List ℕ) (i : ℕ) (p : Progress) (g : p.good ≡ true) (w : Read
           unsaid = λ j l. w.unsaid j (omega arith);
           five = w.five;
           four = w.four;
-        })),
-        record { on = omega arith; area = rw (g, w.laid.word, z, y) },
+        }),
+        record { on = stays; area = rw (w.laid.word, z, y) },
       )
     where
+      none_coded : ((k : Coded) → get_or p.layout.kinds i None ≡ Some k → ⊥) → code ≡ 0
+      none_coded n = go (get_or p.layout.kinds i None) refl
+        where
+          go : (o : Option Coded) → get_or p.layout.kinds i None ≡ o → code ≡ 0
+          go None e = coded_at None e
+          go (Some k) e = absurd (n k e)
+
+      stays : (q : Progress) → Some p ≡ Some q → p.at ≤ q.at
+      stays q e = let z : p ≡ q = cc in omega (arith, ap (λ (p : Progress). p.at) z)
+
       drop_more : (xs : List Kind) (n : ℕ) → drop n xs ≡ [] → drop (suc n) xs ≡ []
       drop_more [] zero e = refl
       drop_more [] (suc n) e = refl
@@ -217,41 +226,47 @@ module _ (s : List ℕ) (i : ℕ) (p : Progress) (g : p.good ≡ true) (w : Read
       drop_over (x ∷ xs) zero e = absurd (let z : ◌≡◌ {A = ℕ} 0 1 = cc in omega arith)
       drop_over (x ∷ xs) (suc n) e = let l = drop_over xs n e in omega arith
 
-  module _ (h : code ≡ 0 → ⊥) where
+  module _ (c : Coded) (there : get_or p.layout.kinds i None ≡ Some c) where
+    abbrev n : ℕ
+    n = kind_number c
+
+    n_is : get_or (codes_of ks) i 0 ≡ n
+    n_is = sym code_is ∙ coded_at (Some c) there
+
     kind : (k : Kind) × (drop i ks ≡ k ∷ drop (suc i) ks) × (get_or (codes_of ks) i 0 ≡ code_of k) × (i < length ks)
-    kind = kind_at ks i (λ z. h (code_is ∙ z))
+    kind = kind_at ks i (λ z. coded_some c (sym n_is ∙ z))
 
-    part_end_lem : (at : ℕ) → part_end kind.0 s at ≡ end_by code s at
-    part_end_lem at = sym (code_end kind.0 s at) ∙ ap (λ (n : ℕ). end_by n s at) (sym (code_is ∙ kind.2))
+    part_end_lem : (at : ℕ) → part_end kind.0 s at ≡ end_by n s at
+    part_end_lem at = sym (code_end kind.0 s at) ∙ ap (λ (n : ℕ). end_by n s at) (sym kind.2 ∙ n_is)
 
-    area_by_lem : (at : ℕ) (a : List ℕ) → area_by (code_of kind.0) s at a ≡ area_by code s at a
-    area_by_lem at a = ap (λ (n : ℕ). area_by n s at a) (sym (code_is ∙ kind.2))
+    area_by_lem : (at : ℕ) (a : List ℕ) → area_by (code_of kind.0) s at a ≡ area_by n s at a
+    area_by_lem at a = ap (λ (n : ℕ). area_by n s at a) (sym kind.2 ∙ n_is)
 
-    stops_here : ends_in s ≡ none → (a b : List ℕ) → area_after (drop i ks) s p.at a ≡ b → Came s (i + 1) (stopped_at p) × Moves s i p a (stopped_at p) b
-    stops_here e a b q = (none_came s (i + 1) (stopped_at p) refl e, record { on = omega arith; area = rw (g, w.laid.word) q })
+    stops_here : ends_in s ≡ none → (a b : List ℕ) → area_after (drop i ks) s p.at a ≡ b → Came s (i + 1) None × Moves s i p a None b
+    stops_here e a b q = (e, record { on = λ q z. absurd (let y : ◌≡◌ {A = ℕ} 0 1 = cc in omega arith); area = rw w.laid.word q })
 
-    pub next_unspaced : (byte_at s p.at ≡ 32 → ⊥) → (a : List ℕ) → Came s (i + 1) (stopped_at p) × Moves s i p a (stopped_at p) a
+    pub next_unspaced : eqb (byte_at s p.at) 32 ≡ false → (a : List ℕ) → Came s (i + 1) None × Moves s i p a None a
     unfolding parts_of area_after
-    next_unspaced n a = stops_here (w.read ∙ rw (kind.1, ne_eqb _ 32 n)) a a (rw (kind.1, ne_eqb _ 32 n))
+    next_unspaced sp a = stops_here (w.read ∙ rw (kind.1, sp)) a a (rw (kind.1, sp))
 
-    module _ (sp : byte_at s p.at ≡ 32) (a b : List ℕ) (c : b ≡ area_by code s (p.at + 1) a) where
-      pub next_missing : end_by code s (p.at + 1) ≡ Bad → Came s (i + 1) (stopped_at p) × Moves s i p a (stopped_at p) b
+    module _ (sp : eqb (byte_at s p.at) 32 ≡ true) (a b : List ℕ) (put : b ≡ area_by n s (p.at + 1) a) where
+      pub next_missing : end_by n s (p.at + 1) ≡ None → Came s (i + 1) None × Moves s i p a None b
       unfolding parts_of area_after
       next_missing e =
-          let q : part_end kind.0 s (p.at + 1) ≡ Bad = part_end_lem (p.at + 1) ∙ e in
-          stops_here (w.read ∙ rw (kind.1, sp, q)) a b (rw (kind.1, sp, q) (area_by_lem (p.at + 1) a ∙ sym c))
+          let q : part_end kind.0 s (p.at + 1) ≡ None = part_end_lem (p.at + 1) ∙ e in
+          stops_here (w.read ∙ rw (kind.1, sp, q)) a b (rw (kind.1, sp, q) (area_by_lem (p.at + 1) a ∙ sym put))
 
-      pub next_held : (e v : ℕ) → i < 4 → end_by code s (p.at + 1) ≡ At e → p.at + 2 ≤ e → e ≤ length s → v ≡ says_by code s (p.at + 1)
-          → Came s (i + 1) (held_to p i e v) × Moves s i p a (held_to p i e v) b
+      pub next_held : (e v : ℕ) → end_by n s (p.at + 1) ≡ Some e → p.at + 2 ≤ e → e ≤ length s → v ≡ says_by n s (p.at + 1)
+          → Came s (i + 1) (Some (held_to p i e v)) × Moves s i p a (Some (held_to p i e v)) b
       unfolding parts_of area_after
-      next_held e v few r l m is =
-          let q : part_end kind.0 s (p.at + 1) ≡ At e = part_end_lem (p.at + 1) ∙ r in
-          let n : length w.before ≡ i = w.count (omega (arith, kind.3)) in
+      next_held e v r l m is =
+          let q : part_end kind.0 s (p.at + 1) ≡ Some e = part_end_lem (p.at + 1) ∙ r in
+          let len : length w.before ≡ i = w.count (omega (arith, kind.3)) in
           let five = w.five in
           let four = w.four in
           let more = length-append w.before (p.at ∷ []) in
-          let here : place_in p.ends i ≡ p.at = sym (w.places i) ∙ rw (← n) (get_or-append_seam w.before p.at [] 0) in (
-            subst (λ (n : ℕ). Came s n (held_to p i e v)) (sym (add-one i)) (some_came s (suc i) (held_to p i e v) g (record {
+          let here : place_in p.ends i ≡ p.at = sym (w.places i) ∙ rw (← len) (get_or-append_seam w.before p.at [] 0) in (
+            subst (λ (n : ℕ). Reading s n (held_to p i e v)) (sym (add-one i)) (record {
               laid = w.laid;
               within = m;
               before = w.before ++ (p.at ∷ []);
@@ -262,22 +277,22 @@ module _ (s : List ℕ) (i : ℕ) (p : Progress) (g : p.good ≡ true) (w : Read
               said = λ j x. by_case (eqb j i)
                   (λ z.
                   let u = eqb-true j i z in
-                  rw (u, get_or-set_same p.says i v 0 (omega arith), get_or-set_other p.ends (i + 1) i e 0 (λ y. omega arith), here, ← code_is) is)
+                  rw (u, get_or-set_same p.says i v 0 (omega arith), get_or-set_other p.ends (i + 1) i e 0 (λ y. omega arith), here, n_is) is)
                   (λ z.
                   let u = eqb-false j i z in
                   rw (get_or-set_other p.says i j v 0 u, get_or-set_other p.ends (i + 1) j e 0 (λ y. omega arith)) (w.said j (by_case (leb i j) (λ t. absurd (u (omega (arith, leb-true i j t)))) (λ t. leb-false i j t))));
               unsaid = λ j l. get_or-set_other p.says i j v 0 (λ y. omega arith) ∙ w.unsaid j (omega arith);
               five = length-set p.ends (i + 1) e ∙ five;
               four = length-set p.says i v ∙ four;
-            })),
-            record { on = omega arith; area = rw (g, w.laid.word, kind.1, sp, q) (ap (λ (z : List ℕ). area_after (drop (suc i) ks) s e z) (area_by_lem (p.at + 1) a ∙ sym c)) },
+            }),
+            record { on = λ q z. let y : held_to p i e v ≡ q = cc in omega (arith, ap (λ (p : Progress). p.at) y); area = rw (w.laid.word, kind.1, sp, q) (ap (λ (z : List ℕ). area_after (drop (suc i) ks) s e z) (area_by_lem (p.at + 1) a ∙ sym put)) },
           )
 
 -- The line's end
 
-module _ (s : List ℕ) (p : Progress) (g : p.good ≡ true) (w : Reading s 4 p) where
+module _ (s : List ℕ) (p : Progress) (w : Reading s 4 p) where
   over_four : drop 4 (shape_of (word_at s 1)) ≡ []
-  over_four = short (shape_of (word_at s 1)) (few_kinds (shape_of (word_at s 1)) (sym (ap length w.laid.kinds) ∙ w.laid.size))
+  over_four = short (shape_of (word_at s 1)) w.laid.few
     where
       short : (xs : List Kind) → length xs ≤ 4 → drop 4 xs ≡ []
       short [] l = refl
@@ -291,7 +306,7 @@ module _ (s : List ℕ) (p : Progress) (g : p.good ≡ true) (w : Reading s 4 p)
   unfolding parts_of
   line_unclosed c = w.read ∙ rw (over_four, c)
 
-  pub line_closed : closes_line s p.at ≡ true → Whole s (record { at = length s; good = p.good; layout = p.layout; ends = p.ends; says = p.says })
+  pub line_closed : closes_line s p.at ≡ true → Whole s (record { at = length s; layout = p.layout; ends = p.ends; says = p.says })
   unfolding parts_of
   line_closed c = record {
     laid = w.laid;
@@ -305,9 +320,9 @@ module _ (s : List ℕ) (p : Progress) (g : p.good ≡ true) (w : Reading s 4 p)
     four = w.four;
   }
 
-  pub area_four : (a : List ℕ) → area_from s 4 p a ≡ a
+  pub area_four : (a : List ℕ) → area_from s 4 (Some p) a ≡ a
   unfolding area_after
-  area_four a = rw (g, w.laid.word, over_four)
+  area_four a = rw (w.laid.word, over_four)
 
 -- a right's bit is held in a byte
 pub right_small : (s : List ℕ) (at : ℕ) → right_at s at < 256
@@ -330,7 +345,7 @@ whole_read s p w small =
       four = w.four;
     }
 
-pub none_read : (s : List ℕ) → ends_in s ≡ none → FormRead s (record { word = word.Other; stage = 5; ends = replicate 5 0; says = replicate 4 0 })
+pub none_read : (s : List ℕ) → ends_in s ≡ none → FormRead s (record { word = word.Other; stage = None; ends = replicate 5 0; says = replicate 4 0 })
 unfolding read_form says_by
 none_read s e = record {
   form = rw e;

@@ -1,4 +1,5 @@
 -- What is read as a form is what is written as one; every other line is no form (refusal 2). Assumes nothing.
+use Rattle.std.specs.Prelude.{Option, Some, None}
 use Prim.Native.Nat.{ℕ, ◌+◌, ◌≤◌, ◌<◌}
 use mathlib.Core.Path.{◌≡◌, refl, sym, ap, subst, fun_ext, ◌∙◌}
 use mathlib.Core.List.{List, [], ◌∷◌, ◌++◌, map}
@@ -14,8 +15,6 @@ use Rattle.rights.specs.Bytes.{byte_at, all, digit_byte}
 use Rattle.rights.specs.Labels.{label_byte}
 use Rattle.rights.specs.Policy.{Right, position, read, insert, update, delete, bit_of}
 use Rattle.rights.specs.PathReader.{run_at, number_of}
-use Rattle.rights.specs.declared.path.Read.{Read}
-use Rattle.rights.specs.declared.path.Read.TheVariants.{At, Bad}
 use Rattle.rights.proofs.PathTexts.{and_left, and_right, cond_elim, Reads, reads_byte, reads_take, run-all, run_length, run_over, byte_here}
 use Rattle.forms.specs.declared.layout.Word.{Word}
 use Rattle.forms.specs.declared.layout.Word.TheVariants as word
@@ -63,17 +62,17 @@ module _ (s : List ℕ) (at : ℕ) where
       let q : run_at f s at ≡ length w = rw e (run_over f w r g h) in
       (rw (q, e) (take-append_seam w r), q)
 
-  run_reads : (f : ℕ → Bool) (w r : List ℕ) → 1 ≤ length w → all f w ≡ true → drop at s ≡ w ++ r → f (get_or r 0 0) ≡ false → run_end f s at ≡ At (at + length w)
+  run_reads : (f : ℕ → Bool) (w r : List ℕ) → 1 ≤ length w → all f w ≡ true → drop at s ≡ w ++ r → f (get_or r 0 0) ≡ false → run_end f s at ≡ Some (at + length w)
   unfolding run_end
   run_reads f w r l g e h =
       rw ((run_at_lem f w r g e h).1, le-leb 1 (length w) l)
 
-  pub sign_reads : (b : Bool) (r : List ℕ) → drop at s ≡ cond b accept deny ++ r → label_byte (get_or r 0 0) ≡ false → (known_end (sign_at s at) s at ≡ At (at + length (cond b accept deny))) × (eqb (sign_at s at) 1 ≡ b)
+  pub sign_reads : (b : Bool) (r : List ℕ) → drop at s ≡ cond b accept deny ++ r → label_byte (get_or r 0 0) ≡ false → (known_end (sign_at s at) s at ≡ Some (at + length (cond b accept deny))) × (eqb (sign_at s at) 1 ≡ b)
   unfolding known_end sign_at among same_text label_byte all
   sign_reads true r e h = let q = run_at_lem label_byte accept r refl e h in (rw q.0 (run_reads label_byte accept r (omega arith) refl e h), rw q.0)
   sign_reads false r e h = let q = run_at_lem label_byte deny r refl e h in (rw q.0 (run_reads label_byte deny r (omega arith) refl e h), rw q.0)
 
-  pub right_reads : (a : Right) (r : List ℕ) → drop at s ≡ write_right a ++ r → label_byte (get_or r 0 0) ≡ false → (known_end (right_at s at) s at ≡ At (at + length (write_right a))) × (right_at s at ≡ bit_of a)
+  pub right_reads : (a : Right) (r : List ℕ) → drop at s ≡ write_right a ++ r → label_byte (get_or r 0 0) ≡ false → (known_end (right_at s at) s at ≡ Some (at + length (write_right a))) × (right_at s at ≡ bit_of a)
   unfolding known_end right_at among same_text label_byte all write_right
   right_reads position r e h = let q = run_at_lem label_byte (write_right position) r refl e h in (rw q.0 (run_reads label_byte (write_right position) r (omega arith) refl e h), rw q.0)
   right_reads read r e h = let q = run_at_lem label_byte (write_right read) r refl e h in (rw q.0 (run_reads label_byte (write_right read) r (omega arith) refl e h), rw q.0)
@@ -85,7 +84,7 @@ module _ (s : List ℕ) (at : ℕ) where
   unfolding day_at
   day_reads d r g e h = let q = run_at_lem digit_byte d r g.2 e h in rw (q.0, q.1, le-leb (length d) day_digits g.1)
 
-  value_reads : (k : Kind) (v : Value k) (r : List ℕ) → GoodValue k v → drop at s ≡ write_value k v ++ r → Stops r → part_end k s at ≡ At (at + length (write_value k v))
+  value_reads : (k : Kind) (v : Value k) (r : List ℕ) → GoodValue k v → drop at s ≡ write_value k v ++ r → Stops r → part_end k s at ≡ Some (at + length (write_value k v))
   unfolding day_end GoodValue write_value
   value_reads Label l r g e h = label_reads s at l r g e h.no_label
   value_reads Path p r g e h = run_reads path_byte p r g.0 (runs_same p ∙ g.1) e h.no_path
@@ -189,10 +188,10 @@ written_form f g = let x = form_complete f g in rw (x.word, x.ends)
 
 -- What is read as a form was written
 
-never_read : {C : Type 0} {j : ℕ} → Bad ≡ At j → C
+never_read : {C : Type 0} {j : ℕ} → None ≡ Some j → C
 never_read e = absurd (let z : ◌≡◌ {A = ℕ} 0 1 = cc in omega arith)
 
-same_place : (C : ℕ → Type 0) {i j : ℕ} → At i ≡ At j → C i → C j
+same_place : (C : ℕ → Type 0) {i j : ℕ} → Some i ≡ Some j → C i → C j
 same_place C {i} {j} e x = let z : i ≡ j = cc in rw (← z) x
 
 module _ (s : List ℕ) (at : ℕ) where
@@ -204,7 +203,7 @@ module _ (s : List ℕ) (at : ℕ) where
     run_is : is ≡ take (run_at f s at) (drop at s)
     text : Reads s at is j
 
-  run_sound : (f : ℕ → Bool) (j : ℕ) → run_end f s at ≡ At j → RunRead f j
+  run_sound : (f : ℕ → Bool) (j : ℕ) → run_end f s at ≡ Some j → RunRead f j
   unfolding run_end
   run_sound f j =
       cond_elim (leb 1 (run_at f s at))
@@ -235,7 +234,7 @@ module _ (s : List ℕ) (at : ℕ) where
       among-is (λ n w. (n ≡ 0 → ⊥) → (r : Right) × (w ≡ write_right r)) 0 rights (label_bytes_at s at)
       ((λ _. (position, refl)), ((λ _. (read, refl)), ((λ _. (insert, refl)), ((λ _. (update, refl)), ((λ _. (delete, refl)), tt))))) (λ e. absurd (e refl))
 
-  value_sound : (k : Kind) (j : ℕ) → part_end k s at ≡ At j → ValueRead k j
+  value_sound : (k : Kind) (j : ℕ) → part_end k s at ≡ Some j → ValueRead k j
   unfolding label_end day_end known_end GoodValue write_value
   value_sound Label j = λ e. let x = short_sound s at label_byte label_max j e in record { is = x.0; good = x.1; text = x.2 }
   value_sound Path j = λ e. let x = run_sound path_byte j e in record { is = x.is; good = (x.some, sym (runs_same x.is) ∙ x.of); text = x.text }
@@ -251,9 +250,9 @@ module _ (s : List ℕ) (at : ℕ) where
 pub never_are : {C : Type 0} {es : List ℕ} → none ≡ are es → C
 never_are e = absurd (let z : ◌≡◌ {A = ℕ} 0 1 = cc in omega arith)
 
-pub then_elim : {C : Type 0} {es : List ℕ} (r : Read) (k : ℕ → Places) → ((e : ℕ) → r ≡ At e → k e ≡ are es → C) → (r and_then (none, k)) ≡ are es → C
-then_elim (At e) k h q = h e refl q
-then_elim Bad k h q = never_are q
+pub then_elim : {C : Type 0} {es : List ℕ} (r : Option ℕ) (k : ℕ → Places) → ((e : ℕ) → r ≡ Some e → k e ≡ are es → C) → (r and_then (none, k)) ≡ are es → C
+then_elim (Some e) k h q = h e refl q
+then_elim None k h q = never_are q
 
 onto_elim : {C : Type 0} (xs : List ℕ) {es : List ℕ} (p : Places) → ((ys : List ℕ) → p ≡ are ys → C) → (xs onTo p) ≡ are es → C
 onto_elim xs (are ys) h q = h ys refl
@@ -275,7 +274,7 @@ parts_sound [] s at es =
 parts_sound (k ∷ ks) s at es =
     then_elim (one_part k s at) _ λ e o. onto_elim (at ∷ []) (parts_of ks s e) λ ys q. found e (parts_sound ks s e ys q) o
   where
-    found : (e : ℕ) → PartsRead ks s e → one_part k s at ≡ At e → PartsRead (k ∷ ks) s at
+    found : (e : ℕ) → PartsRead ks s e → one_part k s at ≡ Some e → PartsRead (k ∷ ks) s at
     found e y =
         cond_elim (eqb (byte_at s at) 32)
         (λ b q.
@@ -342,7 +341,7 @@ none_written s = (
     go h (inl e) = e
     go h (inr x) = absurd (h x.0 x.1 x.2)
 
--- At most one good command is written so
+-- Some most one good command is written so
 
 abbrev right_named : List ℕ → Right
 right_named w = cond (eqb (length w) 8) position (cond (eqb (length w) 4) read (cond (eqb (get_or w 0 0) 105) insert (cond (eqb (get_or w 0 0) 117) update delete)))
@@ -372,7 +371,7 @@ value_unique : (k : Kind) (x y : Value k) (r v : List ℕ) → GoodValue k x →
 value_unique k x y r v g h a b e =
     let p = value_reads (write_value k x ++ r) 0 k x r g refl a in
     let q = value_reads (write_value k x ++ r) 0 k y v h e b in
-    let z : At (0 + length (write_value k x)) ≡ At (0 + length (write_value k y)) = sym p ∙ q in
+    let z : Some (0 + length (write_value k x)) ≡ Some (0 + length (write_value k y)) = sym p ∙ q in
     let w : 0 + length (write_value k x) ≡ 0 + length (write_value k y) = cc in
     let n : length (write_value k x) ≡ length (write_value k y) = omega arith in (
       value_same k x y g h (sym (take-append_seam (write_value k x) r) ∙ ap (take (length (write_value k x))) e ∙ rw n (take-append_seam (write_value k y) v)),

@@ -1,4 +1,5 @@
 -- The places at which the reader of a line stands, and what it leaves in the area (document 01: "A line is read left to right from a place that only moves on"). Assumes nothing.
+use Rattle.std.specs.Prelude.{Some}
 use Prim.Native.Nat.{ℕ, suc, ◌+◌, ◌-◌, ◌<◌}
 use mathlib.Core.Path.{◌≡◌, refl, sym, ap, ◌∙◌}
 use mathlib.Core.Bool.{true, false}
@@ -13,7 +14,6 @@ use Rattle.rights.specs.Bytes.{byte_at}
 use Rattle.rights.specs.Labels.{label_byte}
 use Rattle.rights.specs.Nodes.{Node}
 use Rattle.rights.specs.Record.{pasted}
-use Rattle.rights.specs.declared.path.Read.TheVariants.{At}
 use Rattle.rights.proofs.ListLaws.{by_case, rest_of}
 use Rattle.rights.proofs.RecordLaws.{pasted-none}
 use Rattle.forms.specs.Part.{run_end}
@@ -38,7 +38,7 @@ onto_is : (xs : List ℕ) (p : Places) (es : List ℕ) → xs onTo p ≡ are es 
 onto_is xs (are ys) es q = (ys, refl, sym (ap list_of q))
 onto_is xs none es q = never_are q
 
-one_is : (k : Kind) (s : List ℕ) (at e : ℕ) → one_part k s at ≡ At e → (byte_at s at ≡ 32) × (part_end k s (at + 1) ≡ At e)
+one_is : (k : Kind) (s : List ℕ) (at e : ℕ) → one_part k s at ≡ Some e → (byte_at s at ≡ 32) × (part_end k s (at + 1) ≡ Some e)
 one_is k s at e q =
     by_case (eqb (byte_at s at) 32)
     (λ b. (eqb-true _ _ b, rw b at q))
@@ -60,7 +60,7 @@ module _ (s a : List ℕ) where
 
   abbrev PutNext : Kind → Type 0
   PutNext k =
-      (ks : List Kind) (at e : ℕ) (ys : List ℕ) → tree_last (k ∷ ks) ≡ true → byte_at s at ≡ 32 → part_end k s (at + 1) ≡ At e → (tree_last ks ≡ true → Put ks e ys) → Put (k ∷ ks) at (at ∷ ys)
+      (ks : List Kind) (at e : ℕ) (ys : List ℕ) → tree_last (k ∷ ks) ≡ true → byte_at s at ≡ 32 → part_end k s (at + 1) ≡ Some e → (tree_last ks ≡ true → Put ks e ys) → Put (k ∷ ks) at (at ∷ ys)
 
   put_tree : PutNext Tree
   unfolding area_after area_by records_of

@@ -1,4 +1,5 @@
 -- What is read as a tree is what is written as one, and its nodes are the tree's in document order. Assumes nothing.
+use Rattle.std.specs.Prelude.{Option, Some, None}
 use Prim.Native.Nat.{ℕ, zero, suc, ◌+◌, ◌-◌, ◌*◌, ◌≤◌}
 use mathlib.Core.Path.{◌≡◌, refl, sym, ap, ◌∙◌}
 use mathlib.Core.List.{List, [], ◌∷◌, ◌++◌, append_assoc, append-nil}
@@ -14,8 +15,6 @@ use Rattle.rights.specs.Limits.{label_max}
 use Rattle.rights.specs.Bytes.{byte_at, all, run}
 use Rattle.rights.specs.Labels.{label_byte}
 use Rattle.rights.specs.PathReader.{run_at}
-use Rattle.rights.specs.declared.path.Read.{Read}
-use Rattle.rights.specs.declared.path.Read.TheVariants.{At, Bad}
 use Rattle.rights.proofs.PathTexts.{cond_elim, Reads, reads_more, reads_byte, reads_take, run-all, run_length, run_over, byte_here}
 use Rattle.forms.specs.Part.{short_end, label_end}
 use Rattle.rights.specs.Nodes.{Node, node}
@@ -32,22 +31,22 @@ module _ (s : List ℕ) (at : ℕ) where
   drop_over w r e = rw (← (drop-drop (length w) at s), e) (drop-append_seam w r)
 
   -- a run of at most so many bytes: one that is written is read, and one that is read was written
-  pub short_reads : (f : ℕ → Bool) (most : ℕ) (l r : List ℕ) → Short f most l → drop at s ≡ l ++ r → f (get_or r 0 0) ≡ false → short_end f most s at ≡ At (at + length l)
+  pub short_reads : (f : ℕ → Bool) (most : ℕ) (l r : List ℕ) → Short f most l → drop at s ≡ l ++ r → f (get_or r 0 0) ≡ false → short_end f most s at ≡ Some (at + length l)
   short_reads f most l r g e h =
       let q : run_at f s at ≡ length l = rw e (run_over f l r g.2 h) in
       rw (q, le-leb 1 (length l) g.0, le-leb (length l) most g.1)
 
-  pub short_sound : (f : ℕ → Bool) (most j : ℕ) → short_end f most s at ≡ At j → (w : List ℕ) × Short f most w × Reads s at w j
+  pub short_sound : (f : ℕ → Bool) (most j : ℕ) → short_end f most s at ≡ Some j → (w : List ℕ) × Short f most w × Reads s at w j
   short_sound f most j e =
       let x = short_is f most s at j e in
       let q = run_length f (drop at s) in
       (take (run_at f s at) (drop at s), (rw q x.1, rw q x.2, run-all f (drop at s)), rw x.0 (reads_take s at (run_at f s at)))
 
-  pub label_reads : (l r : List ℕ) → GoodLabel l → drop at s ≡ l ++ r → label_byte (get_or r 0 0) ≡ false → label_end s at ≡ At (at + length l)
+  pub label_reads : (l r : List ℕ) → GoodLabel l → drop at s ≡ l ++ r → label_byte (get_or r 0 0) ≡ false → label_end s at ≡ Some (at + length l)
   unfolding label_end
   label_reads = short_reads label_byte label_max
 
-pub open_reads : (s : List ℕ) (at : ℕ) (l r : List ℕ) → GoodLabel l → drop at s ≡ 40 ∷ (l ++ r) → label_byte (get_or r 0 0) ≡ false → open_end s at ≡ At (at + 1 + length l)
+pub open_reads : (s : List ℕ) (at : ℕ) (l r : List ℕ) → GoodLabel l → drop at s ≡ 40 ∷ (l ++ r) → label_byte (get_or r 0 0) ≡ false → open_end s at ≡ Some (at + 1 + length l)
 unfolding open_end
 open_reads s at l r g e h =
     let b : byte_at s at ≡ 40 = rw (byte_here s at, e) in
@@ -59,7 +58,7 @@ first_trees none r h = h
 first_trees (more t ts) r h = refl
 
 -- after a label: what `(label` and `)` leave to read
-module _ (d at : ℕ) (x : Read) where
+module _ (d at : ℕ) (x : Option ℕ) where
   step_open : (l u : List ℕ) → GoodLabel l → label_byte (get_or u 0 0) ≡ false → ((g : ℕ) → length u ≤ g → tail_end g (d + 1) (at + (1 + 1 + length l)) u ≡ x) → (f : ℕ) → length (32 ∷ 40 ∷ (l ++ u)) ≤ f → tail_end f d at (32 ∷ 40 ∷ (l ++ u)) ≡ x
   unfolding tail_end
   step_open l u g h k zero n = absurd (omega arith)
@@ -79,7 +78,7 @@ module _ (d at : ℕ) (x : Read) where
 mutual
   unfolding write_trees write_tree GoodTrees GoodTree label_byte
 
-  over_tree : (t : Tree) (d at : ℕ) (r : List ℕ) (x : Read) → GoodTree t → 1 ≤ d → ((g : ℕ) → length r ≤ g → tail_end g d (at + 1 + length (write_tree t)) r ≡ x) → (f : ℕ) → length (32 ∷ (write_tree t ++ r)) ≤ f → tail_end f d at (32 ∷ (write_tree t ++ r)) ≡ x
+  over_tree : (t : Tree) (d at : ℕ) (r : List ℕ) (x : Option ℕ) → GoodTree t → 1 ≤ d → ((g : ℕ) → length r ≤ g → tail_end g d (at + 1 + length (write_tree t)) r ≡ x) → (f : ℕ) → length (32 ∷ (write_tree t ++ r)) ≤ f → tail_end f d at (32 ∷ (write_tree t ++ r)) ≡ x
   over_tree (tree l us) d at r x g p k f n =
       let m : List ℕ = 41 ∷ r in
       let u : List ℕ = write_trees us ++ m in
@@ -92,7 +91,7 @@ mutual
       (λ i hi. over_trees us (d + 1) a m x g.1 (omega arith) refl (λ j hj. step_close d b x r p (λ y hy. rw z at (k y hy)) j hj) i hi)
       f (omega (arith, ap length e)))
 
-  over_trees : (ts : Trees) (d at : ℕ) (r : List ℕ) (x : Read) → GoodTrees ts → 1 ≤ d → label_byte (get_or r 0 0) ≡ false → ((g : ℕ) → length r ≤ g → tail_end g d (at + length (write_trees ts)) r ≡ x) → (f : ℕ) → length (write_trees ts ++ r) ≤ f → tail_end f d at (write_trees ts ++ r) ≡ x
+  over_trees : (ts : Trees) (d at : ℕ) (r : List ℕ) (x : Option ℕ) → GoodTrees ts → 1 ≤ d → label_byte (get_or r 0 0) ≡ false → ((g : ℕ) → length r ≤ g → tail_end g d (at + length (write_trees ts)) r ≡ x) → (f : ℕ) → length (write_trees ts ++ r) ≤ f → tail_end f d at (write_trees ts ++ r) ≡ x
   over_trees none d at r x g p h k f n = rw (add-zero at) at (k f n)
   over_trees (more t ts) d at r x g p h k f n =
       let e : write_trees (more t ts) ++ r ≡ 32 ∷ (write_tree t ++ (write_trees ts ++ r)) = simp append_assoc in
@@ -143,7 +142,7 @@ mutual
       (tree_nodes_lem t d (write_trees ts ++ r) (nodes_in d ts ++ y) g.0 p (λ i hi. over_nodes ts d r y g.1 p h k i hi) f (omega (arith, ap length e)))
 
 -- the `)` of the outermost ends the tree
-last_end : (at : ℕ) (r : List ℕ) (f : ℕ) → length (41 ∷ r) ≤ f → tail_end f 1 at (41 ∷ r) ≡ At (at + 1)
+last_end : (at : ℕ) (r : List ℕ) (f : ℕ) → length (41 ∷ r) ≤ f → tail_end f 1 at (41 ∷ r) ≡ Some (at + 1)
 unfolding tail_end
 last_end at r zero n = absurd (omega arith)
 last_end at r (suc f) n = refl
@@ -154,7 +153,7 @@ last_nodes r zero n = absurd (omega arith)
 last_nodes r (suc f) n = refl
 
 -- A good tree, written at a place, ends there and has these nodes
-pub tree_complete : (s : List ℕ) (at : ℕ) (t : Tree) (r : List ℕ) → GoodTree t → drop at s ≡ write_tree t ++ r → (tree_end s at ≡ At (at + length (write_tree t))) × (tree_nodes s at ≡ nodes_of 0 t)
+pub tree_complete : (s : List ℕ) (at : ℕ) (t : Tree) (r : List ℕ) → GoodTree t → drop at s ≡ write_tree t ++ r → (tree_end s at ≡ Some (at + length (write_tree t))) × (tree_nodes s at ≡ nodes_of 0 t)
 unfolding write_tree GoodTree nodes_of tree_end tree_nodes label_byte
 tree_complete s at (tree l ts) r g e =
     let m : List ℕ = 41 ∷ r in
@@ -168,7 +167,7 @@ tree_complete s at (tree l ts) r g e =
     let z : c + length (write_trees ts) + 1 ≡ at + length (40 ∷ (l ++ write_trees ts ++ 41 ∷ [])) = simp length-append (omega arith) in
     let i : c - (at + 1) ≡ length l = omega arith in
     let lab : take (length l) (drop (at + 1) s) ≡ l = rw da (take-append_seam l u) in (
-      rw (o, dc, ← z) (over_trees ts 1 c m (At (c + length (write_trees ts) + 1)) g.1 (omega arith) refl (λ v hv. last_end (c + length (write_trees ts)) r v hv) (length s) small),
+      rw (o, dc, ← z) (over_trees ts 1 c m (Some (c + length (write_trees ts) + 1)) g.1 (omega arith) refl (λ v hv. last_end (c + length (write_trees ts)) r v hv) (length s) small),
       rw (o, dc, i, lab) (ap (λ (ns : List Node). node 0 l ∷ ns) (over_nodes ts 1 m [] g.1 (omega arith) refl (λ v hv. last_nodes r v hv) (length s) small ∙ append-nil (nodes_in 1 ts))),
     )
 
@@ -205,7 +204,7 @@ opening_text s at e o =
     )
 
 module _ (f d at : ℕ) (s : List ℕ) (j : ℕ) where
-  tail_last : byte_at s 0 ≡ 41 → d ≡ 1 → At (at + 1) ≡ At j → TailRead (suc f) d at j s
+  tail_last : byte_at s 0 ≡ 41 → d ≡ 1 → Some (at + 1) ≡ Some j → TailRead (suc f) d at j s
   unfolding tail_nodes write_trees nodes_in GoodTrees closing GoodAll nodes_all
   tail_last b q e =
       let w : at + 1 ≡ j = cc in
@@ -226,7 +225,7 @@ module _ (f d at : ℕ) (s : List ℕ) (j : ℕ) where
         nodes = rw (b, ne_eqb d 1 q) x.nodes;
       }
 
-  tail_open : (e : ℕ) → byte_at s 0 ≡ 32 → open_end s 1 ≡ At e → 1 ≤ d → TailRead f (d + 1) (at + e) j (drop e s) → TailRead (suc f) d at j s
+  tail_open : (e : ℕ) → byte_at s 0 ≡ 32 → open_end s 1 ≡ Some e → 1 ≤ d → TailRead f (d + 1) (at + e) j (drop e s) → TailRead (suc f) d at j s
   unfolding tail_nodes write_trees write_tree nodes_in nodes_of GoodTrees GoodTree closing GoodAll nodes_all
   tail_open e b o p x = split x.open_trees x.as_many x.good x.text x.nodes x.on
     where
@@ -250,14 +249,14 @@ module _ (f d at : ℕ) (s : List ℕ) (j : ℕ) where
             nodes = rw (b, o) (ap (λ (ns : List Node). node d lab ∷ ns) (n ∙ rw (y, add-one d) (sym (append_assoc (nodes_in (suc d) us) (nodes_in d ts) (nodes_all (d - 1) rest)))));
           }
 
-never_at : {C : Type 0} {j : ℕ} → Bad ≡ At j → C
+never_at : {C : Type 0} {j : ℕ} → None ≡ Some j → C
 never_at e = absurd (let z : ◌≡◌ {A = ℕ} 0 1 = cc in omega arith)
 
-after_elim : {C : Type 0} {j : ℕ} (r : Read) (k : ℕ → Read) → ((e : ℕ) → r ≡ At e → k e ≡ At j → C) → (r and_then (Bad, k)) ≡ At j → C
-after_elim (At e) k h q = h e refl q
-after_elim Bad k h q = never_at q
+after_elim : {C : Type 0} {j : ℕ} (r : Option ℕ) (k : ℕ → (Option ℕ)) → ((e : ℕ) → r ≡ Some e → k e ≡ Some j → C) → (r and_then (None, k)) ≡ Some j → C
+after_elim (Some e) k h q = h e refl q
+after_elim None k h q = never_at q
 
-sound_tail : (f d at : ℕ) (s : List ℕ) (j : ℕ) → 1 ≤ d → tail_end f d at s ≡ At j → TailRead f d at j s
+sound_tail : (f d at : ℕ) (s : List ℕ) (j : ℕ) → 1 ≤ d → tail_end f d at s ≡ Some j → TailRead f d at j s
 unfolding tail_end
 sound_tail zero d at s j p = never_at
 sound_tail (suc f) d at s j p =
@@ -276,11 +275,11 @@ pub record TreeRead (s : List ℕ) (at j : ℕ) : Type 0 where
   pub text : Reads s at (write_tree is) j
   pub nodes : tree_nodes s at ≡ nodes_of 0 is
 
-pub tree_sound : (s : List ℕ) (at j : ℕ) → tree_end s at ≡ At j → TreeRead s at j
+pub tree_sound : (s : List ℕ) (at j : ℕ) → tree_end s at ≡ Some j → TreeRead s at j
 unfolding tree_end tree_nodes write_tree nodes_of GoodTree closing GoodAll nodes_all
 tree_sound s at j = after_elim (open_end s at) (λ e. tail_end (length s) 1 e (drop e s)) λ e o q. found e o (sound_tail (length s) 1 e (drop e s) j (omega arith) q)
   where
-    found : (e : ℕ) → open_end s at ≡ At e → TailRead (length s) 1 e j (drop e s) → TreeRead s at j
+    found : (e : ℕ) → open_end s at ≡ Some e → TailRead (length s) 1 e j (drop e s) → TreeRead s at j
     found e o x = split x.open_trees x.as_many x.good x.text x.nodes x.on
       where
         lab : List ℕ
@@ -300,7 +299,7 @@ tree_sound s at j = after_elim (open_end s at) (λ e. tail_end (length s) 1 e (d
               nodes = rw o (ap (λ (ns : List Node). node 0 lab ∷ ns) (n ∙ append-nil (nodes_in 1 ts)));
             }
 
--- At most one good tree is written so
+-- Some most one good tree is written so
 pub label_unique : (l m x y : List ℕ) → all label_byte l ≡ true → all label_byte m ≡ true → label_byte (get_or x 0 0) ≡ false → label_byte (get_or y 0 0) ≡ false → l ++ x ≡ m ++ y → (l ≡ m) × (x ≡ y)
 label_unique l m x y a b p q e =
     let n : length l ≡ length m = sym (run_over label_byte l x a p) ∙ ap (run label_byte) e ∙ run_over label_byte m y b q in (

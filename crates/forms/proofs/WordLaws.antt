@@ -183,22 +183,6 @@ pub right_numbered : (s : List ℕ) (at : ℕ) → by_number 0 rights (text_numb
 unfolding right_at label_byte all
 right_numbered s at = numbered-among 0 rights refl s at
 
--- A number that is none of a table's: what a `match` on the numbers leaves
-abbrev pub Missing : {A : Type 0} → Type 0 → List (List ℕ × A) → ℕ → Type 0
-Missing X [] n = X
-Missing X ((w, x) ∷ rest) n = Missing (X × (n ≡ text_number w → ⊥)) rest n
-
-missing_first : {A : Type 0} (X : Type 0) (t : List (List ℕ × A)) (n : ℕ) → Missing X t n → X
-missing_first X [] n h = h
-missing_first X ((w, x) ∷ rest) n h = (missing_first (X × (n ≡ text_number w → ⊥)) rest n h).0
-
-pub finds_none : {A : Type 0} (X : Type 0) (other : A) (t : List (List ℕ × A)) (n : ℕ) → Missing X t n → other ≡ by_number other t n
-unfolding by_number
-finds_none X other [] n h = refl
-finds_none X other ((w, x) ∷ rest) n h =
-    let y = X × (n ≡ text_number w → ⊥) in
-    rw (ne_eqb n (text_number w) (missing_first y rest n h).1) (finds_none y other rest n h)
-
 -- What every entry of a table is to its text, what is looked up is to the text that it is looked up by
 abbrev pub Every : {A : Type 0} → (A → List ℕ → Type 0) → List (List ℕ × A) → Type 0
 Every R [] = Unit {0}

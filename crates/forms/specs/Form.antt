@@ -1,10 +1,8 @@
 -- How a line's form is read (document 01, "Lines"): its word, then the parts of the word's shape. How it is written stands in Command.
-use Rattle.std.specs.Prelude.{ℕ, suc, ◌+◌, ◌-◌, Bool, cond, ◌&&◌, List, [], ◌∷◌, ◌++◌, length, get_or, take, drop, leb, eqb}
+use Rattle.std.specs.Prelude.{Option, None, ℕ, suc, ◌+◌, ◌-◌, Bool, cond, ◌&&◌, List, [], ◌∷◌, ◌++◌, length, get_or, take, drop, leb, eqb}
 use Rattle.rights.specs.Bytes.{byte_at}
 use Rattle.rights.specs.Labels.{label_byte}
 use Rattle.rights.specs.Nodes.{Node}
-use Rattle.rights.specs.declared.path.Read.{Read}
-use Rattle.rights.specs.declared.path.Read.TheVariants.{Bad}
 use Rattle.forms.specs.declared.layout.Word.{Word}
 use Rattle.forms.specs.declared.layout.Word.TheVariants.{Other}
 use Rattle.forms.specs.Word.{sign_at, right_at}
@@ -14,8 +12,8 @@ use Rattle.forms.specs.Kind.{Kind, Label, Path, Tree, Sign, Right, Day, part_end
 use Rattle.forms.specs.Tree.{◌and_then◌, tree_nodes}
 
 -- "Parts are parted by one space": a space and a part
-abbrev pub one_part : Kind → List ℕ → ℕ → Read
-one_part k s at = cond (eqb (byte_at s at) 32) (part_end k s (at + 1)) Bad
+abbrev pub one_part : Kind → List ℕ → ℕ → Option ℕ
+one_part k s at = cond (eqb (byte_at s at) 32) (part_end k s (at + 1)) None
 
 -- the places after the word and after each part, if all of them are there
 pub data Places : Type 0 where

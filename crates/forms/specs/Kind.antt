@@ -1,6 +1,5 @@
 -- The kinds of a line's parts, and where a part of each kind ends (document 01, "Lines").
-use Rattle.std.specs.Prelude.{ℕ, Bool, List, eqb}
-use Rattle.rights.specs.declared.path.Read.{Read}
+use Rattle.std.specs.Prelude.{Option, ℕ, Bool, List, eqb}
 use Rattle.forms.specs.Word.{sign_at, right_at}
 use Rattle.forms.specs.Part.{path_byte, label_end, day_end, run_end, known_end}
 use Rattle.forms.specs.Tree.{tree_end}
@@ -10,7 +9,7 @@ pub data Kind : Type 0 where
   Label Path Tree Sign Right Day : Kind
 
 -- the place after a part
-abbrev pub part_end : Kind → List ℕ → ℕ → Read
+abbrev pub part_end : Kind → List ℕ → ℕ → Option ℕ
 part_end Label s at = label_end s at
 part_end Path s at = run_end path_byte s at
 part_end Tree s at = tree_end s at

@@ -1,34 +1,32 @@
 -- How a tree is read, `(label tree ...)`, and the records that hold it (document 01, "Tree and table"). What is read is a Tree (rights, specs/Tree).
-use Rattle.std.specs.Prelude.{ℕ, zero, suc, ◌+◌, ◌-◌, min, List, [], ◌∷◌, ◌++◌, cond, length, take, drop, eqb}
+use Rattle.std.specs.Prelude.{Option, Some, None, ℕ, zero, suc, ◌+◌, ◌-◌, min, List, [], ◌∷◌, ◌++◌, cond, length, take, drop, eqb}
 use Rattle.rights.specs.Bytes.{byte_at}
 use Rattle.rights.specs.Nodes.{Node, node}
 use Rattle.rights.specs.Record.{node_record}
-use Rattle.rights.specs.declared.path.Read.{Read}
-use Rattle.rights.specs.declared.path.Read.TheVariants.{At, Bad}
 use Rattle.forms.specs.Part.{label_end}
 
 -- goes on at the place after what was read
-abbrev pub ◌and_then◌ : {A : Type 0} → Read → A × (ℕ → A) → A
-◌and_then◌ (At i) f = f.1 i
-◌and_then◌ Bad f = f.0
+abbrev pub ◌and_then◌ : {A : Type 0} → Option ℕ → A × (ℕ → A) → A
+◌and_then◌ (Some i) f = f.1 i
+◌and_then◌ None f = f.0
 
 infixr 20 ◌and_then◌
 -- `(` and a label
-unfoldable pub open_end : List ℕ → ℕ → Read
-open_end s at = cond (eqb (byte_at s at) 40) (label_end s (at + 1)) Bad
+unfoldable pub open_end : List ℕ → ℕ → Option ℕ
+open_end s at = cond (eqb (byte_at s at) 40) (label_end s (at + 1)) None
 
 -- What follows a label where depth trees are open is `)`, or a space and a further tree; s stands at place at, and what is read is the place after the
--- `)` of the outermost. At most f parts are read; each part takes a byte or more, so the length of s is enough.
-unfoldable pub tail_end : ℕ → ℕ → ℕ → List ℕ → Read
-tail_end zero depth at s = Bad
+-- `)` of the outermost. Some most f parts are read; each part takes a byte or more, so the length of s is enough.
+unfoldable pub tail_end : ℕ → ℕ → ℕ → List ℕ → Option ℕ
+tail_end zero depth at s = None
 tail_end (suc f) depth at s =
     cond (eqb (byte_at s 0) 41)
-    (cond (eqb depth 1) (At (at + 1)) (tail_end f (depth - 1) (at + 1) (drop 1 s)))
-    (cond (eqb (byte_at s 0) 32) (open_end s 1 and_then (Bad, λ e. tail_end f (depth + 1) (at + e) (drop e s))) Bad)
+    (cond (eqb depth 1) (Some (at + 1)) (tail_end f (depth - 1) (at + 1) (drop 1 s)))
+    (cond (eqb (byte_at s 0) 32) (open_end s 1 and_then (None, λ e. tail_end f (depth + 1) (at + e) (drop e s))) None)
 
 -- the place after a tree
-unfoldable pub tree_end : List ℕ → ℕ → Read
-tree_end s at = open_end s at and_then (Bad, λ e. tail_end (length s) 1 e (drop e s))
+unfoldable pub tree_end : List ℕ → ℕ → Option ℕ
+tree_end s at = open_end s at and_then (None, λ e. tail_end (length s) 1 e (drop e s))
 
 -- the nodes that such a text opens, in document order, each with how many nodes stand above it and its label
 unfoldable pub tail_nodes : ℕ → ℕ → List ℕ → List Node

@@ -3,15 +3,16 @@ ghost use Rattle.std.specs.Prelude.{◌≡◌, ◌*◌, ◌≤◌, length};
 ghost use Rattle.forms.specs.How.Reader.{FormRead, area_in};
 
 use crate::layout::Word;
-use crate::limits::NO_STAGE;
-use crate::reader::{beginning, walk};
+use crate::reader::walk;
+use crate::stage::Stage;
 
-// What a line says: its word and stage, the places after the word and after each part, and what each part says: 1 for accept, a right's bit, a day's number,
-// how many nodes a tree has. A tree's nodes stand in the lent area. The word of what is no form (refusal 2) is `Other`.
+// What a line says: its word and stage, the places after the word and after each part, and what each part says: 1 for
+// accept, a right's bit, a day's number, how many nodes a tree has. A tree's nodes stand in the lent area. What is no
+// form (refusal 2) has the word `Other` and no stage.
 #[derive(Clone, Copy)]
 pub struct Form {
     pub word: Word,
-    pub stage: u8,
+    pub stage: Option<Stage>,
     pub ends: [usize; 5],
     pub says: [usize; 4],
 }
@@ -22,24 +23,21 @@ pub fn read_form(s: &[u8], tree: &mut [u8]) -> Form
     requires { 16 * length s.now ≤ length tree.old }
     ensures { FormRead s.now result × (tree.new ≡ area_in s.now tree.old) }
 {
-    let p = walk(s, beginning(), tree);
-    if p.good {
-        let layout = p.layout;
-        let word = layout.word;
-        let stage = layout.stage;
-        let ends = p.ends;
-        let says = p.says;
+    let Some(p) = walk(s, tree) else {
         return Form {
-            word,
-            stage,
-            ends,
-            says,
+            word: Word::Other,
+            stage: None,
+            ends: [0; 5],
+            says: [0; 4],
         };
-    }
+    };
+    let layout = p.layout;
+    let ends = p.ends;
+    let says = p.says;
     Form {
-        word: Word::Other,
-        stage: NO_STAGE,
-        ends: [0; 5],
-        says: [0; 4],
+        word: layout.word,
+        stage: layout.stage,
+        ends,
+        says,
     }
 }

@@ -1,33 +1,29 @@
-// The kinds of a line's parts (document 01, "Lines"), each by its number, and how a part of each is passed.
+// The kinds of a line's parts (document 01, "Lines"), and how a part of each is passed.
 ghost use Rattle.std.specs.Prelude.{◌≡◌, true, ◌+◌, ◌-◌, ◌*◌, ◌≤◌, ◌<◌, length};
 ghost use Rattle.rights.specs.Bytes.{digit_byte};
-ghost use Rattle.forms.specs.How.Codes.{area_by};
+ghost use Rattle.forms.specs.How.Codes.{kind_number, area_by};
 ghost use Rattle.forms.specs.How.Reader.{PartPassed};
 
 use crate::limits::DAY_DIGITS;
-use crate::part::{PartRead, known, label_part_end, moved, path_part_end, silent};
+use crate::part::{Part, known, label_part_end, passed, path_part_end, silent};
 use crate::tree::read_tree;
 use crate::word::{numbered_right, numbered_sign, pass_run};
-use rights::bytes::wide;
-use rights::path::{Read, digit_byte};
+use rights::path::digit_byte;
 
-// No kind: it ends a shape.
-pub const END: u8 = 0;
-// A label, which may be a subject's name.
-pub const LABEL: u8 = 1;
-
-pub const PATH: u8 = 2;
-
-pub const TREE: u8 = 3;
-// `accept` or `deny`.
-pub const SIGN: u8 = 4;
-
-pub const RIGHT: u8 = 5;
-
-pub const DAY: u8 = 6;
+#[derive(Clone, Copy)]
+pub enum Kind {
+    // A label, which may be a subject's name.
+    Label,
+    Path,
+    Tree,
+    // `accept` or `deny`.
+    Sign,
+    Right,
+    Day,
+}
 
 // `accept` or `deny` at `at`.
-fn pass_sign(s: &[u8], at: usize) -> PartRead
+fn pass_sign(s: &[u8], at: usize) -> Option<Part>
     requires { at ≤ length s.now }
     ensures { PartPassed 4 s.now at result }
 {
@@ -36,7 +32,8 @@ fn pass_sign(s: &[u8], at: usize) -> PartRead
 }
 
 // A right at `at`.
-fn pass_right(s: &[u8], at: usize) -> PartRead
+// Kept beside pass_sign: two lines each, which differ in the table that they ask.
+fn pass_right(s: &[u8], at: usize) -> Option<Part>
     requires { at ≤ length s.now }
     ensures { PartPassed 5 s.now at result }
 {
@@ -49,48 +46,39 @@ fn with_digit(n: usize, b: u8) -> usize
     requires { (n < 10000) × (digit_byte b ≡ true) }
     ensures { result ≡ n * 10 + (b - 48) }
 {
-    n * 10 + wide(b - b'0')
+    n * 10 + usize::from(b - b'0')
 }
 
 // A day at `at`, and the number that its digits write. It has no fourth digit.
-fn pass_day(s: &[u8], at: usize) -> PartRead
+fn pass_day(s: &[u8], at: usize) -> Option<Part>
     requires { at ≤ length s.now }
     ensures { PartPassed 6 s.now at result }
 {
-    let mut number = 0;
-    let mut i = at;
-    while i < s.len() {
-        let b = s[i];
-        if !digit_byte(b) {
-            return PartRead {
-                end: moved(at, i),
-                says: number,
-            };
+    let mut says = 0;
+    for i in at..s.len() {
+        if !digit_byte(s[i]) {
+            return passed(at, i, says);
         }
         if DAY_DIGITS <= i - at {
-            return silent(Read::Bad);
+            return None;
         }
-        number = with_digit(number, b);
-        i += 1;
+        says = with_digit(says, s[i]);
     }
-    PartRead {
-        end: moved(at, i),
-        says: number,
-    }
+    passed(at, s.len(), says)
 }
 
 // The part of kind k at `at`. What it says is found while it is passed, and so are a tree's records, which are put into the lent area.
-pub(crate) fn pass_part(s: &[u8], at: usize, k: u8, tree: &mut [u8]) -> PartRead
+// Kept: a match of an enum, whose arms take different arguments; a table of closures would need one signature.
+pub(crate) fn pass_part(s: &[u8], at: usize, k: Kind, tree: &mut [u8]) -> Option<Part>
     requires { (at ≤ length s.now) × (16 * length s.now ≤ length tree.old) }
-    ensures { PartPassed k s.now at result × (tree.new ≡ area_by k s.now at tree.old) }
+    ensures { PartPassed (kind_number k) s.now at result × (tree.new ≡ area_by (kind_number k) s.now at tree.old) }
 {
     match k {
-        LABEL => silent(label_part_end(s, at)),
-        PATH => silent(path_part_end(s, at)),
-        TREE => read_tree(s, at, tree),
-        SIGN => pass_sign(s, at),
-        RIGHT => pass_right(s, at),
-        DAY => pass_day(s, at),
-        _ => silent(Read::Bad),
+        Kind::Label => silent(label_part_end(s, at)),
+        Kind::Path => silent(path_part_end(s, at)),
+        Kind::Tree => read_tree(s, at, tree),
+        Kind::Sign => pass_sign(s, at),
+        Kind::Right => pass_right(s, at),
+        Kind::Day => pass_day(s, at),
     }
 }

@@ -2,8 +2,8 @@
 ghost use Rattle.forms.specs.How.Codes.{by_number, LaidOut};
 ghost use Rattle.forms.specs.Layout.{words};
 
-use crate::kind::{DAY, END, LABEL, PATH, RIGHT, SIGN, TREE};
-use crate::limits::{NO_STAGE, STAGE_A, STAGE_B, STAGE_C, STAGE_D, STAGE_E};
+use crate::kind::Kind;
+use crate::stage::Stage;
 
 #[derive(Clone, Copy)]
 pub enum Word {
@@ -28,113 +28,119 @@ pub enum Word {
     Other,
 }
 
-// A form's word, its stage, and the kinds of its parts in order.
+// A form's word, its stage (none for what is no form), and the kinds of its parts in order: at most four.
 #[derive(Clone, Copy)]
 pub struct Layout {
     pub word: Word,
-    pub stage: u8,
-    pub kinds: [u8; 5],
+    pub stage: Option<Stage>,
+    pub kinds: [Option<Kind>; 4],
 }
 
 // The layout of a word by its number.
+#[tactic(auto, unfolding(crate::specs::How::Codes::by_number, crate::specs::How::Codes::text_number))]
 pub(crate) fn numbered_layout(n: u64) -> Layout
     ensures { LaidOut (by_number Word.Other words n) result }
 {
     match n {
         32760384526120307 => Layout {
             word: Word::Subject,
-            stage: STAGE_A,
-            kinds: [LABEL, END, END, END, END],
+            stage: Some(Stage::A),
+            kinds: [Some(Kind::Label), None, None, None],
         },
         6386537 => Layout {
             word: Word::Isa,
-            stage: STAGE_A,
-            kinds: [LABEL, LABEL, END, END, END],
+            stage: Some(Stage::A),
+            kinds: [Some(Kind::Label), Some(Kind::Label), None, None],
         },
         1701606770 => Layout {
             word: Word::Rule,
-            stage: STAGE_B,
-            kinds: [SIGN, RIGHT, PATH, LABEL, END],
+            stage: Some(Stage::B),
+            kinds: [
+                Some(Kind::Sign),
+                Some(Kind::Right),
+                Some(Kind::Path),
+                Some(Kind::Label),
+            ],
         },
         1953460082 => Layout {
             word: Word::Root,
-            stage: STAGE_C,
-            kinds: [LABEL, END, END, END, END],
+            stage: Some(Stage::C),
+            kinds: [Some(Kind::Label), None, None, None],
         },
         431315576931 => Layout {
             word: Word::Child,
-            stage: STAGE_D,
-            kinds: [TREE, END, END, END, END],
+            stage: Some(Stage::D),
+            kinds: [Some(Kind::Tree), None, None, None],
         },
         1919251317 => Layout {
             word: Word::User,
-            stage: STAGE_E,
-            kinds: [LABEL, END, END, END, END],
+            stage: Some(Stage::E),
+            kinds: [Some(Kind::Label), None, None, None],
         },
         2003134838 => Layout {
             word: Word::View,
-            stage: STAGE_E,
-            kinds: [END, END, END, END, END],
+            stage: Some(Stage::E),
+            kinds: [None, None, None, None],
         },
         521610294641 => Layout {
             word: Word::Query,
-            stage: STAGE_E,
-            kinds: [PATH, END, END, END, END],
+            stage: Some(Stage::E),
+            kinds: [Some(Kind::Path), None, None, None],
         },
         1684957542 => Layout {
             word: Word::Find,
-            stage: STAGE_E,
-            kinds: [PATH, END, END, END, END],
+            stage: Some(Stage::E),
+            kinds: [Some(Kind::Path), None, None, None],
         },
         111520460465522 => Layout {
             word: Word::Rename,
-            stage: STAGE_E,
-            kinds: [PATH, LABEL, END, END, END],
+            stage: Some(Stage::E),
+            kinds: [Some(Kind::Path), Some(Kind::Label), None, None],
         },
         111550524584053 => Layout {
             word: Word::Update,
-            stage: STAGE_E,
-            kinds: [PATH, LABEL, END, END, END],
+            stage: Some(Stage::E),
+            kinds: [Some(Kind::Path), Some(Kind::Label), None, None],
         },
         110425311047777 => Layout {
             word: Word::Append,
-            stage: STAGE_E,
-            kinds: [PATH, TREE, END, END, END],
+            stage: Some(Stage::E),
+            kinds: [Some(Kind::Path), Some(Kind::Tree), None, None],
         },
         111542169658722 => Layout {
             word: Word::Before,
-            stage: STAGE_E,
-            kinds: [PATH, TREE, END, END, END],
+            stage: Some(Stage::E),
+            kinds: [Some(Kind::Path), Some(Kind::Tree), None, None],
         },
         491328398945 => Layout {
             word: Word::After,
-            stage: STAGE_E,
-            kinds: [PATH, TREE, END, END, END],
+            stage: Some(Stage::E),
+            kinds: [Some(Kind::Path), Some(Kind::Tree), None, None],
         },
         111559349986674 => Layout {
             word: Word::Remove,
-            stage: STAGE_E,
-            kinds: [PATH, END, END, END, END],
+            stage: Some(Stage::E),
+            kinds: [Some(Kind::Path), None, None, None],
         },
         499917351027 => Layout {
             word: Word::Sheet,
-            stage: STAGE_E,
-            kinds: [LABEL, END, END, END, END],
+            stage: Some(Stage::E),
+            kinds: [Some(Kind::Label), None, None, None],
         },
         7954788 => Layout {
             word: Word::Day,
-            stage: STAGE_E,
-            kinds: [DAY, END, END, END, END],
+            stage: Some(Stage::E),
+            kinds: [Some(Kind::Day), None, None, None],
         },
         131320310032759 => Layout {
             word: Word::Window,
-            stage: STAGE_E,
-            kinds: [PATH, DAY, DAY, END, END],
+            stage: Some(Stage::E),
+            kinds: [Some(Kind::Path), Some(Kind::Day), Some(Kind::Day), None],
         },
         _ => Layout {
             word: Word::Other,
-            stage: NO_STAGE,
-            kinds: [END, END, END, END, END],
+            stage: None,
+            kinds: [None, None, None, None],
         },
     }
 }

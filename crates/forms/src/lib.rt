@@ -6,6 +6,7 @@ pub mod layout;
 pub mod limits;
 pub mod part;
 pub mod reader;
+pub mod stage;
 pub mod text;
 pub mod tree;
 pub mod word;

@@ -14,15 +14,3 @@ pub const DAY_DIGITS: usize = 3;
 pub const BYTE: usize = 255;
 // Each byte of a line needs room for at most 16 bytes of records: a tree's root takes 2 bytes or more of the line, each further node 3, and a record 32.
 pub const TREE_BYTES: usize = 16384;
-// The stages, in order.
-pub const STAGE_A: u8 = 0;
-
-pub const STAGE_B: u8 = 1;
-
-pub const STAGE_C: u8 = 2;
-
-pub const STAGE_D: u8 = 3;
-
-pub const STAGE_E: u8 = 4;
-// What is no form belongs to no stage.
-pub const NO_STAGE: u8 = 5;

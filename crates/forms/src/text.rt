@@ -5,28 +5,17 @@ ghost use Rattle.forms.specs.Text.{line_byte, line_ok};
 use crate::limits::{BYTE_MAX, BYTE_MIN, LINE_MAX};
 
 // Whether a byte may stand in a line.
+#[tactic(auto, unfolding(crate::specs::Text::line_byte))]
 fn line_byte(b: u8) -> bool
     ensures { result ≡ line_byte b }
 {
-    match b {
-        BYTE_MIN..=BYTE_MAX => true,
-        _ => false,
-    }
+    (BYTE_MIN..=BYTE_MAX).contains(&b)
 }
 
 // Whether a line is short enough and all its bytes may stand in it: otherwise it is refused with 1.
+#[tactic(auto, unfolding(crate::specs::Text::line_ok), using(rights::proofs::ListLaws::all_from))]
 pub fn line_ok(s: &[u8]) -> bool
     ensures { result ≡ line_ok s.now }
 {
-    if LINE_MAX < s.len() {
-        return false;
-    }
-    let mut i = 0;
-    while i < s.len() {
-        if !line_byte(s[i]) {
-            return false;
-        }
-        i += 1;
-    }
-    true
+    s.len() <= LINE_MAX && s.iter().all(|&b| line_byte(b))
 }

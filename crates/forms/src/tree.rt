@@ -6,73 +6,63 @@ ghost use Rattle.forms.specs.Tree.{open_end, held};
 ghost use Rattle.forms.specs.How.Reader.{TailRead, TreeRead};
 
 use crate::limits::BYTE;
-use crate::part::{PartRead, label_part_end, silent};
+use crate::part::{Part, label_part_end};
 use rights::limits::RECORD_BYTES;
-use rights::path::Read;
+use rights::path::byte_is;
 use rights::record::put_node;
 
 // `(` and a label.
-fn open_end(s: &[u8], at: usize) -> Read
+fn open_end(s: &[u8], at: usize) -> Option<usize>
     ensures { Onward (open_end s.now at) result (at + 2) (length s.now) }
 {
-    if s.len() <= at {
-        return Read::Bad;
+    if byte_is(s, at, b'(') {
+        label_part_end(s, at + 1)
+    } else {
+        None
     }
-    if s[at] != b'(' {
-        return Read::Bad;
-    }
-    label_part_end(s, at + 1)
 }
 
 // A level as it is held in a record.
 fn level_byte(level: usize) -> u8
     ensures { result ≡ held level }
 {
-    if level < BYTE { level as u8 } else { 255 }
+    // Kept: `as`, since `try_from` would answer an error that can't come: it is at most 255.
+    level.min(BYTE) as u8
 }
 
 // s is what follows a label where `depth` trees are open and n records stand already, and stands at `at` of its line: the place after the `)` of the outermost,
 // and how many records stand then. Each node that s opens is put.
-fn read_tail(s: &[u8], at: usize, depth: usize, tree: &mut [u8], n: usize) -> PartRead
+fn read_tail(s: &[u8], at: usize, depth: usize, tree: &mut [u8], n: usize) -> Option<Part>
     requires { (1 ≤ depth) × (depth ≤ at) × (at + length s.now < 2 ^ 64) × (32 * n + 16 * length s.now ≤ length tree.old) }
     ensures { TailRead s.now at depth n tree.old tree.new result }
 {
-    let unended = PartRead {
-        end: Read::Bad,
-        says: n,
-    };
-    if s.len() == 0 {
-        return unended;
+    if s.is_empty() {
+        return None;
     }
     let b = s[0];
     if b == b')' {
         if depth == 1 {
-            return PartRead {
-                end: Read::At(at + 1),
+            return Some(Part {
+                end: at + 1,
                 says: n,
-            };
+            });
         }
         return read_tail(&s[1..], at + 1, depth - 1, tree, n);
     }
     if b != b' ' {
-        return unended;
+        return None;
     }
-    let Read::At(e) = open_end(s, 1) else {
-        return unended;
-    };
-    put_node(tree, RECORD_BYTES * n, level_byte(depth), s, 2, e - 2);
+    let e = open_end(s, 1)?;
+    put_node(tree, RECORD_BYTES * n, level_byte(depth), &s[2..e]);
     read_tail(&s[e..], at + e, depth + 1, tree, n + 1)
 }
 
 // The tree at `at`, its records put, levels from 0: the place after it, and how many records were put.
-pub(crate) fn read_tree(s: &[u8], at: usize, tree: &mut [u8]) -> PartRead
+pub(crate) fn read_tree(s: &[u8], at: usize, tree: &mut [u8]) -> Option<Part>
     requires { 16 * length s.now ≤ length tree.old }
     ensures { TreeRead s.now at tree.old tree.new result }
 {
-    let Read::At(e) = open_end(s, at) else {
-        return silent(Read::Bad);
-    };
-    let a = at + 1;
-    put_node(tree, 0, 0, s, a, e - a);
+    let e = open_end(s, at)?;
+    put_node(tree, 0, 0, &s[at + 1..e]);
     read_tail(&s[e..], e, 1, tree, 1)
 }

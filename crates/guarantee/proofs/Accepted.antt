@@ -13,7 +13,7 @@ use Rattle.forms.specs.Text.{line_ok}
 use Rattle.lines.specs.State.{stage, store_ok}
 use Rattle.lines.specs.Effect.{state_after, table_after, Work, guarded, checks_in, performed}
 use Rattle.lines.specs.Outcome.{Reply, says, refuses, Outcome, answer_of}
-use Rattle.lines.specs.declared.line.Answer.TheVariants as answer
+use Rattle.lines.specs.Outcome as answer
 use Rattle.lines.specs.Refusal.{area_check}
 use Rattle.lines.specs.Clause.{work_of}
 use Rattle.store.specs.Line.{in_stage, line_checks, step}

@@ -1,5 +1,6 @@
 -- Demand 3, its first sentence (document 01, "What demand 3 compares"; specs/Demand3.antt): two stores that look the same to a reader give the same answers to every
 -- list of lines, and look the same after each. Assumes nothing.
+use Rattle.std.specs.Prelude as found
 use Prim.Native.Nat.{ℕ, suc, ◌≤◌, ◌<◌}
 use mathlib.Core.Path.{◌≡◌, refl, ap, ap₂, sym, ◌∙◌, subst}
 use mathlib.Core.Bool.{true}
@@ -20,12 +21,11 @@ use Rattle.lines.specs.PolicyEdit.{subject_named}
 use Rattle.lines.specs.State.{stage_c, stage_e, stage, day_in, policy_in, store_ok}
 use Rattle.lines.specs.Effect.{performed}
 use Rattle.lines.specs.Outcome.{Reply, says, refuses, Outcome, answer_of, area_after, Made}
-use Rattle.lines.specs.declared.line.Answer.TheVariants as answer
+use Rattle.lines.specs.Outcome as answer
 use Rattle.forms.specs.Form.{ReadForm}
 use Rattle.lines.specs.Refusal.{table_full, checked}
 use Rattle.lines.specs.Clause.{work_of}
 use Rattle.store.specs.Line.{in_stage, step}
-use Rattle.lines.specs.declared.policy_edit.Found.TheVariants as found
 use Rattle.rights.proofs.LabelLaws.{same_self as label-self}
 use Rattle.lines.proofs.StateLaws.{store_held, day_logged}
 use Rattle.guarantee.specs.Alike.{SamePolicy, shown_to, Behind, Alike, UserIs, Input, outcome, LogsIn}
@@ -135,7 +135,7 @@ module _ (u : ℕ) (s t s' t' : List ℕ) (a : Alike u s t s' t') (i : Input) wh
   login_answer l =
       let x = taken s t i.line i.room l.said l.accepted in
       let g = login_stage (stage s') a.start.rooted' (store_held s' t' a.start.passes').stages in
-      let q : subject_named (policy_in s') l.name ≡ found.Subject u =
+      let q : subject_named (policy_in s') l.name ≡ found.Some u =
       sym (same-named (policy_in s) (policy_in s') a.start.policy l.name) ∙ l.subject in
       let fits : length ok_text ≤ i.room = rw l.form at x.fits in
       rw (a.start.passes', x.bytes, l.form, g, q, le-ltb i.room (length ok_text) fits)

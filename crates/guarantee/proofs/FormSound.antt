@@ -1,4 +1,6 @@
 -- Each form's effect is sound where the form stands in its stage, its parts are what was read, and its checks pass. Assumes nothing.
+use Rattle.std.specs.Prelude.{Option}
+use Rattle.std.specs.Prelude as found
 use Prim.Native.Nat.{ℕ, zero, suc, ◌+◌, ◌≤◌, ◌<◌}
 use mathlib.Core.Path.{◌≡◌, refl, sym, ap, ◌∙◌}
 use mathlib.Core.Bool.{Bool, true, false, not, ◌&&◌, beq, and-false, false≢true, true≢false}
@@ -41,8 +43,6 @@ use Rattle.lines.specs.Refusal.{Passed}
 use Rattle.views.specs.Shown.{shown}
 use Rattle.lines.specs.UserView.{rights_in, stored_in, not_path, selected_in, done_in}
 use Rattle.lines.specs.Work.{tree_restricted, root_alone, change_at, insert_checks, work_subject, work_isa, work_rule, work_root, work_child, work_user, work_rename, work_insert, work_day, work_window}
-use Rattle.lines.specs.declared.policy_edit.Found.{Found}
-use Rattle.lines.specs.declared.policy_edit.Found.TheVariants as found
 use Rattle.lines.proofs.EditBytes.{line_byte_lem}
 use Rattle.rights.proofs.PolicyPartLaws.{parts}
 use Rattle.lines.proofs.EditTests.{unknown_new, found_subject}
@@ -77,13 +77,13 @@ behind_root k g b e = leb-true 2 g (agree (ltb 2 k) (leb 2 g) (both (leb g k) (b
 
 -- What a check that passed says
 
-unknown : (f : Found) → not (is_unknown f) ≡ false → f ≡ found.Unknown
-unknown (found.Subject u) e = absurd (true≢false e)
-unknown found.Unknown e = refl
+unknown : (f : Option ℕ) → not (is_unknown f) ≡ false → f ≡ found.None
+unknown (found.Some u) e = absurd (true≢false e)
+unknown found.None e = refl
 
-known : (f : Found) → is_unknown f ≡ false → f ≡ found.Subject (number_in f)
-known (found.Subject u) e = refl
-known found.Unknown e = absurd (true≢false e)
+known : (f : Option ℕ) → is_unknown f ≡ false → f ≡ found.Some (number_in f)
+known (found.Some u) e = refl
+known found.None e = absurd (true≢false e)
 
 path_plain : (path : List ℕ) → not_path (path_of path) ≡ false → has_bracket path ≡ false → Plain path
 path_plain path e b = go (path_of path) refl e
@@ -176,7 +176,7 @@ module _ (s t : List ℕ) (ok : store_ok s t ≡ true) where
   abbrev bytes : List ℕ
   bytes = policy_bytes s
 
-  abbrev named : List ℕ → Found
+  abbrev named : List ℕ → Option ℕ
   named x = subject_named (policy_in s) x
 
   held : Held s t

@@ -1,5 +1,6 @@
 -- What the effect of a line may lean on where the line is taken: the facts that its form and the checks that it passed give. Every law about a line that is taken
 -- goes by its effect and these facts.
+use Rattle.std.specs.Prelude as found
 use Prim.Native.Nat.{ℕ, ◌+◌, ◌≤◌, ◌<◌}
 use mathlib.Core.Path.{◌≡◌}
 use mathlib.Core.Bool.{Bool, true, false, ◌||◌}
@@ -16,7 +17,6 @@ use Rattle.views.specs.How.Pass.{AtDone}
 use Rattle.views.specs.declared.insert.Place.{Place}
 use Rattle.lines.specs.PolicyEdit.{subject_named}
 use Rattle.lines.specs.State.{stage_b, stage_c, stage_e, stage, policy_in}
-use Rattle.lines.specs.declared.policy_edit.Found.TheVariants as found
 use Rattle.forms.specs.declared.layout.Word.TheVariants as word
 use Rattle.forms.specs.Form.{ReadForm}
 use Rattle.forms.specs.Command.{command, form_of}
@@ -83,7 +83,7 @@ pub record DaySound (s : List ℕ) (d : ℕ) : Type 0 where
 pub record LoginSound (f : ReadForm) (s : List ℕ) (u : ℕ) : Type 0 where
   pub name : List ℕ
   pub form : f ≡ form_of (command word.User (name, tt))
-  pub named : subject_named (policy_in s) name ≡ found.Subject u
+  pub named : subject_named (policy_in s) name ≡ found.Some u
   pub rooted : stage_c ≤ stage s
 
 abbrev pub EffectSound : ReadForm → List ℕ → List ℕ → Effect → Type 0

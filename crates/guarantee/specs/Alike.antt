@@ -1,6 +1,6 @@
 -- The start of what demand 3 compares (document 01, "What demand 3 compares"): two tables and two states that look alike to a reader, on one day (document 02, card 7).
 -- What is claimed of them stands in specs/Demand3.antt.
-use Rattle.std.specs.Prelude.{ℕ, suc, ◌≤◌, ◌≡◌, true, false, List, [], ◌∷◌, ◌⊎◌}
+use Rattle.std.specs.Prelude.{Some, ℕ, suc, ◌≤◌, ◌≡◌, true, false, List, [], ◌∷◌, ◌⊎◌}
 use Rattle.rights.specs.Marks.{keep}
 use Rattle.rights.specs.Labels.{same_label, restricted}
 use Rattle.rights.specs.Nodes.{Nodes}
@@ -13,11 +13,8 @@ use Rattle.forms.specs.declared.layout.Word.TheVariants as word
 use Rattle.forms.specs.Form.{read_form}
 use Rattle.forms.specs.Command.{command, form_of}
 use Rattle.lines.specs.State.{stage_c, stage, user_byte, day_in, policy_in, store_ok}
-use Rattle.lines.specs.Outcome.{Outcome}
+use Rattle.lines.specs.Outcome.{Answer, Accepted, Outcome}
 use Rattle.store.specs.Line.{step}
-use Rattle.lines.specs.declared.line.Answer.{Answer}
-use Rattle.lines.specs.declared.line.Answer.TheVariants.{Accepted}
-use Rattle.lines.specs.declared.policy_edit.Found.TheVariants.{Subject}
 
 -- "A policy is the subjects in order, the set of isa lines and the rules in order that a state holds."
 pub record SamePolicy (P Q : Policy) : Type 0 where
@@ -70,7 +67,7 @@ UserIs u s = user_byte s ≡ suc u
 pub record LogsIn (v : ℕ) (s line : List ℕ) (r : Answer) : Type 0 where
   pub name : List ℕ
   pub form : read_form line ≡ form_of (command word.User (name, tt))
-  pub subject : subject_named (policy_in s) name ≡ Subject v
+  pub subject : subject_named (policy_in s) name ≡ Some v
   pub said : ℕ
   pub accepted : r ≡ Accepted said
 

@@ -2,10 +2,8 @@
 -- on the nodes that are kept. "All three agreements now read with the day: trees are compared on one day, and the assurance lasts until the day is changed" (document
 -- 02, card 7); the sentence on rights holds across days. The theorem stands in proofs/Demand3.antt; it assumes nothing.
 use Rattle.std.specs.Prelude.{ℕ, ◌≡◌, List, [], ◌∷◌, ◌⊎◌, length, take}
-use Rattle.lines.specs.Outcome.{Made}
+use Rattle.lines.specs.Outcome.{Answer, Accepted, Refused, Made}
 use Rattle.lines.specs.Refusal.{table_full}
-use Rattle.lines.specs.declared.line.Answer.{Answer}
-use Rattle.lines.specs.declared.line.Answer.TheVariants.{Accepted, Refused}
 use Rattle.lines.specs.State.{day_in}
 use Rattle.store.specs.Line.{step}
 use Rattle.guarantee.specs.Alike.{Alike, UserIs, LogsIn}

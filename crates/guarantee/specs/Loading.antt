@@ -9,10 +9,9 @@ use Rattle.rights.specs.Table.{records}
 use Rattle.rights.specs.Tree.{Tree, nodes_of}
 use Rattle.views.specs.Shown.{Stored, stored_from, shown, view}
 use Rattle.xml.specs.Document.{DocumentOf}
-use Rattle.lines.specs.Outcome.{Made, refusal}
+use Rattle.lines.specs.Outcome.{Accepted, Made, refusal}
 use Rattle.lines.specs.Refusal.{bad_store, wrong_stage}
 use Rattle.lines.specs.State.{stage_c, stage, day_in, policy_in, store_ok}
-use Rattle.lines.specs.declared.line.Answer.TheVariants.{Accepted}
 use Rattle.store.specs.LoadXml.{load_xml}
 use Rattle.guarantee.specs.Alike.{SamePolicy, Behind, Alike}
 use Rattle.guarantee.specs.Demand3.{Call, Run, SameLines, Begins, SameAnswers}

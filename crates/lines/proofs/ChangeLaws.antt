@@ -1,13 +1,12 @@
 -- The seven changes: what is decided before anything changes, and what the table becomes. Assumes nothing.
 use Prim.Native.Nat.{ℕ, ◌-◌, ◌≤◌}
-use mathlib.Core.Bool.{Bool, true, false, ◌||◌}
-use mathlib.Core.Path.{◌≡◌, refl, sym, ap, ◌∙◌}
-use mathlib.Core.List.{List, [], ◌++◌, map, append-nil}
+use mathlib.Core.Bool.{Bool, true}
+use mathlib.Core.Path.{◌≡◌, sym, ap, ◌∙◌}
+use mathlib.Core.List.{List, ◌++◌, map}
 use native.Mathlib.Omega.{arith}
 use lib.ListN.{length, take, drop, length-map, length-append}
 use lib.Seq.{take_at, take-length}
 use Rattle.rights.specs.Marks.{bit, marks_of, mark_count}
-use Rattle.rights.specs.Labels.{same_label, restricted}
 use Rattle.rights.specs.Policy.{policy_word}
 use Rattle.rights.specs.PolicyBytes.{policy_of}
 use Rattle.rights.specs.PolicyCheck.{policy_ok}
@@ -113,13 +112,8 @@ module _ (c : Change) (s t path done done' : List ℕ) (n : ℕ) (r : MarkedFor 
       → t' ≡ changed t (redated f l (done_in c s t path) (records t))
   redated_table f l t' q = q ∙ ap (λ x. changed t (redated f l x (records t))) done_part
 
-  pub renamed_table : (l t' : List ℕ) → t' ≡ changed t (renamed (take (length l - 0) (drop 0 l)) (marks_of part) (records t))
-      → t' ≡ changed t (renamed l (done_in c s t path) (records t))
-  renamed_table l t' q =
-      let z : take (length l - 0) (drop 0 l) ≡ l = part_is l [] l (length l) (sym (append-nil l)) refl in
-      q
-      ∙ ap (λ x. changed t (renamed x (marks_of part) (records t))) z
-      ∙ ap (λ x. changed t (renamed l x (records t))) done_part
+  pub renamed_table : (l t' : List ℕ) → t' ≡ changed t (renamed l (marks_of part) (records t)) → t' ≡ changed t (renamed l (done_in c s t path) (records t))
+  renamed_table l t' q = q ∙ ap (λ x. changed t (renamed l x (records t))) done_part
 
   pub removed_table : (t' : List ℕ) → t' ≡ changed t (removed (marks_of part) (records t)) → t' ≡ changed t (removed (done_in c s t path) (records t))
   removed_table t' q = q ∙ ap (λ x. changed t (removed x (records t))) done_part
@@ -150,17 +144,3 @@ pub answered-count : (t done before after : List ℕ) (k n d need : ℕ) → n �
     → Answered (done_text k (mark_count (take (count t) (marks_of done)))) before after need
 answered-count t done before after k n d need e q a =
     answered_as (done_text k d) _ before after need (ap (done_text k) (q ∙ ap (λ m. mark_count (take m (marks_of done))) e)) a
-
--- "RESTRICTED as .. new label, or a policy word as new label"
-module _ (s l : List ℕ) (b : Bool) (q : b ≡ same_label (take (length l) (drop 0 l)) restricted) where
-  whole : b ≡ same_label l restricted
-  whole = q ∙ ap (λ x. same_label x restricted) (take-length l)
-
-  pub barred_restricted : b ≡ true → true ≡ (same_label l restricted || policy_word (policy_in s) l)
-  barred_restricted e = let z : same_label l restricted ≡ true = sym whole ∙ e in rw z
-
-  pub barred_word : (w : Bool) → b ≡ false → w ≡ policy_word (policy_of (take (length s - 8) (drop 8 s))) (take (length l) (drop 0 l))
-      → w ≡ (same_label l restricted || policy_word (policy_in s) l)
-  barred_word w e p =
-      let z : same_label l restricted ≡ false = sym whole ∙ e in
-      rw z (p ∙ ap (λ x. policy_word (policy_of x) (take (length l) (drop 0 l))) (rest_of s 8) ∙ ap (policy_word (policy_in s)) (take-length l))

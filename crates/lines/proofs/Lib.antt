@@ -1,4 +1,5 @@
 pub mod OutcomeLaws
+pub mod NumberLaws
 pub mod RefusalLaws
 pub mod StateLaws
 pub mod UserViewLaws

@@ -1,4 +1,6 @@
 -- Each check of a path or a name fails exactly if its condition in the paper's words holds. Assumes nothing.
+use Rattle.std.specs.Prelude.{Option}
+use Rattle.std.specs.Prelude as found
 use Prim.Native.Nat.{ℕ, zero, suc, ◌≤◌, ◌<◌}
 use mathlib.Core.Path.{◌≡◌, refl, sym, ap, ap₂, ◌∙◌}
 use mathlib.Core.Bool.{Bool, true, false, not, and-eq-true_iff}
@@ -23,8 +25,6 @@ use Rattle.rights.proofs.PathWritten.{refused_none}
 use Rattle.rights.proofs.PolicyBytesLaws.{name_held, names_length}
 use Rattle.lines.specs.PolicyEdit.{subject_named, is_unknown, number_in, isa_held, bracketed, has_bracket, steps_in, path_restricted}
 use Rattle.lines.specs.UserView.{not_path}
-use Rattle.lines.specs.declared.policy_edit.Found.{Found}
-use Rattle.lines.specs.declared.policy_edit.Found.TheVariants as found
 use Rattle.lines.proofs.EditTests.{unknown_new, found_named}
 use Rattle.lines.specs.Conditions.{NoPath, PathThat, Named, Declared, Unknown, NotBefore, Repeated, names_restricted}
 use Rattle.lines.proofs.ConditionLaws.{clash}
@@ -75,30 +75,30 @@ some_at f (x ∷ xs) zero h e = rw e
 some_at f (x ∷ xs) (suc u) h e = by_case (f x) (λ b. rw b) (λ b. rw (b, some_at f xs u (omega arith) e))
 
 module _ (P : Policy) (x : List ℕ) where
-  no_name : subject_named P x ≡ found.Unknown → Unknown P x
+  no_name : subject_named P x ≡ found.None → Unknown P x
   no_name e u h = clash (some_at (same_label x) P.names u h.0 h.1) (unknown_new P x e)
 
   pub unknown_told : Unknown P x ↔ (is_unknown (subject_named P x) ≡ true)
   unknown_told = go (subject_named P x) refl
     where
-      go : (f : Found) → subject_named P x ≡ f → Unknown P x ↔ (is_unknown f ≡ true)
-      go (found.Subject u) e = (λ h. absurd (h u (found_named P x u e)), λ q. clash {b = false} q refl)
-      go found.Unknown e = (λ h. refl, λ q. no_name e)
+      go : (f : Option ℕ) → subject_named P x ≡ f → Unknown P x ↔ (is_unknown f ≡ true)
+      go (found.Some u) e = (λ h. absurd (h u (found_named P x u e)), λ q. clash {b = false} q refl)
+      go found.None e = (λ h. refl, λ q. no_name e)
 
   pub declared_told : Declared P x ↔ (not (is_unknown (subject_named P x)) ≡ true)
   declared_told = go (subject_named P x) refl
     where
-      go : (f : Found) → subject_named P x ≡ f → Declared P x ↔ (not (is_unknown f) ≡ true)
-      go (found.Subject u) e = (λ h. refl, λ q. (u, found_named P x u e))
-      go found.Unknown e = (λ h. absurd (no_name e h.0 h.1), λ q. clash {b = false} q refl)
+      go : (f : Option ℕ) → subject_named P x ≡ f → Declared P x ↔ (not (is_unknown f) ≡ true)
+      go (found.Some u) e = (λ h. refl, λ q. (u, found_named P x u e))
+      go found.None e = (λ h. absurd (no_name e h.0 h.1), λ q. clash {b = false} q refl)
 
   -- the number of a known name
   number_of : is_unknown (subject_named P x) ≡ false → Named P (number_in (subject_named P x)) x
   number_of = go (subject_named P x) refl
     where
-      go : (f : Found) → subject_named P x ≡ f → is_unknown f ≡ false → Named P (number_in f) x
-      go (found.Subject u) e q = found_named P x u e
-      go found.Unknown e q = clash {b = true} refl q
+      go : (f : Option ℕ) → subject_named P x ≡ f → is_unknown f ≡ false → Named P (number_in f) x
+      go (found.Some u) e q = found_named P x u e
+      go found.None e q = clash {b = true} refl q
 
 -- no two subjects of a policy have one name
 module _ (p : List ℕ) (ok : policy_ok p ≡ true) where

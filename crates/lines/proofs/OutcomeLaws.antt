@@ -4,9 +4,7 @@ use mathlib.Core.Path.{◌≡◌, sym, ap, ◌∙◌}
 use mathlib.Core.List.{List}
 use native.Mathlib.Omega.{arith}
 use lib.ListN.{length, drop, length-append}
-use Rattle.lines.specs.declared.line.Answer.{Answer}
-use Rattle.lines.specs.declared.line.Answer.TheVariants.{Accepted}
-use Rattle.lines.specs.Outcome.{Reply, says, refuses, Outcome, Made, answer_of, area_after}
+use Rattle.lines.specs.Outcome.{Answer, Accepted, Reply, says, refuses, Outcome, Made, answer_of, area_after}
 
 -- what is made for an outcome is made for one that equals it
 pub made_at : {o p : Outcome} {area s t area' : List ℕ} {r : Answer} → o ≡ p → Made p area r s t area' → Made o area r s t area'

@@ -1,7 +1,8 @@
 -- The policy as a part of the state that is lent and put back, and what the lines of stages A and B ask of it. Assumes nothing.
+use Rattle.std.specs.Prelude.{Some}
 use Prim.Native.Nat.{ℕ, ◌-◌, ◌≤◌, ◌<◌}
 use mathlib.Core.Bool.{true, false}
-use mathlib.Core.Path.{◌≡◌, refl, ap, ◌∙◌}
+use mathlib.Core.Path.{◌≡◌, refl, sym, ap, ◌∙◌}
 use mathlib.Core.List.{List, [], ◌∷◌, ◌++◌, append-nil}
 use native.Mathlib.Omega.{arith}
 use borrow.Rule.Slice.PartMut.{put_mid, post_of}
@@ -14,48 +15,41 @@ use Rattle.rights.specs.PolicyBytes.{policy_of, subject_count}
 use Rattle.rights.specs.PolicyCheck.{policy_ok}
 use Rattle.rights.proofs.ListLaws.{rest_of}
 use Rattle.rights.proofs.SoundLaws.{policy_sound}
-use Rattle.lines.specs.PolicyEdit.{subject_named, is_unknown, number_in, has_bracket, Plain}
+use Rattle.lines.specs.PolicyEdit.{subject_named, has_bracket, Plain}
 use Rattle.lines.specs.Refusal.{first_refusal}
 use Rattle.lines.specs.State.{stage, with_stage, with_policy, policy_bytes, policy_in}
 use Rattle.lines.specs.UserView.{not_path}
-use Rattle.lines.specs.Work.{isa_checks, rule_checks}
-use Rattle.lines.specs.declared.policy_edit.Found.{Found}
-use Rattle.lines.specs.declared.policy_edit.Found.TheVariants.{Subject, Unknown}
+use Rattle.lines.specs.Work.{isa_checks, rule_checks, user_checks}
 use Rattle.lines.proofs.EditTests.{found_subject}
 use Rattle.lines.proofs.StateLaws.{stage-put}
 use Rattle.lines.proofs.StoredPaths.{plain}
 
 -- what is found in the policy that was lent is found in the state's
-pub found_part : (s name : List ℕ) {f : Found} → f ≡ subject_named (policy_of (take (length s - 8) (drop 8 s))) name → f ≡ subject_named (policy_in s) name
-found_part s name e = e ∙ ap (λ p. subject_named (policy_of p) name) (rest_of s 8)
+pub found_part : (s name : List ℕ) {u : ℕ} → subject_named (policy_of (take (length s - 8) (drop 8 s))) name ≡ Some u → subject_named (policy_in s) name ≡ Some u
+found_part s name e = sym (ap (λ p. subject_named (policy_of p) name) (rest_of s 8)) ∙ e
 
 -- a subject that was found is a declared one
-module _ (p name : List ℕ) (ok : policy_ok p ≡ true) where
-  number_declared : (f : Found) → subject_named (policy_of p) name ≡ f → is_unknown f ≡ false → number_in f < subject_count p
-  number_declared (Subject u) e k = (found_subject p name u ok e).declared
-  number_declared Unknown e k = absurd (let z : ◌≡◌ {A = ℕ} 0 1 = cc in omega arith)
+module _ (p name : List ℕ) {u : ℕ} (ok : policy_ok p ≡ true) (e : subject_named (policy_of p) name ≡ Some u) where
+  pub found_declared : u < subject_count p
+  found_declared = (found_subject p name u ok e).declared
 
-  pub found_declared : is_unknown (subject_named (policy_of p) name) ≡ false → number_in (subject_named (policy_of p) name) < subject_count p
-  found_declared k = number_declared (subject_named (policy_of p) name) refl k
+  pub found_small : u < 64
+  found_small = omega (arith, found_declared, (policy_sound p ok).subjects)
 
-  pub found_small : is_unknown (subject_named (policy_of p) name) ≡ false → number_in (subject_named (policy_of p) name) < 64
-  found_small k = omega (arith, found_declared k, (policy_sound p ok).subjects)
+-- the tests over the policy that was lent
+pub isa_number : (s x y : List ℕ) {d : ℕ}
+    → d ≡ first_refusal (isa_checks (take (length s - 8) (drop 8 s)) (subject_named (policy_of (take (length s - 8) (drop 8 s))) x) (subject_named (policy_of (take (length s - 8) (drop 8 s))) y))
+    → d ≡ first_refusal (isa_checks (policy_bytes s) (subject_named (policy_in s) x) (subject_named (policy_in s) y))
+isa_number s x y e = e ∙ ap (λ p. first_refusal (isa_checks p (subject_named (policy_of p) x) (subject_named (policy_of p) y))) (rest_of s 8)
 
--- the tests over the policy that was lent, by what was found in it
-pub isa_number : (s : List ℕ) {n r f g : Found} {d : ℕ} → d ≡ first_refusal (isa_checks (take (length s - 8) (drop 8 s)) n r) → n ≡ f → r ≡ g
-    → d ≡ first_refusal (isa_checks (policy_bytes s) f g)
-isa_number s {n} {r} {f} {g} e p q =
-    e
-    ∙ ap (λ x. first_refusal (isa_checks x n r)) (rest_of s 8)
-    ∙ ap (λ x. first_refusal (isa_checks (policy_bytes s) x r)) p
-    ∙ ap (λ x. first_refusal (isa_checks (policy_bytes s) f x)) q
+pub user_number : (s x : List ℕ) {d : ℕ} → d ≡ first_refusal (user_checks (subject_named (policy_of (take (length s - 8) (drop 8 s))) x))
+    → d ≡ first_refusal (user_checks (subject_named (policy_in s) x))
+user_number s x e = e ∙ ap (λ p. first_refusal (user_checks (subject_named (policy_of p) x))) (rest_of s 8)
 
-pub rule_number : (s path : List ℕ) {n f : Found} {d : ℕ} → d ≡ first_refusal (rule_checks (take (length s - 8) (drop 8 s)) path n) → n ≡ f
-    → d ≡ first_refusal (rule_checks (policy_bytes s) path f)
-rule_number s path {n} {f} e p =
-    e
-    ∙ ap (λ x. first_refusal (rule_checks x path n)) (rest_of s 8)
-    ∙ ap (λ x. first_refusal (rule_checks (policy_bytes s) path x)) p
+pub rule_number : (s path x : List ℕ) {d : ℕ}
+    → d ≡ first_refusal (rule_checks (take (length s - 8) (drop 8 s)) path (subject_named (policy_of (take (length s - 8) (drop 8 s))) x))
+    → d ≡ first_refusal (rule_checks (policy_bytes s) path (subject_named (policy_in s) x))
+rule_number s path x e = e ∙ ap (λ p. first_refusal (rule_checks p path (subject_named (policy_of p) x))) (rest_of s 8)
 
 -- a path that a rule's checks let pass
 pub plain_rule : (path : List ℕ) → not_path (path_of path) ≡ false → has_bracket path ≡ false → Plain path

@@ -1,4 +1,5 @@
 -- Checks, and a work that is carried out: what a check that fails refuses, what passed checks let follow. Assumes nothing.
+use Rattle.std.specs.Prelude.{Result, Ok, Err, IsErrAnd}
 use Prim.Native.Nat.{ℕ, ◌+◌, ◌≤◌, ◌<◌}
 use mathlib.Core.Bool.{Bool, true, false, cond, beq, and-eq-true_iff}
 use mathlib.Core.Path.{◌≡◌, refl, sym, ap, subst, ◌∙◌}
@@ -10,10 +11,11 @@ use lib.ListN.{length, drop, length-append, length-drop}
 use Rattle.rights.proofs.ListLaws.{by_case}
 use Rattle.rights.proofs.RangeLaws.{flat, beq_eq, on_range}
 use Rattle.answers.specs.How.AnswerArea.{Answered, written}
-use Rattle.lines.specs.Outcome.{Outcome, says, refusal, Made}
-use Rattle.lines.specs.Refusal.{Check, order, rank, index_in, area_short, area_check, checked, first_refusal, Passed, all_numbered}
+use Rattle.lines.specs.Outcome.{Accepted, Outcome, says, refusal, Made}
+use Rattle.lines.specs.Refusal.{number_of, refusal_number, numbered, Check, order, rank, index_in, area_short, area_check, checked, first_refusal, Passed, all_numbered}
 use Rattle.lines.specs.Effect.{Work, state_after, table_after, guarded, performed, Performs}
-use Rattle.lines.specs.declared.line.Answer.TheVariants.{Accepted, Refused}
+use Rattle.lines.specs.declared.refusals.Refusal.{Refusal}
+use Rattle.lines.proofs.NumberLaws.{number_some}
 use Rattle.lines.proofs.OutcomeLaws.{made_at}
 
 -- "13 is tested first, then 1 to 12 rising.", "14, after 4", and "15, after 10"
@@ -91,6 +93,25 @@ length-written text area = go (leb (length text) (length area)) refl
     go true q = omega (arith, length-append text (drop (length text) area), length-drop (length text) area, leb-true (length text) (length area) q)
     go false q = refl
 
+-- By what a test returns, and `?` hands on
+
+-- where it refuses nothing, every check passed
+pub passed_ok : {A : Type 0} (cs : List Check) {r : Result A Refusal} {v : A} → all_numbered cs ≡ true → refusal_number r ≡ first_refusal cs → r ≡ Ok v → Passed cs
+passed_ok cs k e q = passed cs _ k e (ap refusal_number q)
+
+-- what it refuses with is the first check that fails, and that of a longer list
+module _ {A : Type 0} {r : Result A Refusal} {x : Refusal} (q : r ≡ Err x) (cs : List Check) (e : refusal_number r ≡ first_refusal cs) where
+  number_err : number_of x ≡ first_refusal cs
+  number_err = sym (ap refusal_number q) ∙ e
+
+  pub front_err : (ds : List Check) → refusal_number r ≡ first_refusal (cs ++ ds)
+  front_err ds = first_front cs ds _ e (λ z. let i : number_of x ≡ 0 = sym (ap refusal_number q) ∙ z in omega (arith, number_some x, i))
+
+-- `?` hands on what it is given
+pub handed_on : {A : Type 0} (o : Result A Refusal) (x : Refusal) → IsErrAnd o (λ y. y ≡ x) → o ≡ Err x
+handed_on (Ok v) x p = absurd p
+handed_on (Err y) x p = ap Err p
+
 -- Checks, behind them that of the area for an answer, and what follows: the text, the state s' and the table t'
 
 module _ (cs : List Check) (text s t s' t' : List ℕ) where
@@ -98,50 +119,58 @@ module _ (cs : List Check) (text s t s' t' : List ℕ) where
   answering room = checked (cs ++ (area_check room (length text) ∷ [])) s t (record { reply = says text; state = s'; table = t' })
 
   -- refused by one of the checks
-  pub answering_refused : {area : List ℕ} {n : ℕ} → n ≡ first_refusal cs → (n ≡ 0 → ⊥) → Made (answering (length area)) area (Refused n) s t area
-  answering_refused {area} {n} e h =
-      made_at (checked_refused (cs ++ (area_check (length area) (length text) ∷ [])) s t _ n (first_front cs _ n e h) h)
+  pub answering_refused : {area : List ℕ} (x : Refusal) → number_of x ≡ first_refusal cs → Made (answering (length area)) area (numbered (Err x)) s t area
+  answering_refused {area} x e =
+      let h : number_of x ≡ 0 → ⊥ = λ z. omega (arith, number_some x, z) in
+      made_at (checked_refused (cs ++ (area_check (length area) (length text) ∷ [])) s t _ (number_of x) (first_front cs _ (number_of x) e h) h)
       (record { answer = refl; state = refl; table = refl; area = refl })
 
   -- where they passed, and the answer was put if it fits
-  module _ {before area : List ℕ} {need d : ℕ} (p : Passed cs) (a : Answered text before area need) (e : d ≡ first_refusal (area_check (length area) need ∷ [])) where
-    last : d ≡ first_refusal (area_check (length before) (length text) ∷ [])
-    last =
-        e
+  module _ {before area : List ℕ} {need : ℕ} (p : Passed cs) (a : Answered text before area need)
+      {d : Result Unit Refusal} (e : refusal_number d ≡ first_refusal (area_check (length area) need ∷ [])) where
+    last : {r : Result Unit Refusal} → d ≡ r → refusal_number r ≡ first_refusal (area_check (length before) (length text) ∷ [])
+    last q =
+        sym (ap refusal_number q)
+        ∙ e
         ∙ ap (λ k. first_refusal (area_check k need ∷ [])) (ap length a.area ∙ length-written text before)
         ∙ ap (λ k. first_refusal (area_check (length before) k ∷ [])) a.size
 
-    pub answering_short : (d ≡ 0 → ⊥) → Made (answering (length before)) before (Refused d) s t area
-    answering_short h =
+    pub answering_short : {x : Refusal} → d ≡ Err x → Made (answering (length before)) before (numbered (Err x)) s t area
+    answering_short {x} h =
+        let k : number_of x ≡ first_refusal (area_check (length before) (length text) ∷ []) = last h in
+        let n : number_of x ≡ 0 → ⊥ = λ z. omega (arith, number_some x, z) in
         by_case (ltb (length before) (length text))
         (λ z.
         let q : leb (length text) (length before) ≡ false = lt-leb (length text) (length before) (ltb-true (length before) (length text) z) in
-        made_at (checked-behind cs _ s t _ p ∙ checked_refused (area_check (length before) (length text) ∷ []) s t _ d last h)
+        made_at (checked-behind cs _ s t _ p ∙ checked_refused (area_check (length before) (length text) ∷ []) s t _ (number_of x) k n)
         (record { answer = refl; state = refl; table = refl; area = rw q at a.area }))
-        (λ z. absurd (h (rw z at last)))
+        (λ z. absurd (n (rw z at k)))
 
-    pub answering_done : {s'' t'' : List ℕ} → d ≡ 0 → s'' ≡ s' → t'' ≡ t' → Made (answering (length before)) before (Accepted need) s'' t'' area
-    answering_done k es et =
+    pub answering_done : {s'' t'' : List ℕ} {v : Unit} → d ≡ Ok v → s'' ≡ s' → t'' ≡ t' → Made (answering (length before)) before (numbered (Ok need)) s'' t'' area
+    answering_done h es et =
+        let k : 0 ≡ first_refusal (area_check (length before) (length text) ∷ []) = last h in
         by_case (ltb (length before) (length text))
-        (λ z. let m : d ≡ area_short = rw z at last in absurd (omega (arith, m, k)))
+        (λ z. let m : 0 ≡ area_short = rw z at k in absurd (omega (arith, m)))
         (λ z.
         let q : leb (length text) (length before) ≡ true = le-leb (length text) (length before) (ltb-false (length before) (length text) z) in
         made_at (checked-behind cs _ s t _ p ∙ checked-passed (area_check (length before) (length text) ∷ []) s t _ (z, tt))
         (record { answer = ap Accepted a.size; state = es; table = et; area = rw q at a.area }))
 
--- So with a work that is carried out
+-- So with a work that is carried out; o is what the line returns where a test refused
 
 module _ (w : Work) (s t : List ℕ) where
-  pub performs_refused : {area : List ℕ} {n : ℕ} → n ≡ first_refusal w.checks → (n ≡ 0 → ⊥) → Performs w s t area (Refused n) s t area
+  pub performs_refused : {A : Type 0} {area : List ℕ} {r : Result A Refusal} {x : Refusal} → refusal_number r ≡ first_refusal w.checks → r ≡ Err x
+      → (o : Result ℕ Refusal) → IsErrAnd o (λ y. y ≡ x) → Performs w s t area (numbered o) s t area
   unfolding performed
-  performs_refused e h = answering_refused w.checks w.text s t _ _ e h
+  performs_refused {x} e q o p = rw (handed_on o x p) (answering_refused w.checks w.text s t _ _ x (number_err q w.checks e))
 
-  module _ {before area : List ℕ} {need d : ℕ} (p : Passed w.checks) (a : Answered w.text before area need) (e : d ≡ first_refusal (area_check (length area) need ∷ [])) where
-    pub performs_short : (d ≡ 0 → ⊥) → Performs w s t before (Refused d) s t area
+  module _ {before area : List ℕ} {need : ℕ} (p : Passed w.checks) (a : Answered w.text before area need)
+      {d : Result Unit Refusal} (e : refusal_number d ≡ first_refusal (area_check (length area) need ∷ [])) where
+    pub performs_short : {x : Refusal} → d ≡ Err x → (o : Result ℕ Refusal) → IsErrAnd o (λ y. y ≡ x) → Performs w s t before (numbered o) s t area
     unfolding performed
-    performs_short h = answering_short w.checks w.text s t _ _ p a e h
+    performs_short {x} h o q = rw (handed_on o x q) (answering_short w.checks w.text s t _ _ p a e h)
 
-    pub performs_done : {s' t' : List ℕ} → d ≡ 0 → s' ≡ state_after w.effect s → t' ≡ table_after w.effect t → Performs w s t before (Accepted need) s' t' area
+    pub performs_done : {s' t' : List ℕ} {v : Unit} → d ≡ Ok v → s' ≡ state_after w.effect s → t' ≡ table_after w.effect t → Performs w s t before (numbered (Ok need)) s' t' area
     unfolding performed
     performs_done k es et = answering_done w.checks w.text s t _ _ p a e k es et
 

@@ -1,10 +1,10 @@
 -- What decides whether a session and a store are let pass. Assumes nothing.
 use Prim.Native.Nat.{ℕ, suc, ◌+◌, ◌*◌, ◌-◌, ◌/◌, ◌%◌, ◌≤◌, ◌<◌}
-use mathlib.Core.Bool.{Bool, true, false, ◌||◌, beq, and-false, and-eq-true_iff}
+use mathlib.Core.Bool.{true, ◌||◌, beq, and-eq-true_iff}
 use mathlib.Core.Path.{◌≡◌, refl, ap, ap₂, ◌∙◌}
 use mathlib.Core.List.{List, [], ◌∷◌, ◌++◌}
 use native.Mathlib.Omega.{arith}
-use borrow.Author.Tests.{eq-eqb, ne_eqb, eqb-true, leb-true, le-leb, lt-leb}
+use borrow.Author.Tests.{eq-eqb, eqb-true, leb-true, le-leb}
 use lib.Dec.{leb, eqb}
 use lib.ListN.{length, get_or, set, take, drop, length-drop}
 use lib.Seq.{get_or-drop, drop-drop}
@@ -14,55 +14,9 @@ use Rattle.rights.specs.PolicyBytes.{subject_count, rule_count}
 use Rattle.rights.specs.PolicyCheck.{policy_ok}
 use Rattle.rights.proofs.BoolLaws.{or_split, or_right}
 use Rattle.rights.proofs.TableLaws.{both}
-use Rattle.lines.specs.State.{stage, user_byte, day_in, policy_bytes, with_stage, with_session, with_day, user_at_e, session_ok, state_ok, agrees, store_ok}
-
-pub agree_yes : (a b : Bool) → a ≡ true → b ≡ beq a b
-agree_yes true true e = refl
-agree_yes true false e = refl
-agree_yes false b e = absurd (let z : ◌≡◌ {A = ℕ} 0 1 = cc in omega arith)
+use Rattle.lines.specs.State.{stage, user_byte, day_in, policy_bytes, with_stage, with_session, with_day, session_ok, state_ok, agrees, store_ok}
 
 module _ (s : List ℕ) where
-  pub subjects_at : subject_count (policy_bytes s) ≡ get_or s 8 0
-  subjects_at = get_or-drop 8 s 0 0
-
-  pub rules_at : rule_count (policy_bytes s) ≡ get_or s 10 0
-  rules_at = get_or-drop 8 s 2 0
-
-  pub no_stage_lem : 4 < stage s → session_ok s ≡ false
-  unfolding session_ok
-  no_stage_lem h = simp (lt-leb (stage s) 4 h)
-
-  pub no_user_lem : get_or s 8 0 < user_byte s → session_ok s ≡ false
-  unfolding session_ok
-  no_user_lem h = simp (lt-leb (user_byte s) (subject_count (policy_bytes s)) (omega (arith, subjects_at)), and-false)
-
-  pub no_day : 366 < day_in s → session_ok s ≡ false
-  unfolding session_ok
-  no_day h = simp (lt-leb (day_in s) 366 h, and-false)
-
-  pub no_zeros : zeros s 4 4 ≡ false → session_ok s ≡ false
-  unfolding session_ok
-  no_zeros e = simp (e, and-false)
-
-  pub no_rules_lem : (eqb (get_or s 10 0) 0 || leb 1 (stage s)) ≡ false → session_ok s ≡ false
-  unfolding session_ok
-  no_rules_lem e = let q : (eqb (rule_count (policy_bytes s)) 0 || leb 1 (stage s)) ≡ false = rw rules_at e in simp (q, and-false)
-
-  pub session_yes : stage s ≤ 4 → user_byte s ≤ get_or s 8 0 → day_in s ≤ 366 → zeros s 4 4 ≡ true → (eqb (get_or s 10 0) 0 || leb 1 (stage s)) ≡ true
-      → session_ok s ≡ user_at_e s
-  unfolding session_ok
-  session_yes a b c d e =
-      let q : (eqb (rule_count (policy_bytes s)) 0 || leb 1 (stage s)) ≡ true = rw rules_at e in
-      rw (le-leb (stage s) 4 a, le-leb (user_byte s) (subject_count (policy_bytes s)) (omega (arith, subjects_at)), le-leb (day_in s) 366 c, d, q)
-
-  pub no_length : (length s ≡ 68880 → ⊥) → state_ok s ≡ false
-  unfolding state_ok
-  no_length h = rw (ne_eqb (length s) 68880 h)
-
-  pub no_policy : policy_ok (policy_bytes s) ≡ false → state_ok s ≡ false
-  unfolding state_ok
-  no_policy e = simp (e, and-false)
-
   pub state_yes : length s ≡ 68880 → policy_ok (policy_bytes s) ≡ true → state_ok s ≡ session_ok s
   unfolding state_ok
   state_yes b d = rw (eq-eqb (length s) 68880 b, d)
@@ -72,14 +26,6 @@ module _ (s : List ℕ) where
   state_size_lem e = let f = simp (state_ok, and-eq-true_iff) at e in eqb-true _ _ f.0
 
 module _ (s t : List ℕ) where
-  pub no_table : table_ok t ≡ false → store_ok s t ≡ false
-  unfolding store_ok
-  no_table e = rw e
-
-  pub no_state : state_ok s ≡ false → store_ok s t ≡ false
-  unfolding store_ok
-  no_state e = simp (e, and-false)
-
   pub store_yes : table_ok t ≡ true → state_ok s ≡ true → store_ok s t ≡ agrees s t
   unfolding store_ok
   store_yes a b = rw (a, b)

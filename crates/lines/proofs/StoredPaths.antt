@@ -1,5 +1,8 @@
 -- A path's text and its steps. A path without brackets is its steps, written one after the other, so that the text can be had back from them; and what
 -- the loops over a path's steps know, step by step. Assumes nothing.
+use Rattle.std.specs.Prelude.{Option, Some, None}
+use Rattle.rights.specs.declared.path.Step.{Step}
+use Rattle.rights.specs.How.Reading.{step_at}
 use Prim.Native.Nat.{ℕ, zero, suc, ◌+◌, ◌-◌, ◌*◌, ◌≤◌, ◌<◌}
 use mathlib.Core.Path.{◌≡◌, refl, sym, ap, ◌∙◌}
 use mathlib.Core.Bool.{Bool, true, false, ◌||◌}
@@ -13,9 +16,6 @@ use Rattle.rights.specs.Bytes.{byte_at}
 use Rattle.rights.specs.Labels.{label_byte, same_label, restricted}
 use Rattle.rights.specs.Path.{Test, label, any, own, Path, last, next, Brackets, none, position, holds}
 use Rattle.rights.specs.declared.path.Axis.{Axis}
-use Rattle.rights.specs.declared.path.Read.TheVariants.{At, Bad}
-use Rattle.rights.specs.declared.path.StepRead.{StepRead}
-use Rattle.rights.specs.declared.path.StepRead.TheVariants.{Step, NoStep}
 use Rattle.rights.specs.PathReader.{Got, got, bad, read_test, read_step, is_position, read_position, closes, unslashed, read_brackets, read_steps, brackets, steps, path_of}
 use Rattle.rights.specs.How.Reading.{place_of, StepAt}
 use Rattle.rights.specs.PathText.{write_test, write_step, write_steps, write_brackets, write, steps_of, GoodTest, GoodSteps}
@@ -43,10 +43,10 @@ unfolding has_bracket
 bracket_read s p e r = ap bracketed_in r
 
 -- what the readers' answers and the test for brackets say together
-pub plain : (s : List ℕ) (i : ℕ) → place_of (path_of s) ≡ At i → has_bracket s ≡ false → Plain s
+pub plain : (s : List ℕ) (i : ℕ) → place_of (path_of s) ≡ Some i → has_bracket s ≡ false → Plain s
 plain s i e b = go (path_of s) refl e
   where
-    go : (g : Got Path) → path_of s ≡ g → place_of g ≡ At i → Plain s
+    go : (g : Got Path) → path_of s ≡ g → place_of g ≡ Some i → Plain s
     go (got p j) r q =
         let z : j ≡ length s = (sound s p j r).2 in
         record { path = p; read = r ∙ ap (got p) z; flat = sym (bracket_read s p j r) ∙ b }
@@ -101,14 +101,14 @@ look_first s h = go (path_of s) refl
 
 module _ (s : List ℕ) (at : ℕ) (h : Looking s at) where
   -- a step is there
-  pub look-step : {C : Type 0} → place_of (read_step s at) ≡ Bad → C
+  pub look-step : {C : Type 0} → place_of (read_step s at) ≡ None → C
   look-step {C} e =
       steps_by {C = C} s 3 h.left at h.path (length s)
       (λ w i bs j er eb no is. absurd (let q = ap place_of er in let z : ◌≡◌ {A = ℕ} 0 1 = cc in omega arith))
       (λ w i bs j m q er eb yes rest is. absurd (let v = ap place_of er in let z : ◌≡◌ {A = ℕ} 0 1 = cc in omega arith))
       h.read
 
-  module _ (r : StepRead) (sr : StepAt s at r) (a : Axis) (k e : ℕ) (y : r ≡ Step a k e) where
+  module _ (r : Option Step) (sr : StepAt s at r) (a : Axis) (k e : ℕ) (y : r ≡ step_at a k e) where
     here : (w : Axis × Test) (i : ℕ) → read_step s at ≡ got w i → i ≡ e
     here w i er = same (λ (v : Axis × Test) (n : ℕ). i ≡ n) (sym er ∙ (step_is s at r sr a k e y).2) refl
 
@@ -241,15 +241,15 @@ pub record StepStored (s : List ℕ) (k e : ℕ) (a : Axis) (w : Axis × Test) (
   pub size : e - k ≡ length (write_test w.1)
   pub rest : drop e s ≡ write_stored ws
 
-module _ (s : List ℕ) (i : ℕ) (w : Axis × Test) (ws : List (Axis × Test)) (g : GoodTest w.1) (d : drop i s ≡ write_stored (w ∷ ws)) (r : StepRead) (h : StepAt s (i + 1) r) where
+module _ (s : List ℕ) (i : ℕ) (w : Axis × Test) (ws : List (Axis × Test)) (g : GoodTest w.1) (d : drop i s ≡ write_stored (w ∷ ws)) (r : Option Step) (h : StepAt s (i + 1) r) where
   there : read_step s (i + 1) ≡ got (w.0, w.1) (i + 1 + length (write_step w.0 w.1))
   unfolding write_stored
   there = step_reads s w.0 w.1 (i + 1) (write_stored ws) g (drop_over s i (47 ∷ []) (write_step w.0 w.1 ++ write_stored ws) d) (after-stored ws)
 
-  pub step_there : {C : Type 0} → r ≡ NoStep → C
+  pub step_there : {C : Type 0} → r ≡ None → C
   step_there q = absurd (let x = no_step s (i + 1) r h q in let y = ap place_of there in let z : ◌≡◌ {A = ℕ} 0 1 = cc in omega arith)
 
-  pub step-stored : (a : Axis) (k e : ℕ) → r ≡ Step a k e → StepStored s k e a w ws
+  pub step-stored : (a : Axis) (k e : ℕ) → r ≡ step_at a k e → StepStored s k e a w ws
   unfolding write_stored
   step-stored a k e q =
       let f = drop_over s i (47 ∷ []) (write_step w.0 w.1 ++ write_stored ws) d in
@@ -283,15 +283,15 @@ pub seek_first : (s : List ℕ) → Plain s → Seeking s 0
 unfolding path_restricted
 seek_first s h = let w = written s h in record { left = steps_in s; text = w.text; good = w.good; same = refl }
 
-module _ (s : List ℕ) (i : ℕ) (h : Seeking s i) (l : i < length s) (r : StepRead) (sr : StepAt s (i + 1) r) where
-  pub seek_none : {C : Type 0} → r ≡ NoStep → C
+module _ (s : List ℕ) (i : ℕ) (h : Seeking s i) (l : i < length s) (r : Option Step) (sr : StepAt s (i + 1) r) where
+  pub seek_none : {C : Type 0} → r ≡ None → C
   unfolding GoodStored
   seek_none q =
       left-some s i h.left l h.text λ w vs z.
       let g : GoodStored (w ∷ vs) = rw z at h.good in
       step_there s i w vs g.0 (rw z at h.text) r sr q
 
-  module _ (a : Axis) (k e : ℕ) (y : r ≡ Step a k e) where
+  module _ (a : Axis) (k e : ℕ) (y : r ≡ step_at a k e) where
     pub seek_found : same_label (take (e - k) (drop k s)) restricted ≡ true → path_restricted s ≡ true
     unfolding GoodStored
     seek_found q =
@@ -346,15 +346,15 @@ put_first p at s h =
     let w = written s h in
     record { put = []; left = steps_in s; text = w.text; good = w.good; stored = tt; whole = refl; many = refl; room = omega arith; bytes = pasted-none p at }
 
-module _ (p₀ : List ℕ) (at : ℕ) (s p : List ℕ) (n i : ℕ) (h : Putting p₀ at s p n i) (f : Plain s) (l : i < length s) (r : StepRead) (sr : StepAt s (i + 1) r) where
-  pub put-none : {C : Type 0} → r ≡ NoStep → C
+module _ (p₀ : List ℕ) (at : ℕ) (s p : List ℕ) (n i : ℕ) (h : Putting p₀ at s p n i) (f : Plain s) (l : i < length s) (r : Option Step) (sr : StepAt s (i + 1) r) where
+  pub put-none : {C : Type 0} → r ≡ None → C
   unfolding GoodStored
   put-none q =
       left-some s i h.left l h.text λ w vs z.
       let g : GoodStored (w ∷ vs) = rw z at h.good in
       step_there s i w vs g.0 (rw z at h.text) r sr q
 
-  module _ (a : Axis) (k e : ℕ) (y : r ≡ Step a k e) where
+  module _ (a : Axis) (k e : ℕ) (y : r ≡ step_at a k e) where
     -- the n-th step fits, and so does its text
     pub put-asks : (n < 16) × (e - k ≤ 24)
     unfolding GoodStored

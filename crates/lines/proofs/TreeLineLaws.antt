@@ -1,4 +1,5 @@
 -- The lines that write a tree: its labels, the table of the root alone, the last child of the root. Assumes nothing.
+use Rattle.std.specs.List.{list_any, range_with_len}
 use Prim.Native.Nat.{ℕ, zero, suc, ◌+◌, ◌-◌, ◌*◌, ◌≤◌, ◌<◌}
 use mathlib.Core.Bool.{true, false, not, ◌||◌, beq, false≢true}
 use mathlib.Core.Path.{◌≡◌, refl, sym, ap, ap₂, ◌∙◌}
@@ -7,7 +8,7 @@ use native.Mathlib.Omega.{arith}
 use borrow.Author.Tests.{leb-false, lt-leb, lt-ltb}
 use lib.Dec.{leb, ltb}
 use lib.ListN.{length, get_or, take, drop, set, replicate, length-take, length-drop}
-use lib.Seq.{take-take, take-length, drop-drop, drop_at, get_or-take, get_or-drop, length-take-le}
+use lib.Seq.{take-take, drop-drop, drop_at, get_or-take, get_or-drop, length-take-le}
 use Rattle.rights.specs.Bytes.{all, is_zero}
 use Rattle.rights.specs.Labels.{same_label, restricted}
 use Rattle.rights.specs.Policy.{some}
@@ -46,30 +47,14 @@ module _ (tree : List ℕ) (at n : ℕ) (inside : at + 32 ≤ length tree) (e : 
       (λ q. let z : length (label (take 32 (drop at tree))) ≡ 10 = q in
       omega (arith, z, k, length_byte, length-drop 2 (take 32 (drop at tree)), length-take (get_or (take 32 (drop at tree)) 1 0) (drop 2 (take 32 (drop at tree))))))
 
--- a loop over the records of a tree
-pub restricted_first : (m : ℕ) (tree : List ℕ) → tree_restricted m tree ≡ tree_restricted (m - 0) (drop (0 * 32) tree)
-unfolding tree_restricted
-restricted_first m tree =
-    let a : m - 0 ≡ m = omega arith in
-    let b : 0 * 32 ≡ 0 = omega arith in
-    rw (a, b)
-
-module _ (m j : ℕ) (tree : List ℕ) (inside : j < m) where
-  pub restricted_stop : same_label (label (take 32 (drop (j * 32) tree))) restricted ≡ true → true ≡ tree_restricted (m - j) (drop (j * 32) tree)
-  unfolding tree_restricted some chunks
-  restricted_stop e = let s : m - j ≡ suc (m - (j + 1)) = omega arith in rw (s, e)
-
-  pub restricted-step : same_label (label (take 32 (drop (j * 32) tree))) restricted ≡ false
-      → tree_restricted (m - j) (drop (j * 32) tree) ≡ tree_restricted (m - (j + 1)) (drop ((j + 1) * 32) tree)
-  unfolding tree_restricted some chunks
-  restricted-step e =
-      let s : m - j ≡ suc (m - (j + 1)) = omega arith in
-      let k : (j + 1) * 32 ≡ j * 32 + 32 = omega arith in
-      rw (s, k, ← drop-drop 32 (j * 32) tree, e)
-
-pub restricted-none : (m j : ℕ) (tree : List ℕ) → m ≤ j → tree_restricted (m - j) (drop (j * 32) tree) ≡ false
+-- the records of a tree by their numbers, from record j on
+pub restricted_any : (tree : List ℕ) (m j : ℕ)
+    → list_any (λ i. same_label (label (take 32 (drop (i * 32) tree))) restricted) (range_with_len j m) ≡ tree_restricted m (drop (j * 32) tree)
 unfolding tree_restricted some chunks
-restricted-none m j tree h = let z : m - j ≡ 0 = omega arith in rw z
+restricted_any tree zero j = refl
+restricted_any tree (suc m) j =
+    let k : (j + 1) * 32 ≡ j * 32 + 32 = omega arith in
+    ap (λ b. same_label (label (take 32 (drop (j * 32) tree))) restricted || b) (restricted_any tree m (j + 1) ∙ rw (k, ← drop-drop 32 (j * 32) tree) refl)
 
 -- no record is held before the root line
 pub no_records : (s t : List ℕ) → store_ok s t ≡ true → stage s < 2 → count t ≡ 0
@@ -90,11 +75,11 @@ pub root_room : (t : List ℕ) → table_ok t ≡ true → 1 ≤ capacity (lengt
 root_room t ok h = ((capacity_exact (length t) 1 (table_long t ok)).0 h).0
 
 pub root_put : (t l p q : List ℕ) → table_ok t ≡ true → count t ≡ 0 → 1 ≤ capacity (length t) → length l ≤ 24
-    → p ≡ pasted t 4 (node_record 0 (take (length l) (drop 0 l))) → q ≡ le4 1 ++ drop 4 p → q ≡ changed t (node_record 0 l ∷ [])
+    → p ≡ pasted t 4 (node_record 0 l) → q ≡ le4 1 ++ drop 4 p → q ≡ changed t (node_record 0 l ∷ [])
 unfolding changed join
 root_put t l p q ok n h k ep eq =
     let g : 36 ≤ length t = root_room t ok h in
-    let a : p ≡ take 4 t ++ (node_record 0 l ++ drop 36 t) = ep ∙ ap (λ x. pasted t 4 (node_record 0 x)) (take-length l) ∙ pasted_record t 4 0 l _ k refl in
+    let a : p ≡ take 4 t ++ (node_record 0 l ++ drop 36 t) = ep ∙ pasted_record t 4 0 l _ k refl in
     let b : drop 4 p ≡ node_record 0 l ++ drop 36 t =
     ap (drop 4) a ∙ drop_at (take 4 t) (node_record 0 l ++ drop 36 t) 4 (length-take-le 4 t (omega arith)) in
     let z : 4 + count t * 32 ≡ 4 = omega (arith, n) in

@@ -1,4 +1,5 @@
 -- What a session's user has and sees, where it is worked out in areas that are lent. Assumes nothing.
+use Rattle.std.specs.Prelude.{Some}
 use Prim.Native.Nat.{ℕ, zero, suc, ◌-◌, ◌≤◌, ◌<◌}
 use mathlib.Core.Bool.{true, false}
 use mathlib.Core.Path.{◌≡◌, refl, sym, ap, ap₂, ◌∙◌}
@@ -11,7 +12,6 @@ use lib.Seq.{take_at}
 use Rattle.rights.specs.Path.{Path}
 use Rattle.rights.specs.PathReader.{Got, got, bad}
 use Rattle.rights.specs.How.Reading.{place_of}
-use Rattle.rights.specs.declared.path.Read.TheVariants.{At, Bad}
 use Rattle.rights.specs.Marks.{bit, marks_of}
 use Rattle.rights.specs.Nodes.{Nodes}
 use Rattle.rights.specs.How.Numbers.{Fits, view_of}
@@ -159,11 +159,7 @@ pub path_read : (g : Got Path) → not_path g ≡ false → g ≡ bad → ⊥
 path_read (got p i) e q = let z : ◌≡◌ {A = ℕ} 0 1 = cc in omega arith
 path_read bad e q = let z : ◌≡◌ {A = ℕ} 0 1 = cc in omega arith
 
-pub not_path_lem : (g : Got Path) → place_of g ≡ Bad → not_path g ≡ true
-not_path_lem (got p i) e = absurd (let z : ◌≡◌ {A = ℕ} 0 1 = cc in omega arith)
-not_path_lem bad e = refl
-
-pub is_path : (g : Got Path) (i : ℕ) → place_of g ≡ At i → not_path g ≡ false
+pub is_path : (g : Got Path) (i : ℕ) → place_of g ≡ Some i → not_path g ≡ false
 is_path (got p k) i e = refl
 is_path bad i e = absurd (let z : ◌≡◌ {A = ℕ} 0 1 = cc in omega arith)
 

@@ -4,9 +4,8 @@ use Rattle.rights.specs.Record.{node_record}
 use Rattle.rights.specs.Table.{records, level}
 use Rattle.views.specs.Change.{insert_marked, rename, remove, chunks, raise, relabel, redate, changed}
 use Rattle.views.specs.declared.insert.Place.{Place}
-use Rattle.lines.specs.Outcome.{Outcome, says, Made}
+use Rattle.lines.specs.Outcome.{Answer, Outcome, says, Made}
 use Rattle.lines.specs.Refusal.{Check, area_check, checked}
-use Rattle.lines.specs.declared.line.Answer.{Answer}
 use Rattle.lines.specs.State.{stage_c, stage_e, with_stage, with_session, with_day, with_policy}
 
 pub data Effect : Type 0 where

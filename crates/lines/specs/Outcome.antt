@@ -1,7 +1,5 @@
 -- What a call gives (document 01, "What is written", "Who can be turned down").
 use Rattle.std.specs.Prelude.{ℕ, ◌≡◌, List, ◌++◌, length, drop}
-use Rattle.lines.specs.declared.line.Answer.{Answer}
-use Rattle.lines.specs.declared.line.Answer.TheVariants.{Accepted, Refused}
 
 -- the answer's bytes, or the number of a refusal
 pub data Reply : Type 0 where
@@ -13,6 +11,11 @@ pub record Outcome : Type 0 where
   pub reply : Reply
   pub state : List ℕ
   pub table : List ℕ
+
+-- what is returned, by this paper's numbers (Refusal, `numbered`): the answer's length, or the number of a refusal
+pub data Answer : Type 0 where
+  Accepted : ℕ → Answer
+  Refused : ℕ → Answer
 
 -- "An accepted line returns the answer's length, and the area beyond it keeps its bytes."
 abbrev pub answer_of : Reply → Answer

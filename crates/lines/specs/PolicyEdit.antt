@@ -1,6 +1,6 @@
 -- What the lines of stages A and B ask of a policy and write into it (document 01, "Lines" and "Rights"; refusals 5, 6, 7 and 9). The bytes stand as
 -- PolicyBytes says.
-use Rattle.std.specs.Prelude.{ℕ, suc, ◌+◌, Bool, true, false, cond, ◌&&◌, ◌||◌, ◌≡◌, List, [], ◌∷◌, ◌++◌, map, eqb, length, get_or, set}
+use Rattle.std.specs.Prelude.{Option, Some, None, ℕ, suc, ◌+◌, Bool, true, false, cond, ◌&&◌, ◌||◌, ◌≡◌, List, [], ◌∷◌, ◌++◌, map, eqb, length, get_or, set}
 use Rattle.rights.specs.Labels.{same_label, restricted}
 use Rattle.rights.specs.Path.{Test, Path, last, next, Brackets, none, position, holds}
 use Rattle.rights.specs.declared.path.Axis.{Axis}
@@ -11,27 +11,25 @@ use Rattle.rights.specs.PolicyBytes.{subject_count, isa_count, rule_count, subje
 use Rattle.rights.specs.Record.{name_record, pasted}
 use Rattle.rights.specs.Held.{join}
 pub use Rattle.rights.specs.Held.{axis_byte, step_record, rule_head}
-use Rattle.lines.specs.declared.policy_edit.Found.{Found}
-use Rattle.lines.specs.declared.policy_edit.Found.TheVariants.{Subject, Unknown}
 
 -- Refusal 5: "a name unknown, declared twice, an isa line repeated"
 
 -- the number of the subject named x, among the names that start with number u
-unfoldable pub subject_from : List ℕ → ℕ → List (List ℕ) → Found
-subject_from x u [] = Unknown
-subject_from x u (y ∷ ys) = cond (same_label x y) (Subject u) (subject_from x (suc u) ys)
+unfoldable pub subject_from : List ℕ → ℕ → List (List ℕ) → Option ℕ
+subject_from x u [] = None
+subject_from x u (y ∷ ys) = cond (same_label x y) (Some u) (subject_from x (suc u) ys)
 
-unfoldable pub subject_named : Policy → List ℕ → Found
+unfoldable pub subject_named : Policy → List ℕ → Option ℕ
 subject_named P x = subject_from x 0 P.names
 
-abbrev pub is_unknown : Found → Bool
-is_unknown (Subject u) = false
-is_unknown Unknown = true
+abbrev pub is_unknown : Option ℕ → Bool
+is_unknown (Some u) = false
+is_unknown None = true
 
--- the number of a subject that was found; a check for Unknown stands in front of each use
-abbrev pub number_in : Found → ℕ
-number_in (Subject u) = u
-number_in Unknown = 0
+-- the number of a subject that was found; a check that it was found stands in front of each use
+abbrev pub number_in : Option ℕ → ℕ
+number_in (Some u) = u
+number_in None = 0
 
 -- an isa line that says that n is an r
 abbrev pub is_line : ℕ → ℕ → ℕ × ℕ → Bool

@@ -1,6 +1,8 @@
 -- The refusals (document 01, "Who can be turned down, and for what", and what the cards of document 02 add): their numbers, their order, and a line's tests.
-use Rattle.std.specs.Prelude.{ℕ, suc, Bool, true, false, cond, ◌&&◌, ◌≡◌, List, [], ◌∷◌, eqb, leb, ltb}
-use Rattle.lines.specs.Outcome.{Outcome, refusal}
+use Rattle.std.specs.Prelude.{Result, Ok, Err, ℕ, suc, Bool, true, false, cond, ◌&&◌, ◌≡◌, List, [], ◌∷◌, eqb, leb, ltb}
+use Rattle.lines.specs.Outcome.{Answer, Accepted, Refused, Outcome, refusal}
+use Rattle.lines.specs.declared.refusals.Refusal.{Refusal}
+use Rattle.lines.specs.declared.refusals.Refusal.TheVariants.{BadLine, NoForm, WrongStage, BadPath, BadName, RuleBracket, PolicyFull, NoUserYet, BannedLabel, LevelTooDeep, TableFull, AreaShort, BadStore, NoDocument, BadDay}
 
 -- "1 too long or a byte outside 32 to 126"
 abbrev pub bad_line : ℕ
@@ -63,6 +65,34 @@ no_document = 14
 -- "15, after 10, for a day outside 1 to 366 or F after T" (document 02, card 7)
 abbrev pub bad_day : ℕ
 bad_day = 15
+
+-- the number of a refusal
+abbrev pub number_of : Refusal → ℕ
+number_of BadLine = bad_line
+number_of NoForm = no_form
+number_of WrongStage = wrong_stage
+number_of BadPath = bad_path
+number_of BadName = bad_name
+number_of RuleBracket = rule_bracket
+number_of PolicyFull = policy_full
+number_of NoUserYet = no_user_yet
+number_of BannedLabel = banned_label
+number_of LevelTooDeep = level_too_deep
+number_of TableFull = table_full
+number_of AreaShort = area_short
+number_of BadStore = bad_store
+number_of NoDocument = no_document
+number_of BadDay = bad_day
+
+-- the number of what a test refuses with, and 0 if it refuses nothing
+abbrev pub refusal_number : {A : Type 0} → Result A Refusal → ℕ
+refusal_number (Ok v) = 0
+refusal_number (Err r) = number_of r
+
+-- what a call returns, by the numbers
+abbrev pub numbered : Result ℕ Refusal → Answer
+numbered (Ok n) = Accepted n
+numbered (Err r) = Refused (number_of r)
 
 -- "13 is tested first, then 1 to 12 rising."; "14, after 4"; "15, after 10"
 abbrev pub order : List ℕ

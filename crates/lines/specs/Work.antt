@@ -1,6 +1,6 @@
 -- The work of each form: its checks in the paper's order, its answer and its effect (document 01, "Lines", "Changes", "What is written", "Who can be turned
 -- down"; document 02, cards 3 and 7).
-use Rattle.std.specs.Prelude.{ℕ, ◌+◌, Bool, true, not, ◌||◌, List, [], ◌∷◌, ◌++◌, leb, ltb}
+use Rattle.std.specs.Prelude.{Option, ℕ, ◌+◌, Bool, true, not, ◌||◌, List, [], ◌∷◌, ◌++◌, leb, ltb}
 use Rattle.rights.specs.Labels.{same_label, restricted}
 use Rattle.rights.specs.Nodes.{Nodes}
 use Rattle.rights.specs.PathReader.{path_of}
@@ -20,7 +20,6 @@ use Rattle.lines.specs.PolicyEdit.{is_unknown, number_in, subject_named, isa_hel
 use Rattle.lines.specs.Refusal.{Check, check, bad_path, bad_name, rule_bracket, policy_full, no_user_yet, banned_label, level_too_deep, table_full, bad_day}
 use Rattle.lines.specs.State.{stage_b, stage_d, stage, policy_bytes, policy_in}
 use Rattle.lines.specs.UserView.{no_user, not_path, view_in, marks_in, done_in}
-use Rattle.lines.specs.declared.policy_edit.Found.{Found}
 use Rattle.lines.specs.declared.queries.Ask.{Ask}
 use Rattle.lines.specs.declared.queries.Ask.TheVariants.{Query, Find}
 
@@ -43,7 +42,7 @@ work_subject s name =
     }
 
 -- `(isa N R)`, from what was found of the names: "R not before N" and "an isa line repeated" are 5 as well
-abbrev pub isa_checks : List ℕ → Found → Found → List Check
+abbrev pub isa_checks : List ℕ → Option ℕ → Option ℕ → List Check
 isa_checks p n r =
     check bad_name (is_unknown n)
     ∷ check bad_name (is_unknown r)
@@ -61,7 +60,7 @@ work_isa s member role =
     }
 
 -- `(rule accept|deny RIGHT PATH N)`: accept is 1 or 0, right the bit of a right
-abbrev pub rule_checks : List ℕ → List ℕ → Found → List Check
+abbrev pub rule_checks : List ℕ → List ℕ → Option ℕ → List Check
 rule_checks p path n =
     check bad_path (not_path (path_of path))
     ∷ check bad_name (is_unknown n)
@@ -118,7 +117,7 @@ work_child t m tree = guarded (label_check m tree ∷ []) (insert_at Append root
 -- Stage E
 
 -- `(user N)`
-abbrev pub user_checks : Found → List Check
+abbrev pub user_checks : Option ℕ → List Check
 user_checks n = check bad_name (is_unknown n) ∷ []
 
 abbrev pub work_user : List ℕ → List ℕ → Work

@@ -9,14 +9,14 @@ ghost use Rattle.answers.specs.Answer.{done_text};
 ghost use Rattle.answers.specs.How.AnswerArea.{Answered};
 ghost use Rattle.lines.specs.How.ChangeRoom.{Decided, MarkedFor};
 ghost use Rattle.lines.specs.Effect.{Performs};
-ghost use Rattle.lines.specs.Refusal.{Passed, first_refusal};
+ghost use Rattle.lines.specs.Refusal.{Passed, first_refusal, numbered, refusal_number};
 ghost use Rattle.lines.specs.State.{stage, policy_in, store_ok};
 ghost use Rattle.lines.specs.Work.{on_view, count_text, rename_checks, tree_checks, window_checks, change_at, insert_at, work_rename, work_insert, work_remove, work_window};
 
 use crate::limits::POLICY_AT;
 use crate::line::Answer;
 use crate::queries::{path_refusal, select_user};
-use crate::refusals::{BAD_DAY, BANNED_LABEL, area_refusal};
+use crate::refusals::{Refusal, area_refusal};
 use crate::tree_lines::{insert_refusal, tree_restricted};
 use answers::answer::answer_done;
 use rights::labels::is_restricted;
@@ -56,7 +56,7 @@ fn mark_change(state: &[u8], table: &[u8], change: Change, path: &[u8], done: &m
         &marks[0..k],
         done,
     );
-    count_marks(&marks, k)
+    count_marks(&marks[..k])
 }
 
 // Answers a change of which `selected` nodes are selected and the marked records done.
@@ -66,7 +66,7 @@ fn answer_change(table: &[u8], selected: usize, done: &[u8], area: &mut [u8]) ->
         area.new result }
 {
     let n = count_of(table);
-    let d = count_marks(done, n);
+    let d = count_marks(&done[..n]);
     answer_done(selected, d, area)
 }
 
@@ -93,25 +93,19 @@ fn is_barred(state: &[u8], table: &[u8], label: &[u8]) -> bool
     requires { store_ok state.now table.now ≡ true }
     ensures { result ≡ (same_label label.now restricted || policy_word (policy_in state.now) label.now) }
 {
-    if is_restricted(label, 0, label.len()) {
-        return true;
-    }
-    is_policy_word(&state[POLICY_AT..], label, 0, label.len())
+    is_restricted(label) || is_policy_word(&state[POLICY_AT..], label)
 }
 
 // The refusal of `(rename P L)` and `(update P L)`.
-fn rename_refusal(state: &[u8], table: &[u8], path: &[u8], label: &[u8]) -> u8
+fn rename_refusal(state: &[u8], table: &[u8], path: &[u8], label: &[u8]) -> Result<(), Refusal>
     requires { store_ok state.now table.now ≡ true }
-    ensures { result ≡ first_refusal (rename_checks state.now path.now label.now) }
+    ensures { refusal_number result ≡ first_refusal (rename_checks state.now path.now label.now) }
 {
-    let down = path_refusal(state, path);
-    if down != 0 {
-        return down;
-    }
+    path_refusal(state, path)?;
     if is_barred(state, table, label) {
-        return BANNED_LABEL;
+        return Err(Refusal::BannedLabel);
     }
-    0
+    Ok(())
 }
 
 // `(rename P L)` and `(update P L)`.
@@ -125,57 +119,42 @@ pub fn rename(
 ) -> Answer
     requires { (store_ok state.now table.old ≡ true) × (length label.now ≤ label_max) }
     ensures { Performs (work_rename change state.now table.old path.now label.now)
-        state.now table.old area.old result state.now table.new area.new }
+        state.now table.old area.old (numbered result) state.now table.new area.new }
 {
-    let down = rename_refusal(state, table, path, label);
-    if down != 0 {
-        return Answer::Refused(down);
-    }
+    rename_refusal(state, table, path, label)?;
     let mut done = [0u8; RECORDS_MAX];
     let need = answer_marked(state, table, change, path, &mut done, area);
-    let short = area_refusal(need, area.len());
-    if short != 0 {
-        return Answer::Refused(short);
-    }
+    area_refusal(need, area.len())?;
     let n = count_of(table);
-    rename_marked(table, &done[0..n], label, 0, label.len());
-    Answer::Accepted(need)
+    rename_marked(table, &done[0..n], label);
+    Ok(need)
 }
 
 // `(remove P)`.
 pub fn remove(state: &[u8], table: &mut [u8], path: &[u8], area: &mut [u8]) -> Answer
     requires { store_ok state.now table.old ≡ true }
     ensures { Performs (work_remove state.now table.old path.now)
-        state.now table.old area.old result state.now table.new area.new }
+        state.now table.old area.old (numbered result) state.now table.new area.new }
 {
-    let down = path_refusal(state, path);
-    if down != 0 {
-        return Answer::Refused(down);
-    }
+    path_refusal(state, path)?;
     let mut done = [0u8; RECORDS_MAX];
     let need = answer_marked(state, table, Change::Remove, path, &mut done, area);
-    let short = area_refusal(need, area.len());
-    if short != 0 {
-        return Answer::Refused(short);
-    }
+    area_refusal(need, area.len())?;
     let n = count_of(table);
     remove_marked(table, &done[0..n]);
-    Answer::Accepted(need)
+    Ok(need)
 }
 
 // The refusal of `(window P F T)`.
-fn window_refusal(state: &[u8], path: &[u8], first: usize, last: usize) -> u8
+fn window_refusal(state: &[u8], path: &[u8], first: usize, last: usize) -> Result<(), Refusal>
     requires { 2 ≤ length state.now }
-    ensures { result ≡ first_refusal (window_checks state.now path.now first last) }
+    ensures { refusal_number result ≡ first_refusal (window_checks state.now path.now first last) }
 {
-    let down = path_refusal(state, path);
-    if down != 0 {
-        return down;
+    path_refusal(state, path)?;
+    if !window_ok(first, last) {
+        return Err(Refusal::BadDay);
     }
-    if window_ok(first, last) {
-        return 0;
-    }
-    BAD_DAY
+    Ok(())
 }
 
 // `(window P F T)`: the days first and last.
@@ -189,21 +168,15 @@ pub fn window(
 ) -> Answer
     requires { store_ok state.now table.old ≡ true }
     ensures { Performs (work_window state.now table.old path.now first last)
-        state.now table.old area.old result state.now table.new area.new }
+        state.now table.old area.old (numbered result) state.now table.new area.new }
 {
-    let down = window_refusal(state, path, first, last);
-    if down != 0 {
-        return Answer::Refused(down);
-    }
+    window_refusal(state, path, first, last)?;
     let mut done = [0u8; RECORDS_MAX];
     let need = answer_marked(state, table, Change::Window, path, &mut done, area);
-    let short = area_refusal(need, area.len());
-    if short != 0 {
-        return Answer::Refused(short);
-    }
+    area_refusal(need, area.len())?;
     let n = count_of(table);
     redate_marked(table, &done[0..n], first, last);
-    Answer::Accepted(need)
+    Ok(need)
 }
 
 // The change that inserts at a place.
@@ -218,18 +191,15 @@ fn change_at(place: Place) -> Change
 }
 
 // The refusal of `(append P TREE)`, `(before P TREE)` and `(after P TREE)` before anything is selected.
-fn tree_refusal(state: &[u8], path: &[u8], tree: &[u8], m: usize) -> u8
+fn tree_refusal(state: &[u8], path: &[u8], tree: &[u8], m: usize) -> Result<(), Refusal>
     requires { (2 ≤ length state.now) × (m * 32 ≤ length tree.now) }
-    ensures { result ≡ first_refusal (tree_checks state.now path.now m tree.now) }
+    ensures { refusal_number result ≡ first_refusal (tree_checks state.now path.now m tree.now) }
 {
-    let down = path_refusal(state, path);
-    if down != 0 {
-        return down;
-    }
+    path_refusal(state, path)?;
     if tree_restricted(tree, m) {
-        return BANNED_LABEL;
+        return Err(Refusal::BannedLabel);
     }
-    0
+    Ok(())
 }
 
 // Inserts the tree at the places that are done, of `selected` nodes selected, if nothing refuses it.
@@ -248,19 +218,13 @@ fn insert_done(
     ensures { Performs (insert_at place (marks_of done.now) m tree.now
         (done_text selected (mark_count (take (count table.old) (marks_of done.now)))) (stage state.now)
         table.old)
-        state.now table.old area.old result state.now table.new area.new }
+        state.now table.old area.old (numbered result) state.now table.new area.new }
 {
-    let down = insert_refusal(table, done, tree, m, place);
-    if down != 0 {
-        return Answer::Refused(down);
-    }
+    insert_refusal(table, done, tree, m, place)?;
     let need = answer_change(table, selected, done, area);
-    let short = area_refusal(need, area.len());
-    if short != 0 {
-        return Answer::Refused(short);
-    }
+    area_refusal(need, area.len())?;
     insert_marked(table, done, tree, m, place);
-    Answer::Accepted(need)
+    Ok(need)
 }
 
 // `(append P TREE)`, `(before P TREE)` and `(after P TREE)`: a tree of m records.
@@ -275,12 +239,9 @@ pub fn insert(
 ) -> Answer
     requires { (store_ok state.now table.old ≡ true) × (m * 32 ≤ length tree.now) × (m ≤ records_max) }
     ensures { Performs (work_insert place state.now table.old path.now m tree.now)
-        state.now table.old area.old result state.now table.new area.new }
+        state.now table.old area.old (numbered result) state.now table.new area.new }
 {
-    let down = tree_refusal(state, path, tree, m);
-    if down != 0 {
-        return Answer::Refused(down);
-    }
+    tree_refusal(state, path, tree, m)?;
     let mut done = [0u8; RECORDS_MAX];
     let k = mark_change(state, table, change_at(place), path, &mut done);
     let n = count_of(table);

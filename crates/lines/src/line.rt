@@ -1,8 +1,6 @@
 // What a call of the library returns.
 
-// What became of a line: accepted, with the answer's length, or refused, with its number.
-#[derive(Clone, Copy)]
-pub enum Answer {
-    Accepted(usize),
-    Refused(u8),
-}
+use crate::refusals::Refusal;
+
+// What became of a line: accepted, with the answer's length, or refused.
+pub type Answer = Result<usize, Refusal>;

@@ -4,49 +4,28 @@ ghost use Rattle.rights.specs.Limits.{label_max, policy_size};
 ghost use Rattle.rights.specs.PathReader.{bad, path_of};
 ghost use Rattle.rights.specs.PolicyBytes.{policy_of, subject_count, isa_count, rule_count, isa_n, isa_r};
 ghost use Rattle.rights.specs.PolicyCheck.{policy_ok};
-ghost use Rattle.lines.specs.PolicyEdit.{number_in, subject_named, is_line, isa_held, has_bracket, Plain, steps_in, path_restricted, axis_byte, step_records, rule_head, with_subject, with_isa, with_rule};
+ghost use Rattle.lines.specs.PolicyEdit.{subject_named, is_line, isa_held, has_bracket, Plain, steps_in, path_restricted, axis_byte, step_records, rule_head, with_subject, with_isa, with_rule};
 ghost use Rattle.rights.specs.Record.{pasted};
 
-use rights::bytes::wide;
 use rights::labels::is_restricted;
 use rights::limits::{
     ISA_AT, ISA_BYTES, RECORD_BYTES, RULE_BYTES, RULES_AT, STEPS_AT, SUBJECTS_AT,
 };
-use rights::path::{Axis, StepRead, byte_is, read_step};
+use rights::path::{Axis, byte_is, read_step};
 use rights::policy::is_name;
 use rights::record::put_name;
 
-// A subject's number, or none of that name.
-#[derive(Clone, Copy)]
-pub enum Found {
-    Subject(usize),
-    Unknown,
-}
-
-// The subject of a name.
-pub(crate) fn find_name(policy: &[u8], name: &[u8]) -> Found
+// The number of the subject of a name.
+pub(crate) fn find_name(policy: &[u8], name: &[u8]) -> Option<usize>
     requires { policy_ok policy.now ≡ true }
     ensures { result ≡ subject_named (policy_of policy.now) name.now }
 {
-    let count = wide(policy[0]);
-    let mut u = 0;
-    while u < count {
-        if is_name(policy, u, name, 0, name.len()) {
-            return Found::Subject(u);
+    for u in 0..usize::from(policy[0]) {
+        if is_name(policy, u, name) {
+            return Some(u);
         }
-        u += 1;
     }
-    Found::Unknown
-}
-
-// The number of a subject that was found.
-pub(crate) fn number_in(found: Found) -> usize
-    ensures { result ≡ number_in found }
-{
-    let Found::Subject(u) = found else {
-        return 0;
-    };
-    u
+    None
 }
 
 // Whether isa line k says that subject n is an r.
@@ -55,10 +34,7 @@ fn is_line(policy: &[u8], k: usize, n: usize, r: usize) -> bool
     ensures { result ≡ is_line n r (isa_n policy.now k, isa_r policy.now k) }
 {
     let a = ISA_AT + k * ISA_BYTES;
-    if wide(policy[a]) != n {
-        return false;
-    }
-    wide(policy[a + 1]) == r
+    usize::from(policy[a]) == n && usize::from(policy[a + 1]) == r
 }
 
 // Whether the isa line of subjects n and r is held already.
@@ -66,15 +42,7 @@ pub(crate) fn isa_held(policy: &[u8], n: usize, r: usize) -> bool
     requires { policy_ok policy.now ≡ true }
     ensures { result ≡ isa_held (policy_of policy.now) n r }
 {
-    let count = wide(policy[1]);
-    let mut k = 0;
-    while k < count {
-        if is_line(policy, k, n, r) {
-            return true;
-        }
-        k += 1;
-    }
-    false
+    (0..usize::from(policy[1])).any(|k| is_line(policy, k, n, r))
 }
 
 // Whether a rule's path has a bracket: one stands after the test of a step.
@@ -84,16 +52,16 @@ pub(crate) fn has_bracket(s: &[u8]) -> bool
 {
     let mut at = 1;
     while at < s.len() {
-        let StepRead::Step(_, _, end) = read_step(s, at) else {
+        let Some(step) = read_step(s, at) else {
             return false;
         };
-        if byte_is(s, end, b'[') {
+        if byte_is(s, step.end, b'[') {
             return true;
         }
-        if byte_is(s, end, b'/') {} else {
+        if !byte_is(s, step.end, b'/') {
             return false;
         }
-        at = end + 1;
+        at = step.end + 1;
     }
     false
 }
@@ -115,25 +83,25 @@ pub(crate) fn path_restricted(s: &[u8]) -> bool
 {
     let mut i = 0;
     while i < s.len() {
-        let StepRead::Step(_, k, e) = read_step(s, i + 1) else {
+        let Some(step) = read_step(s, i + 1) else {
             return false;
         };
-        if is_restricted(s, k, e - k) {
+        if is_restricted(&s[step.at..step.end]) {
             return true;
         }
-        i = e;
+        i = step.end;
     }
     false
 }
 
-// Adds a subject whose name is the label of n bytes at byte `at` of s.
-pub(crate) fn add_subject(policy: &mut [u8], s: &[u8], at: usize, n: usize)
-    requires { (policy_ok policy.old ≡ true) × (subject_count policy.old < 64) × (n ≤ label_max) × (at + n ≤ length s.now) }
-    ensures { policy.new ≡ with_subject policy.old (take n (drop at s.now)) }
+// Adds a subject of this name.
+pub(crate) fn add_subject(policy: &mut [u8], name: &[u8])
+    requires { (policy_ok policy.old ≡ true) × (subject_count policy.old < 64) × (length name.now ≤ label_max) }
+    ensures { policy.new ≡ with_subject policy.old name.now }
 {
     let count = policy[0];
-    let a = SUBJECTS_AT + wide(count) * RECORD_BYTES;
-    put_name(policy, a, 0, s, at, n);
+    let a = SUBJECTS_AT + usize::from(count) * RECORD_BYTES;
+    put_name(policy, a, 0, name);
     policy[0] = count + 1;
 }
 
@@ -144,7 +112,7 @@ pub(crate) fn add_isa(policy: &mut [u8], n: usize, r: usize)
     ensures { policy.new ≡ with_isa policy.old n r }
 {
     let count = policy[1];
-    let a = ISA_AT + wide(count) * ISA_BYTES;
+    let a = ISA_AT + usize::from(count) * ISA_BYTES;
     policy[a] = n as u8;
     policy[a + 1] = r as u8;
     policy[1] = count + 1;
@@ -159,13 +127,18 @@ fn put_steps(policy: &mut [u8], at: usize, path: &[u8]) -> usize
     let mut n = 0;
     let mut i = 0;
     while i < path.len() {
-        let StepRead::Step(axis, k, e) = read_step(path, i + 1) else {
+        let Some(step) = read_step(path, i + 1) else {
             return n;
         };
-        let first = axis_byte(axis);
-        put_name(policy, at + n * RECORD_BYTES, first, path, k, e - k);
+        let first = axis_byte(step.axis);
+        put_name(
+            policy,
+            at + n * RECORD_BYTES,
+            first,
+            &path[step.at..step.end],
+        );
         n += 1;
-        i = e;
+        i = step.end;
     }
     n
 }
@@ -175,14 +148,7 @@ fn put_head(policy: &mut [u8], a: usize, accept: u8, bit: u8, who: u8, n: u8)
     requires { a + 8 ≤ length policy.old }
     ensures { policy.new ≡ pasted policy.old a (rule_head accept bit who n) }
 {
-    policy[a] = accept;
-    policy[a + 1] = bit;
-    policy[a + 2] = who;
-    policy[a + 3] = n;
-    policy[a + 4] = 0;
-    policy[a + 5] = 0;
-    policy[a + 6] = 0;
-    policy[a + 7] = 0;
+    policy[a..a + STEPS_AT].copy_from_slice(&[accept, bit, who, n, 0, 0, 0, 0]);
 }
 
 // Adds a rule: accept is 1 to accept and 0 to deny, bit the right's, who the subject's number, path the text of its path.
@@ -191,7 +157,7 @@ pub(crate) fn add_rule(policy: &mut [u8], accept: u8, bit: u8, who: usize, path:
     ensures { policy.new ≡ with_rule policy.old accept bit who (steps_in path.now) }
 {
     let count = policy[2];
-    let a = RULES_AT + wide(count) * RULE_BYTES;
+    let a = RULES_AT + usize::from(count) * RULE_BYTES;
     let n = put_steps(policy, a + STEPS_AT, path);
     put_head(policy, a, accept, bit, who as u8, n as u8);
     policy[2] = count + 1;

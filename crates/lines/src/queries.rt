@@ -9,26 +9,28 @@ ghost use Rattle.answers.specs.How.AnswerArea.{Answered};
 ghost use Rattle.lines.specs.How.ChangeRoom.{AskedHeld, Chosen, ForView};
 ghost use Rattle.lines.specs.How.Looks.{printed, work_look};
 ghost use Rattle.lines.specs.Effect.{Performs};
-ghost use Rattle.lines.specs.Refusal.{Passed, first_refusal};
+ghost use Rattle.lines.specs.Refusal.{Passed, first_refusal, numbered, refusal_number};
 ghost use Rattle.lines.specs.State.{user_of, policy_bytes, store_ok};
 ghost use Rattle.lines.specs.UserView.{stored_in};
 ghost use Rattle.lines.specs.Work.{view_checks, on_view, answer_to, work_view, work_sheet, work_ask};
 
 use crate::limits::POLICY_AT;
 use crate::line::Answer;
-use crate::refusals::{BAD_PATH, NO_USER_YET, area_refusal};
+use crate::refusals::{Refusal, area_refusal};
 use crate::state::day_in;
 use answers::answer::{answer_find, answer_query, answer_view};
 use answers::sheet::answer_sheet;
-use rights::bytes::wide;
 use rights::isa::{own_subjects, roles_of};
 use rights::limits::{RECORDS_MAX, SUBJECTS_MAX, VIEW_RIGHTS};
-use rights::path::{Read, check_path};
+use rights::nodes::Shown;
+use rights::path::check_path;
 use rights::rights::asked_on;
 use rights::selection::select;
 use views::shown::show;
 
 // What is printed of a view.
+//
+// Kept: a closure that prints needs F.pre and F.post at three references, longer than these two arms.
 #[derive(Clone, Copy)]
 enum Look {
     View,
@@ -36,6 +38,8 @@ enum Look {
 }
 
 // What is asked of a path.
+//
+// Kept: as for Look; and `work_ask` (specs/Work) and the laws of query and find name it.
 #[derive(Clone, Copy)]
 pub enum Ask {
     Query,
@@ -43,27 +47,29 @@ pub enum Ask {
 }
 
 // The refusal of a line that needs a user.
-fn view_refusal(state: &[u8]) -> u8
+fn view_refusal(state: &[u8]) -> Result<(), Refusal>
     requires { 2 ≤ length state.now }
-    ensures { result ≡ first_refusal (view_checks state.now) }
+    ensures { refusal_number result ≡ first_refusal (view_checks state.now) }
 {
     if state[1] == 0 {
-        return NO_USER_YET;
+        return Err(Refusal::NoUserYet);
     }
-    0
+    Ok(())
 }
 
 // The refusal of a line that runs a path on the view.
-pub(crate) fn path_refusal(state: &[u8], path: &[u8]) -> u8
+pub(crate) fn path_refusal(state: &[u8], path: &[u8]) -> Result<(), Refusal>
     requires { 2 ≤ length state.now }
-    ensures { result ≡ first_refusal (on_view path.now state.now) }
+    ensures { refusal_number result ≡ first_refusal (on_view path.now state.now) }
 {
-    let Read::At(_) = check_path(path) else {
-        return BAD_PATH;
+    let Some(_) = check_path(path) else {
+        return Err(Refusal::BadPath);
     };
     view_refusal(state)
 }
 
+// Kept: no heap, so the subjects stand in an array of their most, with how many they are.
+//
 // What is worked out of a user: the subjects for which `$` stands, in the first `own` places of `subjects`, and how many nodes are shown.
 #[derive(Clone, Copy)]
 struct Seen {
@@ -82,7 +88,7 @@ fn show_user(state: &[u8], table: &[u8], asked: u8, rights: &mut [u8], shown: &m
         × AskedHeld asked state.now table.now rights.old rights.new }
 {
     let policy = &state[POLICY_AT..];
-    let user = wide(state[1]) - 1;
+    let user = usize::from(state[1]) - 1;
     let roles = roles_of(policy, user);
     let mut subjects = [0u8; SUBJECTS_MAX];
     let own = own_subjects(policy, user, &roles, &mut subjects);
@@ -109,9 +115,13 @@ fn answer_look(look: Look, table: &[u8], shown: &[u16], room: &[u8], area: &mut 
     ensures { Answered (printed look room.now (view_of table.now shown.now))
         area.old area.new result }
 {
+    let shown = Shown {
+        table,
+        numbers: shown,
+    };
     match look {
-        Look::View => answer_view(table, shown, area),
-        Look::Sheet => answer_sheet(table, shown, room, area),
+        Look::View => answer_view(&shown, area),
+        Look::Sheet => answer_sheet(&shown, room, area),
     }
 }
 
@@ -119,29 +129,23 @@ fn answer_look(look: Look, table: &[u8], shown: &[u16], room: &[u8], area: &mut 
 fn print_view(look: Look, state: &[u8], table: &[u8], room: &[u8], area: &mut [u8]) -> Answer
     requires { store_ok state.now table.now ≡ true }
     ensures { Performs (work_look look state.now table.now room.now)
-        state.now table.now area.old result state.now table.now area.new }
+        state.now table.now area.old (numbered result) state.now table.now area.new }
 {
-    let down = view_refusal(state);
-    if down != 0 {
-        return Answer::Refused(down);
-    }
+    view_refusal(state)?;
     let mut rights = [0u8; RECORDS_MAX];
     let mut shown = [0u16; RECORDS_MAX];
     let seen = show_user(state, table, VIEW_RIGHTS, &mut rights, &mut shown);
     let k = seen.nodes;
     let need = answer_look(look, table, &shown[0..k], room, area);
-    let short = area_refusal(need, area.len());
-    if short != 0 {
-        return Answer::Refused(short);
-    }
-    Answer::Accepted(need)
+    area_refusal(need, area.len())?;
+    Ok(need)
 }
 
 // `(view)`.
 pub fn view(state: &[u8], table: &[u8], area: &mut [u8]) -> Answer
     requires { store_ok state.now table.now ≡ true }
     ensures { Performs (work_view state.now table.now)
-        state.now table.now area.old result state.now table.now area.new }
+        state.now table.now area.old (numbered result) state.now table.now area.new }
 {
     print_view(Look::View, state, table, b"", area)
 }
@@ -150,7 +154,7 @@ pub fn view(state: &[u8], table: &[u8], area: &mut [u8]) -> Answer
 pub fn sheet(state: &[u8], table: &[u8], room: &[u8], area: &mut [u8]) -> Answer
     requires { store_ok state.now table.now ≡ true }
     ensures { Performs (work_sheet state.now table.now room.now)
-        state.now table.now area.old result state.now table.now area.new }
+        state.now table.now area.old (numbered result) state.now table.now area.new }
 {
     print_view(Look::Sheet, state, table, room, area)
 }
@@ -176,14 +180,11 @@ pub(crate) fn select_user(
     let subjects = seen.subjects;
     let m = seen.own;
     let k = seen.nodes;
-    select(
-        &state[POLICY_AT..],
-        &subjects[0..m],
+    let nodes = Shown {
         table,
-        &shown[0..k],
-        path,
-        marks,
-    );
+        numbers: &shown[0..k],
+    };
+    select(&state[POLICY_AT..], &subjects[0..m], &nodes, path, marks);
     k
 }
 
@@ -193,9 +194,13 @@ fn answer_ask(ask: Ask, table: &[u8], shown: &[u16], marks: &[u8], area: &mut [u
     ensures { Answered (answer_to ask (keep (marks_of marks.now) (view_of table.now shown.now)))
         area.old area.new result }
 {
+    let shown = Shown {
+        table,
+        numbers: shown,
+    };
     match ask {
-        Ask::Query => answer_query(table, shown, marks, area),
-        Ask::Find => answer_find(table, shown, marks, area),
+        Ask::Query => answer_query(&shown, marks, area),
+        Ask::Find => answer_find(&shown, marks, area),
     }
 }
 
@@ -203,12 +208,9 @@ fn answer_ask(ask: Ask, table: &[u8], shown: &[u16], marks: &[u8], area: &mut [u
 pub fn ask_path(what: Ask, state: &[u8], table: &[u8], path: &[u8], area: &mut [u8]) -> Answer
     requires { store_ok state.now table.now ≡ true }
     ensures { Performs (work_ask what state.now table.now path.now)
-        state.now table.now area.old result state.now table.now area.new }
+        state.now table.now area.old (numbered result) state.now table.now area.new }
 {
-    let down = path_refusal(state, path);
-    if down != 0 {
-        return Answer::Refused(down);
-    }
+    path_refusal(state, path)?;
     let mut rights = [0u8; RECORDS_MAX];
     let mut shown = [0u16; RECORDS_MAX];
     let mut marks = [0u8; RECORDS_MAX];
@@ -222,9 +224,6 @@ pub fn ask_path(what: Ask, state: &[u8], table: &[u8], path: &[u8], area: &mut [
         &mut marks,
     );
     let need = answer_ask(what, table, &shown[0..k], &marks[0..k], area);
-    let short = area_refusal(need, area.len());
-    if short != 0 {
-        return Answer::Refused(short);
-    }
-    Answer::Accepted(need)
+    area_refusal(need, area.len())?;
+    Ok(need)
 }

@@ -1,8 +1,6 @@
 -- What the library returns and leaves (document 01, "What is written", "Who can be turned down").
 use Rattle.std.specs.Prelude.{ℕ, ◌^◌, ◌<◌, ◌≡◌, List, ℤ, pos, neg_ℤ}
-use Rattle.lines.specs.declared.line.Answer.{Answer}
-use Rattle.lines.specs.declared.line.Answer.TheVariants.{Accepted, Refused}
-use Rattle.lines.specs.Outcome.{Outcome, answer_of, area_after}
+use Rattle.lines.specs.Outcome.{Answer, Accepted, Refused, Outcome, answer_of, area_after}
 
 -- the bytes of a state: of the length that 13 asks for (crates/lines/specs/State.antt, `store_ok`)
 abbrev pub state_bytes : ℕ

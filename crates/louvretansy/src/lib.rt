@@ -1,7 +1,8 @@
 #![tactic(auto)]
 // The library for C and Rust: one call for every line, one that loads the solver's file, and the size of a state. Each slice is lent as a pointer and a length;
 // include/timetable.h tells callers.
-ghost use Rattle.std.specs.Prelude.{◌≡◌, pos, neg_ℤ, length};
+ghost use Rattle.std.specs.Prelude.{◌≡◌, length};
+ghost use Rattle.lines.specs.Refusal.{numbered};
 ghost use Rattle.store.specs.Line.{step};
 ghost use Rattle.store.specs.LoadXml.{load_xml};
 ghost use Rattle.louvretansy.specs.Library.{state_bytes, return_value, Short, Returned};
@@ -9,21 +10,15 @@ ghost use Rattle.louvretansy.specs.Library.{state_bytes, return_value, Short, Re
 use lines::limits::STATE_BYTES;
 use lines::line::Answer;
 
-// Minus the number of a refusal.
-fn refused(number: u8) -> i64
-    ensures { result ≡ neg_ℤ (pos number) }
-{
-    -(number as i64)
-}
-
 // What is returned for an answer: its length, or minus the number of the refusal.
+// Kept: a number, which the C interface returns.
 fn returned(answer: Answer) -> i64
-    requires { Short answer }
-    ensures { result ≡ return_value answer }
+    requires { Short (numbered answer) }
+    ensures { result ≡ return_value (numbered answer) }
 {
     match answer {
-        Answer::Accepted(n) => n as i64,
-        Answer::Refused(number) => refused(number),
+        Ok(n) => n as i64,
+        Err(refusal) => -i64::from(u8::from(refusal)),
     }
 }
 

@@ -1,7 +1,6 @@
 -- Laws of tests. Assumes nothing.
-use mathlib.Core.Bool.{Bool, true, false, cond, ◌||◌}
+use mathlib.Core.Bool.{Bool, true, false, ◌||◌}
 use mathlib.Core.Path.{◌≡◌, refl, sym}
-use lib.Dec.{eqb}
 
 -- two tests that hold together are equal
 pub both_ways : (a b : Bool) → (a ≡ true → b ≡ true) → (b ≡ true → a ≡ true) → a ≡ b
@@ -19,8 +18,3 @@ or_right false b e = e
 pub or_split : {C : Type 0} (a b : Bool) → a || b ≡ true → (a ≡ true → C) → (b ≡ true → C) → C
 or_split true b e y n = y refl
 or_split false b e y n = n e
-
--- a test by its bit
-pub bit-told : (t : Bool) → eqb (cond t 1 0) 1 ≡ t
-bit-told true = refl
-bit-told false = refl

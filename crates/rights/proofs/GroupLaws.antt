@@ -8,26 +8,27 @@ use mathlib.Core.List.{List, [], ◌∷◌, ◌++◌, append_assoc, append-nil}
 use native.Mathlib.Nat.{mod-eq_of_lt, mod-lt, add-zero, eq-or-lt_of_le, le_of_suc-le-suc, lt_of_le_of_lt, one-mul}
 use native.Mathlib.Numerals.{add-one}
 use native.Mathlib.Omega.{arith}
-use borrow.Author.Tests.{lt-ltb, le-ltb, ltb-true, ltb-false, ne_eqb}
+use borrow.Author.Tests.{lt-ltb, le-ltb, ltb-true, ltb-false}
 use lib.Bits.{bit_and, bit_or, and_block, or_shifted_r, and_mask, and_zero_r, and_le_l, and_le_r, or_lt}
 use lib.Dec.{lit<, eqb, ltb, eqb-suc-suc, eqb-zero-suc, eqb-suc-zero}
 use lib.Pow.{pow_mono, pow-lt, split}
 use lib.ListN.{length, take, get_or, replicate, length-append, length-replicate, get_or-replicate, get_or-eq_default, get_or-append}
 use lib.Seq.{get_or-append-add}
 use Rattle.rights.specs.Policy.{Right, position, read, insert, update, delete, bit_of}
+use Rattle.rights.specs.Path.{is_descendant}
 use Rattle.rights.specs.Rights.{Step, step_for, reaches, ruled_set}
 use Rattle.rights.specs.How.Automaton.{value, meet, deeps, passed_by, moved, states, steps_for, rule_path, chain_to, chain_of}
 use Rattle.rights.specs.How.Roles.{name_among}
-use Rattle.rights.specs.How.Groups.{bit_at, Ruling, ruling_at, never, cat, ruling_steps, ruling_starts, laid, firsts, end_at, Agrees, ruled, settled, Packed, Noted, Grouped, General}
+use Rattle.rights.specs.How.Groups.{bit_at, Ruling, ruling_at, never, cat, ruling_steps, ruling_starts, laid, firsts, end_at, Agrees, ruled, settled, Packed, Grouped, General}
 use Rattle.rights.specs.PolicyCheck.{bit_ok}
-use Rattle.rights.specs.PolicyBytes.{accepts, step_count, steps_at, step_of}
+use Rattle.rights.specs.PolicyBytes.{axis_of, accepts, step_count, steps_at, step_of}
 use Rattle.rights.specs.Table.{rec_at, record_at, level, label}
 use Rattle.rights.proofs.RightsLaws.{right_of}
 use Rattle.rights.proofs.ListLaws.{by_case}
 use Rattle.rights.proofs.StateMaskLaws.{bit_test, length-steps, length_passed_by}
 use Rattle.rights.proofs.ChainLaws.{found}
 use Rattle.rights.proofs.BitLaws.{get_meet, get_union, bit_at_and, bit_at_or, bit_at_one, bit_at_ext, bit_at_value, bit_at_clear}
-use Rattle.rights.proofs.PackedLaws.{step_deep, step-every, or-none, deeps_more, passed_more, deeps-length, packed_none, packed_end, packed_own}
+use Rattle.rights.proofs.PackedLaws.{step_deep, step-every, or-none, deeps_more, passed_more, deeps-length, packed_none, packed_end}
 
 -- How a set of states moves, state by state
 
@@ -310,17 +311,6 @@ module _ (number : List ℕ → ℕ) (mine : List ℕ → Bool) (q : ℕ → Rul
   }
 
   module _ (n deep every own start yes noes used : ℕ) (rows : List ℕ) (g : Grouped number mine q b i n deep every own start yes noes used rows) where
-    -- the bits of `$` in the rows of the labels that pass it
-    pub group_own : (rows' : List ℕ) → Noted number rows rows' own mine → Grouped number mine q b i n deep every 0 start yes noes used rows'
-    group_own rows' w = record {
-      packed = packed_own number mine (laid q i n) deep every own rows g.packed rows' w;
-      used_is = g.used_is;
-      start_is = g.start_is;
-      yes_low = g.yes_low;
-      no_low = g.no_low;
-      says = g.says;
-    }
-
     pub group_skip : (q (i + n)).on ≡ false → Grouped number mine q b i (suc n) deep every own start yes noes used rows
     unfolding ruled
     group_skip o = record {
@@ -524,13 +514,13 @@ one_step : (mine : List ℕ → Bool) (p : List ℕ) (b n : ℕ) → n ≡ 1 →
 unfolding steps_for
 one_step mine p b n e = let z : b + 0 * 32 ≡ b = omega arith in rw (e, z)
 
-pub general_path : (p own : List ℕ) (k : ℕ) → step_count p k ≡ 1 → (get_or p (steps_at k) 0 ≡ 0 → ⊥) → get_or (label (rec_at p (steps_at k))) 0 0 ≡ 42
+pub general_path : (p own : List ℕ) (k : ℕ) → step_count p k ≡ 1 → is_descendant (axis_of (get_or p (steps_at k) 0)) ≡ true → get_or (label (rec_at p (steps_at k))) 0 0 ≡ 42
     → (c : List (List ℕ)) (x : List ℕ) → reaches (rule_path p own k) (c ++ (x ∷ [])) ≡ true
 general_path p own k one far-off any c x =
     let mine = name_among p own in
     let s = step_for mine (step_of (rec_at p (steps_at k))) in
     rw (one_step mine p (steps_at k) (step_count p k) one)
-    (all_found s (sym (step_deep mine p (steps_at k) true (rw (ne_eqb _ _ far-off)))) (step-every mine p (steps_at k) any) c x)
+    (all_found s (sym (step_deep mine p (steps_at k) true (sym far-off))) (step-every mine p (steps_at k) any) c x)
 
 pub above_zero : (k : ℕ) → (k ≡ 0 → ⊥) → 0 < k
 above_zero zero h = absurd (h refl)

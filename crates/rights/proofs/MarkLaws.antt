@@ -1,7 +1,7 @@
 -- Laws of marks. Assumes nothing.
 use Prim.Native.Nat.{ℕ, zero, suc, ◌+◌, ◌-◌, ◌≤◌, ◌<◌}
 use mathlib.Core.Bool.{Bool, true, false, not}
-use mathlib.Core.Path.{◌≡◌, refl, ap}
+use mathlib.Core.Path.{◌≡◌, refl, ap, ◌∙◌}
 use mathlib.Core.List.{List, [], ◌∷◌, ◌++◌, map}
 use native.Mathlib.Numerals.{add-one}
 use native.Mathlib.Omega.{arith}
@@ -9,6 +9,7 @@ use borrow.Author.Tests.{eq-eqb, ne_eqb}
 use lib.Dec.{eqb}
 use lib.ListN.{length, take, get_or}
 use lib.Seq.{take-suc}
+use lib.ListN.{length-take}
 use Rattle.rights.specs.Marks.{bit, marks_of, mark_count, each_from}
 
 -- the mark of a node
@@ -37,6 +38,10 @@ mark_count-append : (a b : List Bool) → mark_count (a ++ b) ≡ mark_count a +
 mark_count-append [] b = omega arith
 mark_count-append (true ∷ a) b = let h = mark_count-append a b in omega arith
 mark_count-append (false ∷ a) b = mark_count-append a b
+
+-- how many of the first n marks are set
+pub count_front : (n : ℕ) (ms : List ℕ) (k : ℕ) → n ≤ length ms → (k ≡ mark_count (marks_of (take n ms))) × (k ≤ length (take n ms)) → (k ≡ mark_count (take n (marks_of ms))) × (k ≤ n)
+count_front n ms k l e = (e.0 ∙ ap mark_count (marks_take n ms), omega (arith, e.1, length-take n ms))
 
 module _ (ms : List ℕ) (i k : ℕ) (inside : i < length ms) (e : k ≡ mark_count (take i (marks_of ms))) where
   count_next : mark_count (take (i + 1) (marks_of ms)) ≡ mark_count (take i (marks_of ms)) + mark_count (not (eqb (get_or ms i 0) 0) ∷ [])

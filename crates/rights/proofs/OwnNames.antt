@@ -9,7 +9,7 @@ use native.Mathlib.Omega.{arith}
 use borrow.Author.Tests.{ltb-true, ltb-false, eqb-true, eqb-false, eq-eqb}
 use lib.Dec.{ltb, eqb}
 use lib.ListN.{length, take, drop, get_or, length-append, get_or-append}
-use lib.Seq.{take-suc, take_all, get_or-append_seam}
+use lib.Seq.{take-suc, get_or-append_seam}
 use Rattle.rights.specs.Labels.{same_label}
 use Rattle.rights.specs.Policy.{Policy, name_of, some}
 use Rattle.rights.specs.Isa.{is_by, stands_for, subjects_where, passes_own, NamesOf}
@@ -138,6 +138,3 @@ names_none p ks x = refl
 module _ (p ks : List ℕ) (i : ℕ) (x : List ℕ) where
   pub names_more : i < length ks → name_among p (take (i + 1) ks) x ≡ name_among p (take i ks) x || same_label x (name_at p (get_or ks i 0))
   names_more h = rw (add-one i, take-suc ks i 0 h) (some_more (λ k. same_label x (name_at p k)) (take i ks) (get_or ks i 0))
-
-  pub names_all : length ks ≤ i → name_among p (take i ks) x ≡ name_among p ks x
-  names_all h = rw (take_all i ks h)

@@ -145,12 +145,6 @@ module _ (number : List ℕ → ℕ) (rows : List ℕ) (bits : ℕ) where
   pub noted_none : (f : List ℕ → Bool) → ((x : List ℕ) → f x ≡ false) → Noted number rows rows bits f
   noted_none f e = record { long = refl; row = λ x i. rw (e x) (sym (or-false (bit_at (get_or rows (number x) 0) i))) }
 
-  pub noted_zero : bits ≡ 0 → (f : List ℕ → Bool) → Noted number rows rows bits f
-  noted_zero e f = record { long = refl; row = λ x i. rw e (or_zero _ (f x) i) }
-
-  pub noted_alike : (rows' : List ℕ) (f g : List ℕ → Bool) → ((x : List ℕ) → f x ≡ g x) → Noted number rows rows' bits f → Noted number rows rows' bits g
-  noted_alike rows' f g e a = record { long = a.long; row = λ x i. a.row x i ∙ ap (λ (v : Bool). bit_at (get_or rows (number x) 0) i || (v && bit_at bits i)) (e x) }
-
   pub noted_then : (rows' rows'' : List ℕ) (f g h : List ℕ → Bool) → ((x : List ℕ) → h x ≡ f x || g x)
       → Noted number rows rows' bits f → Noted number rows' rows'' bits g → Noted number rows rows'' bits h
   noted_then rows' rows'' f g h e a b = record {

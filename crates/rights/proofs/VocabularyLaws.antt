@@ -1,20 +1,21 @@
 -- The vocabulary: a label's number among the words, one step of the search, and a word more. Assumes nothing.
-use Prim.Native.Nat.{ℕ, zero, suc, ◌+◌, ◌-◌, ◌/◌, ◌≤◌, ◌<◌}
-use mathlib.Core.Bool.{Bool, true, false, cond, ◌||◌, or_assoc, or-false}
+use Prim.Native.Nat.{ℕ, zero, suc, ◌+◌, ◌-◌, ◌≤◌, ◌<◌}
+use mathlib.Core.Bool.{Bool, true, false, ◌||◌, or_assoc, or-false}
 use mathlib.Core.Logic.{⊎_elim}
 use mathlib.Core.Path.{◌≡◌, refl, sym, ap, ◌∙◌, subst}
 use mathlib.Core.List.{List, ◌∷◌}
 use native.Mathlib.Nat.{eq-or-lt_of_le, le_of_suc-le-suc}
 use native.Mathlib.Numerals.{add-one}
 use native.Mathlib.Omega.{arith}
-use borrow.Author.Tests.{eq-eqb, ne_eqb, eqb-true, eqb-false, ltb-true, ltb-false, lt-ltb}
+use borrow.Author.Tests.{eq-eqb, ne_eqb, ltb-true, ltb-false, lt-ltb}
 use lib.Dec.{eqb, ltb}
-use lib.ListN.{length, get_or, set, length-set}
-use lib.Seq.{get_or-set_same, get_or-set_other}
+use lib.ListN.{length, get_or}
 use Rattle.rights.specs.Labels.{folded_label, same_label}
 use Rattle.rights.specs.Table.{rec_at, label}
 use Rattle.rights.specs.How.Places.{Text}
-use Rattle.rights.specs.How.Vocabulary.{byte_order, label_order, listed_word, word_number, listed_number, is_listed, Words, Inserted, Added}
+use Rattle.rights.specs.How.Vocabulary.{byte_order, label_order, listed_word, word_number, listed_number, is_listed, Words, Inserted}
+use Rattle.rights.specs.declared.vocabulary.WordList.{WordList}
+use Rattle.rights.specs.How.WordList.{in_list, Adds}
 use Rattle.rights.proofs.LabelLaws.{same_sym, same_left, same_right, same-order, order_flip, order-through, order_same, order_other}
 use Rattle.rights.proofs.BoolLaws.{both_ways, or_left, or_right, or_split}
 use Rattle.rights.proofs.ListLaws.{by_case}
@@ -105,32 +106,17 @@ module _ (f : ℕ → List ℕ) (n : ℕ) (up : Ascending f n) (x : List ℕ) wh
   Above high = (j : ℕ) → high ≤ j → j < n → label_order (f j) x ≡ 2
 
   -- one step of the search: the word in the middle stands before the label, or behind it
-  pub low_raised : (o low middle : ℕ) → middle < n → o ≡ label_order (f middle) x → Below low → Below (cond (eqb o 0) (middle + 1) low)
-  low_raised o low middle h e b =
-      by_case (eqb o 0)
-      (λ z. rw z
-      (λ j l. ⊎_elim
-      (λ (q : j ≡ middle). rw q (sym e ∙ eqb-true o 0 z))
-      (λ (q : j < middle). through (f j) (f middle) x (up j middle q h) (sym e ∙ eqb-true o 0 z))
-      (eq-or-lt_of_le (le_of_suc-le-suc (rw add-one at l)))))
-      (λ z. rw z b)
+  pub low_raised : (middle : ℕ) → middle < n → label_order (f middle) x ≡ 0 → Below (middle + 1)
+  low_raised middle h e j l = ⊎_elim
+      (λ (q : j ≡ middle). rw q e)
+      (λ (q : j < middle). through (f j) (f middle) x (up j middle q h) e)
+      (eq-or-lt_of_le (le_of_suc-le-suc (rw add-one at l)))
 
-  pub high_lowered : (o high middle : ℕ) → middle < n → o ≡ label_order (f middle) x → (o ≡ 1 → ⊥) → o ≤ 2 → Above high → Above (cond (eqb o 0) high middle)
-  high_lowered o high middle h e other most a =
-      by_case (eqb o 0)
-      (λ z. rw z a)
-      (λ z. let two : label_order (f middle) x ≡ 2 = sym e ∙ behind o (eqb-false o 0 z) other most in
-      rw z
-      (λ j l m. ⊎_elim
-      (λ (q : middle ≡ j). rw q at two)
-      (λ (q : middle < j). flip_up x (f j) (through x (f middle) (f j) (flip_down (f middle) x two) (up middle j q m)))
-      (eq-or-lt_of_le l)))
-    where
-      behind : (o : ℕ) → (o ≡ 0 → ⊥) → (o ≡ 1 → ⊥) → o ≤ 2 → o ≡ 2
-      behind zero p q l = absurd (p refl)
-      behind (suc zero) p q l = absurd (q refl)
-      behind (suc (suc zero)) p q l = refl
-      behind (suc (suc (suc o))) p q l = absurd (omega arith)
+  pub high_lowered : (middle : ℕ) → label_order (f middle) x ≡ 2 → Above middle
+  high_lowered middle e j l m = ⊎_elim
+      (λ (q : middle ≡ j). rw q at e)
+      (λ (q : middle < j). flip_up x (f j) (through x (f middle) (f j) (flip_down (f middle) x e) (up middle j q m)))
+      (eq-or-lt_of_le l)
 
   -- a label between the words is none of them
   pub number_missing : (i : ℕ) → Below i → Above i → word_number f n x ≡ 0
@@ -142,35 +128,6 @@ module _ (f : ℕ → List ℕ) (n : ℕ) (up : Ascending f n) (x : List ℕ) wh
 
 pub order_most : (x y : List ℕ) → byte_order x y ≤ 2
 order_most x y = omega (arith, order_flip y x)
-
--- The places from k on moved up by one
-
-pub record Moved (ws ws' : List ℕ) (n k : ℕ) : Type 0 where
-  pub same : length ws' ≡ length ws
-  pub low : (j : ℕ) → j < k → get_or ws' j 0 ≡ get_or ws j 0
-  pub high : (j : ℕ) → k ≤ j → j < n → get_or ws' (j + 1) 0 ≡ get_or ws j 0
-
-pub moved_none : (ws : List ℕ) (n : ℕ) → Moved ws ws n n
-moved_none ws n = record { same = refl; low = λ j h. refl; high = λ j h l. absurd (omega arith) }
-
-module _ (ws ws' : List ℕ) (n k : ℕ) (m : Moved ws ws' n k) where
-  pub moved_more : 0 < k → k < length ws → Moved ws (set ws' k (get_or ws' (k - 1) 0)) n (k - 1)
-  moved_more h room = record {
-    same = length-set ws' k _ ∙ m.same;
-    low = λ j l. get_or-set_other ws' k j _ 0 (λ z. absurd (omega arith)) ∙ m.low j (omega arith);
-    high = λ j l q. ⊎_elim
-        (λ (z : k - 1 ≡ j). let y : j + 1 ≡ k = omega arith in rw y (get_or-set_same ws' k _ 0 (omega (arith, m.same)) ∙ m.low (k - 1) (omega arith) ∙ ap (λ (i : ℕ). get_or ws i 0) z))
-        (λ (z : k - 1 < j). get_or-set_other ws' k (j + 1) _ 0 (λ y. absurd (omega arith)) ∙ m.high j (omega arith) q)
-        (eq-or-lt_of_le l);
-  }
-
-  pub moved-put : (at : ℕ) → k < length ws → Inserted ws (set ws' k at) n k at
-  moved-put at room = record {
-    same = length-set ws' k at ∙ m.same;
-    low = λ j h. get_or-set_other ws' k j at 0 (λ z. absurd (omega arith)) ∙ m.low j h;
-    here = get_or-set_same ws' k at 0 (omega (arith, m.same));
-    high = λ j h l. get_or-set_other ws' k (j + 1) at 0 (λ z. absurd (omega arith)) ∙ m.high j h l;
-  }
 
 -- A word more
 
@@ -245,43 +202,53 @@ module _ (p ws ws' : List ℕ) (n i at : ℕ) (k : Words p ws n) (room : n < 211
         (λ l. lt-ltb 0 _ (number_there (listed_word p ws') (n + 1) (j + 1) w (omega (arith, o.0)) (rw (word_high j (ltb-false j i l) o.0) o.1))))
         (λ e. lt-ltb 0 _ (number_there (listed_word p ws') (n + 1) i w (omega arith) (rw word_here (same_sym x w ∙ e)))))
 
-    pub added_new : Added p ws n ws' (n + 1) (λ (w : List ℕ). same_label w x)
-    added_new = record { words = words_more; holds = holds_more }
-
 -- a word that is there already
-pub added_old : (p ws : List ℕ) (n i : ℕ) (x : List ℕ) → Words p ws n → i < n → same_label (listed_word p ws i) x ≡ true → Added p ws n ws n (λ (w : List ℕ). same_label w x)
-added_old p ws n i x k h e = record {
-  words = k;
-  holds = λ w. by_case (same_label w x)
-      (λ d. let b : is_listed p ws n w ≡ true = lt-ltb 0 _ (number_there (listed_word p ws) n i w h (same_right w x d (listed_word p ws i) ∙ e)) in b ∙ sym (or_left (is_listed p ws n w) (same_label w x) b))
-      (λ d. rw d (sym (or-false _)));
+pub holds_old : (p ws : List ℕ) (n i : ℕ) (x : List ℕ) → i < n → same_label (listed_word p ws i) x ≡ true → (w : List ℕ) → is_listed p ws n w ≡ is_listed p ws n w || same_label w x
+holds_old p ws n i x h e w =
+    by_case (same_label w x)
+    (λ d. let b : is_listed p ws n w ≡ true = lt-ltb 0 _ (number_there (listed_word p ws) n i w h (same_right w x d (listed_word p ws i) ∙ e)) in b ∙ sym (or_left (is_listed p ws n w) (same_label w x) b))
+    (λ d. rw d (sym (or-false _)))
+
+pub adds_none : (w : WordList) (k : ℕ) (f : List ℕ → Bool) → ((x : List ℕ) → f x ≡ false) → Adds w w k f
+adds_none w k f e = record { policy = refl; few = omega arith; holds = λ x. rw (e x) (sym (or-false _)) }
+
+-- and what is added after that; what it is may lean on the policy, which stays
+pub adds_then : (w w' w'' : WordList) (k m n : ℕ) (f h : List ℕ → Bool) (g : List ℕ → List ℕ → Bool) → ((x : List ℕ) → h x ≡ f x || g w.policy.now x) → k + m ≤ n
+    → Adds w w' k f → Adds w' w'' m (g w'.policy.now) → Adds w w'' n h
+adds_then w w' w'' k m n f h g e l a b = record {
+  policy = b.policy ∙ a.policy;
+  few = omega (arith, a.few, b.few);
+  holds = λ x. b.holds x ∙ ap (λ (v : Bool). v || g w'.policy.now x) (a.holds x) ∙ or_assoc (in_list w x) (f x) (g w'.policy.now x)
+      ∙ ap (λ (p : List ℕ). in_list w x || (f x || g p x)) a.policy ∙ ap (λ (v : Bool). in_list w x || v) (sym (e x));
 }
 
-pub added_none : (p ws : List ℕ) (n : ℕ) (f : List ℕ → Bool) → Words p ws n → ((x : List ℕ) → f x ≡ false) → Added p ws n ws n f
-added_none p ws n f k e = record { words = k; holds = λ x. rw (e x) (sym (or-false _)) }
-
-pub added_then : (p ws : List ℕ) (n : ℕ) (ws' : List ℕ) (n' : ℕ) (ws'' : List ℕ) (n'' : ℕ) (f g h : List ℕ → Bool) → ((x : List ℕ) → h x ≡ f x || g x)
-    → Added p ws n ws' n' f → Added p ws' n' ws'' n'' g → Added p ws n ws'' n'' h
-added_then p ws n ws' n' ws'' n'' f g h e a b = record {
-  words = b.words;
-  holds = λ x. b.holds x ∙ ap (λ (v : Bool). v || g x) (a.holds x) ∙ or_assoc (is_listed p ws n x) (f x) (g x) ∙ ap (λ (v : Bool). is_listed p ws n x || v) (sym (e x));
-}
-
-pub added_alike : (p ws : List ℕ) (n : ℕ) (ws' : List ℕ) (n' : ℕ) (f g : List ℕ → Bool) → ((x : List ℕ) → f x ≡ g x) → Added p ws n ws' n' f → Added p ws n ws' n' g
-added_alike p ws n ws' n' f g e a = record { words = a.words; holds = λ x. a.holds x ∙ ap (λ (v : Bool). is_listed p ws n x || v) (e x) }
-
-pub words-none : (p ws : List ℕ) → length ws ≡ 2112 → Words p ws 0
-words-none p ws e = record { long = e; few = omega arith; texts = λ i h. absurd (omega arith); sorted = λ i j h l. absurd (omega arith) }
-
--- what is left to search is less, and within what it was
-pub halved : (o low high low' high' : ℕ) → low < high → low' ≡ cond (eqb o 0) (low + (high - low) / 2 + 1) low → high' ≡ cond (eqb o 0) high (low + (high - low) / 2)
-    → (low' ≤ high') × (high' - low' < high - low) × (high' ≤ high)
-halved o low high low' high' h el eh =
-    by_case (eqb o 0)
-    (λ z. let a : low' ≡ low + (high - low) / 2 + 1 = rw z at el in let b : high' ≡ high = rw z at eh in (omega arith, omega arith, omega arith))
-    (λ z. let a : low' ≡ low = rw z at el in let b : high' ≡ low + (high - low) / 2 = rw z at eh in (omega arith, omega arith, omega arith))
+pub adds_alike : (w w' : WordList) (k n : ℕ) (f g : List ℕ → Bool) → ((x : List ℕ) → f x ≡ g x) → k ≤ n → Adds w w' k f → Adds w w' n g
+adds_alike w w' k n f g e l a = record { policy = a.policy; few = omega (arith, a.few); holds = λ x. a.holds x ∙ ap (λ (v : Bool). in_list w x || v) (e x) }
 
 -- of no words none is one
 pub none_word : (p ws x : List ℕ) → is_listed p ws 0 x ≡ false
 unfolding word_number
 none_word p ws x = refl
+
+no_word : (w : WordList) (x : List ℕ) → w.count ≡ 0 → in_list w x ≡ false
+no_word w x e = rw e (none_word w.policy.now w.places x)
+
+-- what is in a list that was empty, of the policy p
+module _ (w w' : WordList) (k : ℕ) (p : List ℕ) (f : List ℕ → List ℕ → Bool) (e : w.policy.now ≡ p) (z : w.count ≡ 0) (a : Adds w w' k (f w.policy.now)) where
+  pub adds_first : (x : List ℕ) → in_list w' x ≡ f p x
+  adds_first x = a.holds x ∙ ap (λ (v : Bool). v || f w.policy.now x) (no_word w x z) ∙ ap (λ (q : List ℕ). f q x) e
+
+  pub words_first : Words p w'.places w'.count
+  words_first = subst (λ (q : List ℕ). Words q w'.places w'.count) (a.policy ∙ e) w'.sorted
+
+  pub listed_first : (x : List ℕ) → is_listed p w'.places w'.count x ≡ f p x
+  listed_first x = ap (λ (q : List ℕ). is_listed q w'.places w'.count x) (sym (a.policy ∙ e)) ∙ adds_first x
+
+  module _ (w'' : WordList) (m : ℕ) (g : List ℕ → List ℕ → Bool) (b : Adds w' w'' m (g w'.policy.now)) where
+    pub words_second : Words p w''.places w''.count
+    words_second = subst (λ (q : List ℕ). Words q w''.places w''.count) (b.policy ∙ a.policy ∙ e) w''.sorted
+
+    pub listed_second : (x : List ℕ) → is_listed p w''.places w''.count x ≡ f p x || g p x
+    listed_second x =
+        ap (λ (q : List ℕ). is_listed q w''.places w''.count x) (sym (b.policy ∙ a.policy ∙ e)) ∙ b.holds x
+        ∙ ap (λ (v : Bool). v || g w'.policy.now x) (adds_first x) ∙ ap (λ (q : List ℕ). f p x || g q x) (a.policy ∙ e)

@@ -6,7 +6,6 @@ ghost use Rattle.rights.specs.PolicyCheck.{policy_ok};
 ghost use Rattle.rights.specs.How.Roles.{Roles, OwnFirst, lined, widened};
 ghost use Rattle.rights.specs.How.Automaton.{Sound};
 
-use crate::bytes::wide;
 use crate::limits::{ISA_AT, ISA_BYTES};
 
 // Sets the role that isa line j gives to subject k.
@@ -15,11 +14,9 @@ fn add_role(policy: &[u8], k: usize, j: usize, out: &mut [u8; 64])
     ensures { out.new ≡ lined policy.now k j out.old }
 {
     let a = ISA_AT + j * ISA_BYTES;
-    if wide(policy[a]) != k {
-        return;
+    if usize::from(policy[a]) == k {
+        out[usize::from(policy[a + 1])] = 1;
     }
-    let r = wide(policy[a + 1]);
-    out[r] = 1;
 }
 
 // Sets the roles that the isa lines give to subject k, if it is a role itself.
@@ -30,11 +27,8 @@ fn add_roles(policy: &[u8], k: usize, out: &mut [u8; 64])
     if out[k] == 0 {
         return;
     }
-    let count = wide(policy[1]);
-    let mut j = 0;
-    while j < count {
+    for j in 0..usize::from(policy[1]) {
         add_role(policy, k, j, out);
-        j += 1;
     }
 }
 
@@ -45,9 +39,7 @@ pub fn roles_of(policy: &[u8], u: usize) -> [u8; 64]
 {
     let mut out = [0u8; 64];
     out[u] = 1;
-    let mut k = u + 1;
-    while 0 < k {
-        k -= 1;
+    for k in (0..u + 1).rev() {
         add_roles(policy, k, &mut out);
     }
     out
@@ -80,13 +72,9 @@ pub fn own_subjects(policy: &[u8], u: usize, roles: &[u8; 64], out: &mut [u8; 64
     requires { (policy_ok policy.now ≡ true) × Roles policy.now u roles.now × (length out.old ≡ 64) }
     ensures { OwnFirst policy.now u out.new result × (drop result out.new ≡ drop result out.old) }
 {
-    let count = wide(policy[0]);
     let mut m = 0;
-    let mut k = 0;
-    while k < count {
-        let on = stands_for(roles, u, k);
-        m = put_subject(on, k, m, out);
-        k += 1;
+    for k in 0..usize::from(policy[0]) {
+        m = put_subject(stands_for(roles, u, k), k, m, out);
     }
     m
 }

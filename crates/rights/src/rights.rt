@@ -7,37 +7,22 @@ ghost use Rattle.rights.specs.PolicyBytes.{policy_of, subject_count};
 ghost use Rattle.rights.specs.Rights.{rights_on, holds};
 ghost use Rattle.rights.specs.How.Groups.{asked_on};
 ghost use Rattle.rights.specs.How.Roles.{Roles, Own};
-ghost use Rattle.rights.specs.How.Automaton.{Each, Sound};
+ghost use Rattle.rights.specs.How.Automaton.{Sound};
 ghost use Rattle.rights.specs.How.Vocabulary.{uses_own};
 
-use crate::groups::try_rights;
+use crate::groups::Trial;
 use crate::isa::{own_subjects, roles_of};
-use crate::limits::{ALL_RIGHTS, RECORDS_MAX, SUBJECTS_MAX, WORDS_MAX};
+use crate::limits::{ALL_RIGHTS, RECORDS_MAX, SUBJECTS_MAX};
 use crate::policy::rules_use_own;
 use crate::table::count_of;
-use crate::vocabulary::{number_nodes, sort_words};
-
-// Sets the first n bytes of out to 0: no rights.
-fn clear_rights(out: &mut [u8], n: usize)
-    requires { n ≤ length out.old }
-    ensures { Each n out.old out.new (λ (i x : ℕ). 0) }
-{
-    let mut i = 0;
-    while i < n {
-        out[i] = 0;
-        i += 1;
-    }
-}
+use crate::vocabulary::WordList;
 
 // How many of these subjects have names that decide rights: all where a rule uses `$`, and none elsewhere.
 fn names_used(policy: &[u8], own: &[u8]) -> usize
     requires { Sound policy.now }
     ensures { result ≡ cond (uses_own policy.now) (length own.now) 0 }
 {
-    if rules_use_own(policy) {
-        return own.len();
-    }
-    0
+    if rules_use_own(policy) { own.len() } else { 0 }
 }
 
 // Writes the asked ones of the rights that subject u has on each node of a table: one byte a node, one bit a right. `roles` is what u is, and `own` are the
@@ -57,16 +42,20 @@ pub fn asked_on(
         (count table.now) out.old }
 {
     let n = count_of(table);
-    let m = names_used(policy, own);
-    let used = &own[0..m];
-    let mut words = [0u32; WORDS_MAX];
-    let count = sort_words(policy, used, &mut words);
-    let mut numbers = [0u16; RECORDS_MAX];
-    number_nodes(policy, &words, count, table, n, &mut numbers);
-    clear_rights(out, n);
-    try_rights(
-        asked, policy, used, &words, count, roles, table, n, &numbers, out,
-    );
+    let own = &own[..names_used(policy, own)];
+    let words = WordList::for_rights(policy, own);
+    let mut numbers = [0; RECORDS_MAX];
+    let numbers = &mut numbers[..n];
+    words.number_nodes(table, numbers);
+    out[..n].fill(0);
+    let trial = Trial {
+        words: &words,
+        own,
+        roles,
+        table,
+        numbers,
+    };
+    trial.try_rights(asked, out);
 }
 
 // Writes the rights that subject u has on each node of a table.
@@ -79,7 +68,7 @@ pub fn rights_on(policy: &[u8], u: usize, table: &[u8], out: &mut [u8])
     let roles = roles_of(policy, u);
     let mut subjects = [0u8; SUBJECTS_MAX];
     let m = own_subjects(policy, u, &roles, &mut subjects);
-    asked_on(policy, u, &roles, &subjects[0..m], table, ALL_RIGHTS, out);
+    asked_on(policy, u, &roles, &subjects[..m], table, ALL_RIGHTS, out);
 }
 
 // Whether a set of rights holds the right with this bit.

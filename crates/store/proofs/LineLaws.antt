@@ -1,11 +1,14 @@
 -- One line, by the tests that it meets and the form that was read. Assumes nothing.
-use Prim.Native.Nat.{ℕ, suc, ◌+◌, ◌-◌, ◌*◌, ◌≤◌, ◌<◌}
+use Rattle.std.specs.Int.{from_bool}
+use Rattle.rights.specs.Marks.{bit}
+use Rattle.std.specs.Prelude.{Result, Ok, Err, IsErrAnd}
+use Prim.Native.Nat.{ℕ, min, suc, ◌+◌, ◌-◌, ◌*◌, ◌≤◌, ◌<◌}
 use mathlib.Core.Path.{◌≡◌, refl, sym, ap, ◌∙◌, subst}
 use mathlib.Core.List.{List, [], ◌∷◌, ◌++◌, append_assoc}
-use mathlib.Core.Bool.{Bool, true, false, cond, ◌&&◌, beq, and-eq-true_iff}
+use mathlib.Core.Bool.{Bool, true, false, ◌&&◌, and-eq-true_iff}
 use native.Mathlib.Omega.{arith}
-use borrow.Author.Tests.{eq-eqb, ne_eqb, leb-true, le-leb, lt-leb, leb-false, not-false}
-use lib.Dec.{leb, ltb}
+use borrow.Author.Tests.{leb-true, leb-false, not-false}
+use lib.Dec.{leb}
 use lib.ListN.{length, get_or, take, drop, replicate, length-append, length-drop, length-replicate, drop_of_length-le}
 use lib.Seq.{take_at, take_all, take-nil}
 use Rattle.rights.specs.Record.{node_record, pasted}
@@ -21,18 +24,17 @@ use Rattle.rights.specs.Tree.{nodes_of, nodes_in}
 use Rattle.forms.specs.TreeText.{GoodTree, GoodTrees, GoodLabel}
 use Rattle.forms.specs.Layout.{stage_of, shape_of}
 use Rattle.forms.specs.Form.{place_in, form_at, read_form, tree_in}
-use Rattle.forms.specs.How.Codes.{codes_of, says_by}
+use Rattle.forms.specs.How.Codes.{codes_of, says_by, stage_number}
 use Rattle.forms.specs.How.Reader.{FormRead, area_in}
 use Rattle.forms.proofs.PlaceLaws.{area_form}
 use Rattle.lines.specs.State.{stage, store_ok}
-use Rattle.lines.specs.Outcome.{refusal, Made}
-use Rattle.lines.specs.Refusal.{Check, Passed, first_refusal}
+use Rattle.lines.specs.Outcome.{Answer, Refused, refusal, Made}
+use Rattle.lines.specs.Refusal.{Check, Passed, first_refusal, numbered, refusal_number}
+use Rattle.lines.specs.declared.refusals.Refusal.{Refusal}
 use Rattle.lines.specs.Clause.{work_of}
 use Rattle.lines.specs.Effect.{Work, guarded, Performs}
-use Rattle.lines.specs.declared.line.Answer.{Answer}
-use Rattle.lines.specs.declared.line.Answer.TheVariants.{Refused}
 use Rattle.lines.proofs.OutcomeLaws.{made_at}
-use Rattle.lines.proofs.RefusalLaws.{first_behind, first_front, passed, passed-append, performs_refused, performed-guarded}
+use Rattle.lines.proofs.RefusalLaws.{first_behind, front_err, passed_ok, passed-append, performs_refused, performed-guarded}
 use Rattle.store.specs.Line.{in_stage, is_no_form, text_checks, form_checks, line_checks, step}
 use Rattle.store.proofs.FormParts.{TreePart, Fits, form_fits}
 
@@ -51,19 +53,20 @@ module _ {line : List ℕ} {f : Form} (r : FormRead line f) {w : Word} (e : f.wo
       → b ≡ pasted (replicate 16384 0) 0 (records_of (tree_in (form_at w line (place_in f.ends))))
   tree_as b q = q ∙ ap (λ g. pasted (replicate 16384 0) 0 (records_of (tree_in g))) read_as
 
--- the smaller of two numbers
-abbrev least : ℕ → ℕ → ℕ
-least a b = cond (leb a b) a b
-
 -- the bytes from a up to b, as far as they go
-pub part_clipped : (s : List ℕ) (a b : ℕ) → take (least b (length s) - least a (least b (length s))) (drop (least a (least b (length s))) s) ≡ take (b - a) (drop a s)
+pub part_clipped : (s : List ℕ) (a b : ℕ) → take (min b (length s) - min a (min b (length s))) (drop (min a (min b (length s))) s) ≡ take (b - a) (drop a s)
 part_clipped s a b = by_case (leb b (length s))
-    (λ e. rw e (by_case (leb a b)
-    (λ f. rw f)
-    (λ f. let z : b - b ≡ 0 = omega arith in let y : b - a ≡ 0 = omega (arith, leb-false a b f) in rw (f, z, y))))
-    (λ e. rw e (by_case (leb a (length s))
-    (λ f. rw f (take_all (length s - a) (drop a s) (omega (arith, length-drop a s)) ∙ sym (take_all (b - a) (drop a s) (omega (arith, length-drop a s, leb-false b (length s) e)))))
-    (λ f. let z : length s - length s ≡ 0 = omega arith in let y : drop a s ≡ [] = drop_of_length-le s {i = a} (omega (arith, leb-false a (length s) f)) in rw (f, z, y) (sym (take-nil (b - a))))))
+    (λ e. let m : min b (length s) ≡ b = omega (arith, leb-true b (length s) e) in rw m (by_case (leb a b)
+    (λ f. let n : min a b ≡ a = omega (arith, leb-true a b f) in rw n refl)
+    (λ f. let n : min a b ≡ b = omega (arith, leb-false a b f) in let y : b - b ≡ 0 = omega arith in let z : b - a ≡ 0 = omega (arith, leb-false a b f) in rw (n, z, y) refl)))
+    (λ e. let m : min b (length s) ≡ length s = omega (arith, leb-false b (length s) e) in rw m (by_case (leb a (length s))
+    (λ f. let n : min a (length s) ≡ a = omega (arith, leb-true a (length s) f) in rw n (take_all (length s - a) (drop a s) (omega (arith, length-drop a s)) ∙ sym (take_all (b - a) (drop a s) (omega (arith, length-drop a s, leb-false b (length s) e)))))
+    (λ f. let n : min a (length s) ≡ length s = omega (arith, leb-false a (length s) f) in let z : length s - length s ≡ 0 = omega arith in let y : drop a s ≡ [] = drop_of_length-le s {i = a} (omega (arith, leb-false a (length s) f)) in rw (n, z, y) (sym (take-nil (b - a))))))
+
+-- accept is 1, deny 0
+pub accept_bit : {n : ℕ} (b : Bool) → n ≡ from_bool b → n ≡ bit b
+accept_bit true e = e
+accept_bit false e = e
 
 -- a label that was taken is short
 pub label_short : {l : List ℕ} (x : List ℕ) → GoodLabel l → x ≡ l → length x ≤ 24
@@ -126,45 +129,12 @@ root_stage g h = by_case (leb 2 g)
     omega arith))
     (λ q. omega (arith, leb-false 2 g q))
 
--- the stage of a form beside the stage of the state
-pub stage_late : (k g : ℕ) → k < g → false ≡ in_stage k g
-stage_late k g h = rw (lt-leb g k h)
-
-pub stage_even : (k g : ℕ) → g ≤ k → beq (ltb 2 k) (leb 2 g) ≡ in_stage k g
-stage_even k g h = rw (le-leb g k h)
-
 -- a line that is short enough finds room for its tree
 pub form_room : (line : List ℕ) → line_ok line ≡ true → 16 * length line ≤ length (replicate {A = ℕ} 16384 0)
 unfolding line_ok
 form_room line ok =
     let f = simp (line_ok, and-eq-true_iff) at ok in
     omega (arith, leb-true (length line) 1024 f.0, length-replicate {A = ℕ} 16384 0)
-
--- The refusals before a form's own
-
-module _ (s t line : List ℕ) where
-  pub at_store : store_ok s t ≡ false → 13 ≡ first_refusal (text_checks s t line)
-  at_store e = rw e
-
-  pub at_line : store_ok s t ≡ true → line_ok line ≡ false → 1 ≡ first_refusal (text_checks s t line)
-  at_line a e = rw (a, e)
-
-  pub at_text : store_ok s t ≡ true → line_ok line ≡ true → 0 ≡ first_refusal (text_checks s t line)
-  at_text a e = rw (a, e)
-
-  pub text_passed : {d : ℕ} → d ≡ first_refusal (text_checks s t line) → d ≡ 0 → (store_ok s t ≡ true) × (line_ok line ≡ true)
-  text_passed {d} e z = let p = passed (text_checks s t line) d refl e z in (not-false (store_ok s t) p.0, not-false (line_ok line) p.1.0)
-
-module _ (k g : ℕ) where
-  pub at_none : k ≡ 5 → 2 ≡ first_refusal (form_checks k g)
-  at_none e = rw (eq-eqb k 5 e)
-
-  module _ {b : Bool} (n : k ≡ 5 → ⊥) (q : b ≡ in_stage k g) where
-    pub at_stage : b ≡ false → 3 ≡ first_refusal (form_checks k g)
-    at_stage r = rw (ne_eqb k 5 n, sym q ∙ r)
-
-    pub at_form : b ≡ true → 0 ≡ first_refusal (form_checks k g)
-    at_form r = rw (ne_eqb k 5 n, sym q ∙ r)
 
 -- a refusal leaves all as it was
 pub refused : {n : ℕ} {s t area : List ℕ} → Made (refusal n s t) area (Refused n) s t area
@@ -182,48 +152,56 @@ module _ (s t line : List ℕ) where
   abbrev whole : Work
   whole = guarded (line_checks s t line) own_work
 
-  -- refused before it is read
-  pub text_refused : {d : ℕ} {area : List ℕ} → d ≡ first_refusal (text_checks s t line) → (d ≡ 0 → ⊥) → Made (step s t line (length area)) area (Refused d) s t area
-  unfolding step
-  text_refused {d} e h = performs_refused whole s t (first_front (text_checks s t line) (own_front ++ own_work.checks) d e h) h
-
-  -- the form that was read, where its stage was asked for
-  module _ {d : ℕ} (e : d ≡ first_refusal (text_checks s t line)) (z : d ≡ 0) {f : Form} (q : FormRead line f) {g : ℕ} (k : g ≡ first_refusal (form_checks f.stage (stage s))) where
-    passed-text : Passed (text_checks s t line)
-    passed-text = passed (text_checks s t line) d refl e z
-
-    stage_is : f.stage ≡ stage_of (read_form line).word
-    stage_is = q.stage ∙ ap (λ r. stage_of r.word) (sym q.form)
-
-    read : g ≡ first_refusal own_front
-    read = k ∙ ap (λ j. first_refusal (form_checks j (stage s))) stage_is
-
-    -- refused for its form
-    pub form_refused : {area : List ℕ} → (g ≡ 0 → ⊥) → Made (step s t line (length area)) area (Refused g) s t area
+  module _ {d : Result Unit Refusal} (e : refusal_number d ≡ first_refusal (text_checks s t line)) where
+    -- refused before it is read
+    pub text_refused : {area : List ℕ} {x : Refusal} → d ≡ Err x → (o : Result ℕ Refusal) → IsErrAnd o (λ y. y ≡ x)
+        → Made (step s t line (length area)) area (numbered o) s t area
     unfolding step
-    form_refused h =
-        performs_refused whole s t
-        (first_front own_front own_work.checks g read h ∙ sym (first_behind (text_checks s t line) (own_front ++ own_work.checks) passed-text))
-        h
+    text_refused q o p = performs_refused whole s t (front_err q (text_checks s t line) e (own_front ++ own_work.checks)) q o p
 
-    module _ (w : g ≡ 0) where
-      passed-form : Passed own_front
-      passed-form = passed own_front g refl read w
+    -- or let pass
+    module _ {v : Unit} (z : d ≡ Ok v) where
+      passed-text : Passed (text_checks s t line)
+      passed-text = passed_ok (text_checks s t line) refl e z
 
-      -- what both let pass; the area of a line that is a form has the records of its tree
-      pub run-asks : (a b : List ℕ) → b ≡ area_in line a
-          → (store_ok s t ≡ true) × (line_ok line ≡ true) × FormRead line f × (in_stage (stage_of f.word) (stage s) ≡ true) × (b ≡ pasted a 0 (records_of (tree_in (read_form line))))
-      run-asks a b h =
-          let p = text_passed s t line e z in (
-            p.0,
-            p.1,
-            q,
-            ap (λ j. in_stage j (stage s)) (sym q.stage ∙ stage_is) ∙ not-false (in_stage (stage_of (read_form line).word) (stage s)) passed-form.1.0,
-            h ∙ area_form line a (λ y. let x : true ≡ false = ap (λ r. is_no_form (stage_of r.word)) (sym y) ∙ passed-form.0 in absurd (let v : ◌≡◌ {A = ℕ} 0 1 = cc in omega arith)),
-          )
+      pub text_passed : (store_ok s t ≡ true) × (line_ok line ≡ true)
+      text_passed = let p = passed-text in (not-false (store_ok s t) p.0, not-false (line_ok line) p.1.0)
 
-      -- taken to the form's own work
-      pub line_run : {area s' t' area' : List ℕ} {r : Answer} → Performs own_work s t area r s' t' area' → Made (step s t line (length area)) area r s' t' area'
-      unfolding step
-      line_run {area} m =
-          made_at (performed-guarded (line_checks s t line) own_work (length area) s t (passed-append (text_checks s t line) own_front passed-text passed-form)) m
+      -- the form that was read, where its stage was asked for
+      module _ {f : Form} (q : FormRead line f) where
+        stage_is : stage_number f.stage ≡ stage_of (read_form line).word
+        stage_is = q.stage ∙ ap (λ r. stage_of r.word) (sym q.form)
+
+        module _ {g : Result Unit Refusal} (k : refusal_number g ≡ first_refusal (form_checks (stage_number f.stage) (stage s))) where
+          read : {r : Result Unit Refusal} → g ≡ r → refusal_number r ≡ first_refusal own_front
+          read h = sym (ap refusal_number h) ∙ k ∙ ap (λ j. first_refusal (form_checks j (stage s))) stage_is
+
+          -- refused for its form
+          pub form_refused : {area : List ℕ} {x : Refusal} → g ≡ Err x → (o : Result ℕ Refusal) → IsErrAnd o (λ y. y ≡ x)
+              → Made (step s t line (length area)) area (numbered o) s t area
+          unfolding step
+          form_refused {x} h o p =
+              performs_refused whole s t {A = Unit} {x = x}
+              (front_err {A = Unit} {r = Err x} refl own_front (read h) own_work.checks ∙ sym (first_behind (text_checks s t line) (own_front ++ own_work.checks) passed-text))
+              refl o p
+
+          module _ {u : Unit} (w : g ≡ Ok u) where
+            passed-form : Passed own_front
+            passed-form = passed_ok {A = Unit} own_front {r = Ok u} refl (read w) refl
+
+            -- what both let pass; the area of a line that is a form has the records of its tree
+            pub run-asks : (a b : List ℕ) → b ≡ area_in line a
+                → (store_ok s t ≡ true) × (line_ok line ≡ true) × FormRead line f × (in_stage (stage_of f.word) (stage s) ≡ true) × (b ≡ pasted a 0 (records_of (tree_in (read_form line))))
+            run-asks a b h = (
+              text_passed.0,
+              text_passed.1,
+              q,
+              ap (λ j. in_stage j (stage s)) (sym q.stage ∙ stage_is) ∙ not-false (in_stage (stage_of (read_form line).word) (stage s)) passed-form.1.0,
+              h ∙ area_form line a (λ y. let x : true ≡ false = ap (λ r. is_no_form (stage_of r.word)) (sym y) ∙ passed-form.0 in absurd (let v : ◌≡◌ {A = ℕ} 0 1 = cc in omega arith)),
+            )
+
+            -- taken to the form's own work
+            pub line_run : {area s' t' area' : List ℕ} {r : Answer} → Performs own_work s t area r s' t' area' → Made (step s t line (length area)) area r s' t' area'
+            unfolding step
+            line_run {area} m =
+                made_at (performed-guarded (line_checks s t line) own_work (length area) s t (passed-append (text_checks s t line) own_front passed-text passed-form)) m

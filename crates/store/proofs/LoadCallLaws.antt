@@ -1,10 +1,11 @@
 -- The call that loads the solver's file, step by step: what each step asks for, and what is returned and left where it turns the call away. Assumes nothing.
-use Prim.Native.Nat.{ℕ, max, ◌+◌, ◌*◌, ◌≤◌, ◌<◌}
-use mathlib.Core.Path.{◌≡◌, refl, ap, ◌∙◌}
+use Rattle.std.specs.Prelude.{Result, Ok, Err, IsErrAnd}
+use Prim.Native.Nat.{ℕ, max, ◌+◌, ◌*◌, ◌<◌}
+use mathlib.Core.Path.{◌≡◌, refl, sym, ap, ◌∙◌}
 use mathlib.Core.Bool.{true, false, ◌||◌}
 use mathlib.Core.List.{List, [], ◌∷◌, ◌++◌, map}
 use native.Mathlib.Omega.{arith}
-use borrow.Author.Tests.{leb-false, le-leb, lt-leb, lt-ltb, le-ltb, ltb-true, ltb-false, not-false}
+use borrow.Author.Tests.{leb-false, lt-leb, lt-ltb, le-ltb, ltb-true, ltb-false, not-false}
 use lib.Dec.{ltb}
 use lib.ListN.{length}
 use Rattle.rights.specs.Held.{node_bytes, table_bytes}
@@ -20,10 +21,11 @@ use Rattle.xml.specs.How.Loading.{deepest, tally_of, Writable}
 use Rattle.xml.specs.How.Tokens.{is_document, document_nodes}
 use Rattle.xml.specs.declared.document.Tally.{Tally}
 use Rattle.lines.specs.Outcome.{Made}
-use Rattle.lines.specs.Refusal.{Check, area_check, first_refusal, Passed}
+use Rattle.lines.specs.declared.refusals.Refusal.{Refusal}
+use Rattle.lines.specs.declared.refusals.Refusal.TheVariants.{NoDocument}
+use Rattle.lines.specs.Refusal.{number_of, refusal_number, numbered, Check, area_check, first_refusal, Passed}
 use Rattle.lines.specs.State.{stage, with_stage, store_ok}
-use Rattle.lines.specs.declared.line.Answer.TheVariants.{Accepted, Refused}
-use Rattle.lines.proofs.RefusalLaws.{first_front, passed, answering_refused, answering_short, answering_done}
+use Rattle.lines.proofs.RefusalLaws.{front_err, passed_ok, handed_on, answering_refused, answering_short, answering_done}
 use Rattle.lines.proofs.StateLaws.{store_held}
 use Rattle.lines.proofs.TreeLineLaws.{no_records}
 use Rattle.store.specs.How.Load.{tally_checks}
@@ -44,19 +46,9 @@ deepest-told [] = refl
 deepest-told (n ∷ ns) = deeper-told (level_of n) (deepest ns) ∙ ap (λ b. ltb 11 (level_of n) || b) (deepest-told ns)
 
 -- 13 and 3
-
 module _ (s t : List ℕ) where
-  pub at_store : store_ok s t ≡ false → 13 ≡ first_refusal (store_checks s t)
-  at_store e = rw e
-
-  pub at_root : store_ok s t ≡ true → 2 ≤ stage s → 3 ≡ first_refusal (store_checks s t)
-  at_root e h = rw (e, le-leb 2 (stage s) h)
-
-  pub at_none : store_ok s t ≡ true → stage s < 2 → 0 ≡ first_refusal (store_checks s t)
-  at_none e h = rw (e, lt-leb 2 (stage s) h)
-
-  pub store_passed : {d : ℕ} → d ≡ first_refusal (store_checks s t) → d ≡ 0 → (store_ok s t ≡ true) × (stage s < 2)
-  store_passed e z = let p = passed (store_checks s t) _ refl e z in (not-false (store_ok s t) p.0, leb-false 2 (stage s) p.1.0)
+  pub store_passed : {d : Result Unit Refusal} {v : Unit} → refusal_number d ≡ first_refusal (store_checks s t) → d ≡ Ok v → (store_ok s t ≡ true) × (stage s < 2)
+  store_passed e z = let p = passed_ok (store_checks s t) refl e z in (not-false (store_ok s t) p.0, leb-false 2 (stage s) p.1.0)
 
 module _ (s t xml : List ℕ) where
   -- all checks but 12, and what the call leaves where none of them fails
@@ -69,47 +61,57 @@ module _ (s t xml : List ℕ) where
   abbrev table' : List ℕ
   table' = table_bytes (length t) (map node_bytes (document_nodes xml))
 
-  -- a check of the store or of the document fails
-  turned : {area : List ℕ} {n : ℕ} → n ≡ first_refusal own_checks → (n ≡ 0 → ⊥) → Made (load_xml s t xml (length area)) area (Refused n) s t area
+  -- a check of the store or of the document fails; o is what the call returns
+  turned : {area : List ℕ} (x : Refusal) → number_of x ≡ first_refusal own_checks → Made (load_xml s t xml (length area)) area (numbered (Err x)) s t area
   unfolding load_xml
-  turned e h = answering_refused own_checks ok_text s t state' table' e h
+  turned x e = answering_refused own_checks ok_text s t state' table' x e
 
-  pub store_refused : {area : List ℕ} {d : ℕ} → d ≡ first_refusal (store_checks s t) → (d ≡ 0 → ⊥) → Made (load_xml s t xml (length area)) area (Refused d) s t area
-  store_refused e h = turned (first_front (store_checks s t) (document_checks (length t) xml) _ e h) h
+  handed : {area : List ℕ} {r : Result Unit Refusal} {x : Refusal} → refusal_number r ≡ first_refusal own_checks → r ≡ Err x → (o : Result ℕ Refusal) → IsErrAnd o (λ y. y ≡ x)
+      → Made (load_xml s t xml (length area)) area (numbered o) s t area
+  handed {x} e q o p = rw (handed_on o x p) (turned x (sym (ap refusal_number q) ∙ e))
+
+  pub store_refused : {area : List ℕ} {d : Result Unit Refusal} {x : Refusal} → refusal_number d ≡ first_refusal (store_checks s t) → d ≡ Err x
+      → (o : Result ℕ Refusal) → IsErrAnd o (λ y. y ≡ x) → Made (load_xml s t xml (length area)) area (numbered o) s t area
+  store_refused e q o p = handed (front_err q (store_checks s t) e (document_checks (length t) xml)) q o p
 
   module _ (ok : store_ok s t ≡ true) (early : stage s < 2) where
     -- 14
-    pub document_refused : {area : List ℕ} → is_document xml ≡ false → Made (load_xml s t xml (length area)) area (Refused 14) s t area
-    document_refused e = turned (rw (ok, lt-leb 2 (stage s) early, e)) (λ z. omega arith)
+    pub document_refused : {area : List ℕ} → is_document xml ≡ false → Made (load_xml s t xml (length area)) area (numbered (Err NoDocument)) s t area
+    document_refused e = turned NoDocument (rw (ok, lt-leb 2 (stage s) early, e))
 
     module _ (document : is_document xml ≡ true) {n : Tally} (told : n ≡ tally_of (document_nodes xml)) where
       -- 9, 10 and 11
       own-checks : first_refusal (tally_checks (length t) n) ≡ first_refusal own_checks
       own-checks = rw (told, deepest-told (document_nodes xml), ok, lt-leb 2 (stage s) early, document)
 
-      pub tally_refused : {area : List ℕ} {d : ℕ} → d ≡ first_refusal (tally_checks (length t) n) → (d ≡ 0 → ⊥) → Made (load_xml s t xml (length area)) area (Refused d) s t area
-      tally_refused e h = turned (e ∙ own-checks) h
+      module _ {d : Result Unit Refusal} (e : refusal_number d ≡ first_refusal (tally_checks (length t) n)) where
+        pub tally_refused : {area : List ℕ} {x : Refusal} → d ≡ Err x → (o : Result ℕ Refusal) → IsErrAnd o (λ y. y ≡ x)
+            → Made (load_xml s t xml (length area)) area (numbered o) s t area
+        tally_refused q o p = handed (e ∙ own-checks) q o p
 
-      module _ {d : ℕ} (e : d ≡ first_refusal (tally_checks (length t) n)) (z : d ≡ 0) where
-        own-passed : Passed own_checks
-        own-passed = passed own_checks _ refl (e ∙ own-checks) z
+        module _ {v : Unit} (z : d ≡ Ok v) where
+          own-passed : Passed own_checks
+          own-passed = passed_ok own_checks refl (e ∙ own-checks) z
 
-        -- what the writer of the document asks
-        pub document_fits : Writable xml t
-        document_fits =
-            let p = own-passed in
-            let low = ltb-false 11 (deepest (document_nodes xml)) (deepest-told (document_nodes xml) ∙ p.1.1.1.1.0) in
-            let h = facts t (store_held s t ok).table in
-            let fits = (capacity_exact (length t) (length (document_nodes xml)) h.head).0 (ltb-false (capacity (length t)) (length (document_nodes xml)) p.1.1.1.1.1.0) in
-            let e : 4 + count t * 32 ≡ 4 = omega (arith, no_records s t ok early) in
-            record { document = document; levels = low; few = fits.1; room = fits.0; clear = rw e at h.clear }
+          -- what the writer of the document asks
+          pub document_fits : Writable xml t
+          document_fits =
+              let p = own-passed in
+              let low = ltb-false 11 (deepest (document_nodes xml)) (deepest-told (document_nodes xml) ∙ p.1.1.1.1.0) in
+              let h = facts t (store_held s t ok).table in
+              let fits = (capacity_exact (length t) (length (document_nodes xml)) h.head).0 (ltb-false (capacity (length t)) (length (document_nodes xml)) p.1.1.1.1.1.0) in
+              let e : 4 + count t * 32 ≡ 4 = omega (arith, no_records s t ok early) in
+              record { document = document; levels = low; few = fits.1; room = fits.0; clear = rw e at h.clear }
 
-        -- 12, and nothing
-        module _ {before area : List ℕ} {need k : ℕ} (a : Answered ok_text before area need) (q : k ≡ first_refusal (area_check (length area) need ∷ [])) where
-          pub area_refused : (k ≡ 0 → ⊥) → Made (load_xml s t xml (length before)) before (Refused k) s t area
-          unfolding load_xml
-          area_refused h = answering_short own_checks ok_text s t state' table' own-passed a q h
+          -- 12, and nothing
+          module _ {before area : List ℕ} {need : ℕ} (a : Answered ok_text before area need)
+              {k : Result Unit Refusal} (q : refusal_number k ≡ first_refusal (area_check (length area) need ∷ [])) where
+            pub area_refused : {x : Refusal} → k ≡ Err x → (o : Result ℕ Refusal) → IsErrAnd o (λ y. y ≡ x)
+                → Made (load_xml s t xml (length before)) before (numbered o) s t area
+            unfolding load_xml
+            area_refused {x} h o p = rw (handed_on o x p) (answering_short own_checks ok_text s t state' table' own-passed a q h)
 
-          pub document_taken : {s'' t'' : List ℕ} → k ≡ 0 → s'' ≡ with_stage (nodes_stage n.nodes) s → t'' ≡ table' → Made (load_xml s t xml (length before)) before (Accepted need) s'' t'' area
-          unfolding load_xml
-          document_taken h es et = answering_done own_checks ok_text s t state' table' own-passed a q h (rw told at es) et
+            pub document_taken : {s'' t'' : List ℕ} {u : Unit} → k ≡ Ok u → s'' ≡ with_stage (nodes_stage n.nodes) s → t'' ≡ table'
+                → Made (load_xml s t xml (length before)) before (numbered (Ok need)) s'' t'' area
+            unfolding load_xml
+            document_taken h es et = answering_done own_checks ok_text s t state' table' own-passed a q h (rw told at es) et

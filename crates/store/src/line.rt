@@ -1,28 +1,29 @@
 // One call for every line (document 01, "Lines" and "Who can be turned down").
-ghost use Rattle.std.specs.Prelude.{◌≡◌, true, cond, suc, ◌*◌, ◌≤◌, ◌<◌, leb, length, take, replicate};
-ghost use Rattle.rights.specs.Marks.{bit};
+ghost use Rattle.std.specs.Prelude.{◌≡◌, true, suc, ◌*◌, ◌≤◌, ◌<◌, length, take, replicate};
 ghost use Rattle.rights.specs.Record.{pasted};
 ghost use Rattle.forms.specs.Text.{line_ok};
 ghost use Rattle.forms.specs.Tree.{records_of};
 ghost use Rattle.forms.specs.Layout.{stage_of};
 ghost use Rattle.forms.specs.Form.{place_in, part_bytes, read_form, tree_in};
+ghost use Rattle.forms.specs.How.Codes.{stage_code, stage_number};
 ghost use Rattle.forms.specs.How.Reader.{Ends, FormRead};
 ghost use Rattle.lines.specs.State.{stage, store_ok};
 ghost use Rattle.lines.specs.Outcome.{Made};
-ghost use Rattle.lines.specs.Refusal.{first_refusal};
+ghost use Rattle.lines.specs.Refusal.{first_refusal, numbered, refusal_number};
 ghost use Rattle.lines.specs.Effect.{Performs};
 ghost use Rattle.lines.specs.Clause.{work_of};
 ghost use Rattle.store.specs.Line.{in_stage, text_checks, form_checks, step};
 
 use forms::form::{Form, read_form};
 use forms::layout::Word;
-use forms::limits::{NO_STAGE, STAGE_C, TREE_BYTES};
+use forms::limits::TREE_BYTES;
+use forms::stage::Stage;
 use forms::text::line_ok;
 use lines::changes::{insert, remove, rename, window};
 use lines::line::Answer;
 use lines::policy_lines::{declare, relate, rule};
 use lines::queries::{Ask, ask_path, sheet, view};
-use lines::refusals::{BAD_LINE, BAD_STORE, NO_FORM, WRONG_STAGE};
+use lines::refusals::Refusal;
 use lines::session::{log_in, set_day};
 use lines::state::store_ok;
 use lines::tree_lines::{child, root};
@@ -30,54 +31,39 @@ use rights::limits::RECORD_BYTES;
 use views::done::Change;
 use views::insert::Place;
 
-// Whether a form of stage k may come where the state is in stage g.
-fn in_stage(k: u8, g: u8) -> bool
-    ensures { result ≡ in_stage k g }
+// Whether a form of stage k may come where the state is in the stage with number g.
+fn in_stage(k: Stage, g: u8) -> bool
+    ensures { result ≡ in_stage (stage_code k) g }
 {
-    if k < g {
-        return false;
-    }
-    (STAGE_C < k) == (STAGE_C <= g)
+    let c = u8::from(Stage::C);
+    let k = u8::from(k);
+    g <= k && (c < k) == (c <= g)
 }
 
 // The refusal of a store or of a line's bytes.
-fn text_refusal(state: &[u8], table: &[u8], line: &[u8]) -> u8
-    ensures { result ≡ first_refusal (text_checks state.now table.now line.now) }
+fn text_refusal(state: &[u8], table: &[u8], line: &[u8]) -> Result<(), Refusal>
+    ensures { refusal_number result ≡ first_refusal (text_checks state.now table.now line.now) }
 {
     if !store_ok(state, table) {
-        return BAD_STORE;
+        return Err(Refusal::BadStore);
     }
     if !line_ok(line) {
-        return BAD_LINE;
+        return Err(Refusal::BadLine);
     }
-    0
+    Ok(())
 }
 
-// The refusal of a form of stage k, in stage g.
-fn form_refusal(k: u8, g: u8) -> u8
-    ensures { result ≡ first_refusal (form_checks k g) }
+// The refusal of what is no form, or of a form in the stage with number g.
+fn form_refusal(stage: Option<Stage>, g: u8) -> Result<(), Refusal>
+    ensures { refusal_number result ≡ first_refusal (form_checks (stage_number stage) g) }
 {
-    if k == NO_STAGE {
-        return NO_FORM;
+    let Some(k) = stage else {
+        return Err(Refusal::NoForm);
+    };
+    if !in_stage(k, g) {
+        return Err(Refusal::WrongStage);
     }
-    if in_stage(k, g) {
-        return 0;
-    }
-    WRONG_STAGE
-}
-
-// 1 for accept, 0 for deny.
-fn accept_byte(accept: bool) -> u8
-    ensures { result ≡ bit accept }
-{
-    if accept { 1 } else { 0 }
-}
-
-// The smaller of two numbers.
-fn smaller(a: usize, b: usize) -> usize
-    ensures { (result ≡ cond (leb a b) a b) × (result ≤ b) }
-{
-    if a <= b { a } else { b }
+    Ok(())
 }
 
 // The bytes of the part that stands after place i, as far as the line goes.
@@ -85,8 +71,8 @@ fn part_of<'a>(line: &'a [u8], ends: &[usize; 5], i: usize) -> &'a [u8]
     requires { (i < 4) × Ends ends.now }
     ensures { result.now ≡ part_bytes line.now (place_in ends.now i) (place_in ends.now (suc i)) }
 {
-    let end = smaller(ends[i + 1], line.len());
-    let at = smaller(ends[i] + 1, end);
+    let end = ends[i + 1].min(line.len());
+    let at = (ends[i] + 1).min(end);
     &line[at..end]
 }
 
@@ -112,13 +98,13 @@ fn run(
         × (in_stage (stage_of f.word) (stage state.old) ≡ true)
         × (tree.now ≡ pasted (replicate 16384 0) 0 (records_of (tree_in (read_form line.now)))) }
     ensures { Performs (work_of (read_form line.now) state.old table.old)
-        state.old table.old area.old result state.new table.new area.new }
+        state.old table.old area.old (numbered result) state.new table.new area.new }
 {
     let word = f.word;
     let ends = f.ends;
     let says = f.says;
     match word {
-        Word::Other => Answer::Refused(NO_FORM),
+        Word::Other => Err(Refusal::NoForm),
         Word::Subject => declare(state, table, part_of(line, &ends, 0), area),
         Word::Isa => relate(
             state,
@@ -130,7 +116,7 @@ fn run(
         Word::Rule => rule(
             state,
             table,
-            accept_byte(says[0] == 1),
+            u8::from(says[0] == 1),
             says[1] as u8,
             part_of(line, &ends, 2),
             part_of(line, &ends, 3),
@@ -202,17 +188,11 @@ fn run(
 // One line: the answer's bytes are put at the front of the area. Whatever is lent, what is returned and left is `step`.
 pub fn line(state: &mut [u8], table: &mut [u8], line: &[u8], area: &mut [u8]) -> Answer
     ensures { Made (step state.old table.old line.now (length area.old))
-        area.old result state.new table.new area.new }
+        area.old (numbered result) state.new table.new area.new }
 {
-    let down = text_refusal(state, table, line);
-    if down != 0 {
-        return Answer::Refused(down);
-    }
+    text_refusal(state, table, line)?;
     let mut tree = [0u8; TREE_BYTES];
     let f = read_form(line, &mut tree);
-    let turned = form_refusal(f.stage, state[0]);
-    if turned != 0 {
-        return Answer::Refused(turned);
-    }
+    form_refusal(f.stage, state[0])?;
     run(state, table, line, &tree, area, f)
 }

@@ -1,19 +1,19 @@
 -- One byte, one chunk and all reads: what the program's areas hold is the run after them. Assumes nothing.
 use Prim.Native.Nat.{ℕ, suc, ◌+◌, ◌-◌, ◌≤◌, ◌<◌}
 use mathlib.Core.Path.{◌≡◌, refl, sym, ap, ◌∙◌}
-use mathlib.Core.Bool.{Bool, true, false, cond}
+use mathlib.Core.Bool.{cond}
 use mathlib.Core.List.{List, [], ◌∷◌, ◌++◌, append_assoc, append-nil}
 use mathlib.Core.Logic.{inl, inr}
 use native.Mathlib.Omega.{arith}
 use native.Mathlib.Numerals.{add-one}
-use borrow.Author.Tests.{eq-eqb, ne_eqb, leb-true, leb-false, le-leb, lt-leb, lt-ltb, le-ltb}
+use borrow.Author.Tests.{eq-eqb, ne_eqb, leb-true, le-leb, lt-leb, lt-ltb, le-ltb}
 use lib.Dec.{leb}
 use lib.ListN.{length, get_or, take, drop, set, length-append, length-set}
 use lib.Seq.{take_all, take_at, take-suc, take-suc-set, length-take-le}
 use Rattle.rights.proofs.ListLaws.{by_case}
 use Rattle.lines.specs.Outcome.{Outcome}
 use Rattle.timetable.specs.Program.{input_max, line_feed, empty_state, empty_table, printed}
-use Rattle.timetable.specs.How.Run.{Line, short, ended, line_in, Prints, Run, run_in, overflow, byte_taken, byte_hands, chunk_taken, TakesChunk, written, chunks_taken, joined, ReadsAll, start}
+use Rattle.timetable.specs.How.Run.{Line, short, ended, line_in, Prints, Run, run_in, overflow, byte_taken, byte_hands, chunk_taken, Stops, written, chunks_taken, joined, ReadsAll, start}
 
 -- what was put behind the bytes that wait, waits with them
 put_whole : (o : Outcome) (out : List ℕ) (held w : ℕ) {s' t' out' : List ℕ} → held ≤ length out → Prints o held out w s' t' out'
@@ -45,23 +45,25 @@ pub line_new : (buffer : List ℕ) (u : ℕ) → u ≡ 0 → line_in buffer u �
 line_new buffer u e = rw (e, le-leb 0 (length buffer) (omega arith))
 
 -- A line feed: the answer waits behind what waited, and room is made for the next.
-module _ (s t buffer out : List ℕ) (used held b w u h : ℕ) (open' : Bool) {s' t' out' : List ℕ} (feed : b ≡ line_feed) (within : held ≤ length out)
-    (p : Prints (ended s t (line_in buffer used) 65536) held out w s' t' out') (opens : leb w 65536 ≡ true → open' ≡ true) where
-  pub feed_taken : u ≡ 0 → h ≡ cond (leb w 65536) w 0 → run_in s' t' buffer u out' h ≡ byte_taken (run_in s t buffer used out held) b
+module _ (s t buffer out : List ℕ) (used held b w : ℕ) {s' t' out' : List ℕ} (feed : b ≡ line_feed) (within : held ≤ length out)
+    (p : Prints (ended s t (line_in buffer used) 65536) held out w s' t' out') where
+  pub feed_taken : (u h : ℕ) → u ≡ 0 → h ≡ cond (leb w 65536) w 0 → run_in s' t' buffer u out' h ≡ byte_taken (run_in s t buffer used out held) b
   unfolding byte_taken
-  feed_taken new e =
+  feed_taken u h new e =
       let q = put_whole (ended s t (line_in buffer used) 65536) out held w within p in
       let k = room_kept (take held out ++ printed (ended s t (line_in buffer used) 65536).reply) out' w h q.0 q.1 e in
       rw (eq-eqb b line_feed feed, p.state, p.table, line_new buffer u new, k)
 
-  pub feed_opens : byte_hands (run_in s t buffer used out held) b ≡ [] → open' ≡ true
+  -- where too much waits, and is handed over
+  pub feed_shut : 65536 < w → run_in s' t' buffer 0 out' 0 ≡ byte_taken (run_in s t buffer used out held) b
+  feed_shut o = feed_taken 0 0 refl (rw (lt-leb w 65536 o))
+
+  pub feed_hands_some : 65536 < w → byte_hands (run_in s t buffer used out held) b ≡ [] → ⊥
   unfolding byte_hands
-  feed_opens z =
+  feed_hands_some o z =
       let q = put_whole (ended s t (line_in buffer used) 65536) out held w within p in
-      by_case (leb w 65536) opens
-      (λ e.
-      let k : take held out ++ printed (ended s t (line_in buffer used) 65536).reply ≡ [] = rw (eq-eqb b line_feed feed, q.0, e) at z in
-      absurd (omega (arith, leb-false w 65536 e, q.0, ap length k)))
+      let k : take held out ++ printed (ended s t (line_in buffer used) 65536).reply ≡ [] = rw (eq-eqb b line_feed feed, q.0, lt-leb w 65536 o) at z in
+      omega (arith, o, q.0, ap length k)
 
   pub feed_hands : byte_hands (run_in s t buffer used out held) b ≡ overflow (take w out')
   unfolding byte_hands
@@ -101,21 +103,15 @@ module _ (m : Run) (chunk : List ℕ) (i : ℕ) {n p : Run} (so_far : n ≡ chun
   chunk_more h e =
       e ∙ ap (λ (r : Run). byte_taken r (get_or chunk i 0)) so_far ∙ sym (rw (add-one i, take-suc chunk i 0 h) (chunk_snoc m (take i chunk) (get_or chunk i 0)))
 
-  pub chunk_stops : (open' : Bool) → open' ≡ false → p ≡ byte_taken n (get_or chunk i 0) → (byte_hands n (get_or chunk i 0) ≡ [] → open' ≡ true) → TakesChunk m chunk p open'
-  chunk_stops open' shut e opens = record {
-    whole = λ q. absurd (let z : true ≡ false = sym q ∙ shut in let y : ◌≡◌ {A = ℕ} 0 1 = cc in omega arith);
-    stops = λ q. record {
-      at = i;
-      is = e ∙ ap (λ (r : Run). byte_taken r (get_or chunk i 0)) so_far;
-      hands = λ z. let q : true ≡ false = sym (opens (ap (λ (r : Run). byte_hands r (get_or chunk i 0)) so_far ∙ z)) ∙ shut in let y : ◌≡◌ {A = ℕ} 0 1 = cc in omega arith;
-    };
+  pub chunk_stops : p ≡ byte_taken n (get_or chunk i 0) → (byte_hands n (get_or chunk i 0) ≡ [] → ⊥) → Stops m chunk p
+  chunk_stops e some = record {
+    at = i;
+    is = e ∙ ap (λ (r : Run). byte_taken r (get_or chunk i 0)) so_far;
+    hands = λ z. some (ap (λ (r : Run). byte_hands r (get_or chunk i 0)) so_far ∙ z);
   }
 
-pub chunk_whole : (m : Run) (chunk : List ℕ) (i : ℕ) {n : Run} → n ≡ chunk_taken m (take i chunk) → length chunk ≤ i → TakesChunk m chunk n true
-chunk_whole m chunk i e h = record {
-  whole = λ q. e ∙ ap (chunk_taken m) (take_all i chunk h);
-  stops = λ q. absurd (let y : ◌≡◌ {A = ℕ} 0 1 = cc in omega arith);
-}
+pub chunk_whole : (m : Run) (chunk : List ℕ) (i : ℕ) {n : Run} → n ≡ chunk_taken m (take i chunk) → length chunk ≤ i → n ≡ chunk_taken m chunk
+chunk_whole m chunk i e h = e ∙ ap (chunk_taken m) (take_all i chunk h)
 
 -- what waited is written, and the areas hold the run without it
 pub chunk_written : (m : Run) (chunk : List ℕ) (got : ℕ) {n : Run} → n ≡ chunk_taken m (take (got - 0) (drop 0 chunk)) → written n ≡ written (chunk_taken m (take got chunk))

@@ -9,9 +9,7 @@ use lib.ListN.{length, take, drop, length-drop, take-append-drop}
 use lib.Seq.{drop-append-le, drop-drop, length-take-le}
 use Rattle.answers.specs.Answer.{refused_text}
 use Rattle.answers.specs.How.AnswerArea.{Puts, Answered}
-use Rattle.lines.specs.declared.line.Answer.{Answer}
-use Rattle.lines.specs.declared.line.Answer.TheVariants.{Accepted, Refused}
-use Rattle.lines.specs.Outcome.{Reply, says, refuses, Outcome, Made, answer_of, area_after, refusal}
+use Rattle.lines.specs.Outcome.{Answer, Accepted, Refused, Reply, says, refuses, Outcome, Made, answer_of, area_after, refusal}
 use Rattle.lines.specs.Refusal.{bad_line}
 use Rattle.store.specs.Line.{step}
 use Rattle.timetable.specs.Program.{printed}

@@ -1,83 +1,80 @@
 #![tactic(auto)]
 // The program (document 01, "Lines", "What is written"): reads lines from standard input, and writes the answer to each to standard output, or `(refused N)`.
 // It ends at the end of the input, at its limit, and where standard input or standard output is closed or fails.
-ghost use Rattle.std.specs.Prelude.{◌≡◌, ◌≤◌, ◌<◌, true, cond, [], ◌⊎◌, leb, length, take, min, IfOk};
+ghost use Rattle.std.specs.Prelude.{◌≡◌, ◌≤◌, ◌<◌, true, false, cond, [], leb, length, take, min, is_ok, IfOk, MatchResult};
 ghost use Rattle.std.specs.Io.KnownBytes.{ReadConsumes};
 ghost use Rattle.store.specs.Line.{step};
 ghost use Rattle.timetable.specs.Program.{empty_state, empty_table};
-ghost use Rattle.timetable.specs.How.Run.{Prints, TakesChunk, ReadsAll, RunsAll, ended, line_in};
+ghost use Rattle.timetable.specs.How.Run.{Prints, Stops, ReadsAll, RunsAll, ended, line_in};
 ghost use Rattle.timetable.specs.How.Run.{run_in, byte_taken, byte_hands, overflow, handed, chunk_taken, written, start};
 ghost use Rattle.timetable.specs.Streams.{Writes, Answers, AnswersWhole};
 ghost use Rattle.timetable.specs.How.Bytes.{Reads, Turned, LinesRead};
 
 use answers::answer::answer_refused;
 use forms::limits::LINE_MAX;
-use lines::line::Answer;
-use lines::refusals::BAD_LINE;
+use lines::refusals::Refusal;
 use std::io;
 use std::io::{Read, Write};
 use store::line::line;
 
 // A line of so many bytes stands for every longer one.
+// Kept: `run`, RunsAll and ReadsAll ask by `used` and 0 if a line is begun; of an Option that asks two cases.
 const TOO_LONG: usize = LINE_MAX + 1;
 // "The program reads at most 4,294,967,295 bytes"
 const INPUT_MAX: usize = 4_294_967_295;
 // "The program, whose area has 65,536 bytes"
 const AREA_BYTES: usize = 65536;
 
-// The bytes that the line has so far, TOO_LONG where they are too many; the answers' bytes that wait to be written; whether standard output takes bytes.
+// Standard output took nothing more, or failed.
+#[derive(Clone, Copy)]
+struct Closed;
+
+// The bytes that the line has so far, TOO_LONG where they are too many; the answers' bytes that wait to be written.
 #[derive(Clone, Copy)]
 struct Progress {
     used: usize,
     held: usize,
-    open: bool,
 }
 
-// The bytes that the line has after a read, and the bytes that were read: 0 at the end. Whether the input could be read, and standard output took every answer.
+// The bytes that the line has after a read, and the bytes that were read: 0 at the end. Whether the input could be read.
+// Kept: `heard` makes no value void: after a read that fails, the line so far is answered as at the end of the input.
 #[derive(Clone, Copy)]
 struct Turn {
     used: usize,
     got: usize,
     heard: bool,
-    open: bool,
 }
 
 // The same after the last read.
+// Kept: `heard` as in Turn
 #[derive(Clone, Copy)]
 struct LastLine {
     used: usize,
     heard: bool,
-    open: bool,
 }
 
 // Whether the input could be read to its end or its limit, and standard output took every answer.
+// Kept: `run` promises of either alone, and both may fail, so a Result would have an error of three kinds.
 #[derive(Clone, Copy)]
 struct Finish {
     heard: bool,
     open: bool,
 }
 
-fn least(a: usize, b: usize) -> usize
-    ensures bounds { (result ≤ a) × (result ≤ b) }
-    ensures value { result ≡ min a b }
-{
-    if a < b { a } else { b }
-}
-
-// Writes the first `held` bytes; whether the output took them all. It ends at the first write that takes nothing or fails.
-fn write_held<W: Write>(output: &mut W, out: &[u8], held: usize) -> bool
+// Writes the first `held` bytes, as far as the output takes them. It ends at the first write that takes nothing or fails.
+fn write_held<W: Write>(output: &mut W, out: &[u8], held: usize) -> Result<(), Closed>
     requires { held ≤ length out.now }
-    ensures { Writes (W.contents output.old) (W.contents output.new) (take held out.now) result }
+    ensures { Writes (W.contents output.old) (W.contents output.new) (take held out.now) (is_ok result) }
 {
     let mut done = 0;
     while done < held {
         let took = output.write(&out[done..held]).unwrap_or(0);
         if took == 0 {
-            return false;
+            return Err(Closed);
         }
         done += took;
     }
-    true
+    Ok(())
 }
 
 // Answers a line, or prints its refusal, at the start of the area; how many bytes that takes.
@@ -86,10 +83,9 @@ fn answer_line(state: &mut [u8], table: &mut [u8], text: &[u8], area: &mut [u8])
     ensures { Prints (step state.old table.old text.now (length area.old))
         0 area.old result state.new table.new area.new }
 {
-    let answer = line(state, table, text, area);
-    match answer {
-        Answer::Accepted(n) => n,
-        Answer::Refused(number) => answer_refused(number, area),
+    match line(state, table, text, area) {
+        Ok(n) => n,
+        Err(refusal) => answer_refused(u8::from(refusal), area),
     }
 }
 
@@ -106,7 +102,7 @@ fn end_line(
         0 area.old result state.new table.new area.new }
 {
     if buffer.len() < used {
-        return answer_refused(BAD_LINE, area);
+        return answer_refused(u8::from(Refusal::BadLine), area);
     }
     answer_line(state, table, &buffer[0..used], area)
 }
@@ -129,24 +125,16 @@ fn hold_answer(
 }
 
 // Writes what waits where the next answer might not fit behind it. A new line begins.
-fn make_room<W: Write>(output: &mut W, out: &[u8], held: usize) -> Progress
+fn make_room<W: Write>(output: &mut W, out: &[u8], held: usize) -> Result<Progress, Closed>
     requires { held ≤ length out.now }
-    ensures room { (result.used ≡ 0) × (result.held ≡ cond (leb held 65536) held 0) × (leb held 65536 ≡ true → result.open ≡ true) }
-    ensures writes { Writes (W.contents output.old) (W.contents output.new) (overflow (take held out.now)) result.open }
+    ensures room { MatchResult result (λ p. (p.used ≡ 0) × (p.held ≡ cond (leb held 65536) held 0)) (λ _. 65536 < held) }
+    ensures writes { Writes (W.contents output.old) (W.contents output.new) (overflow (take held out.now)) (is_ok result) }
 {
     if held <= AREA_BYTES {
-        return Progress {
-            used: 0,
-            held,
-            open: true,
-        };
+        return Ok(Progress { used: 0, held });
     }
-    let open = write_held(output, out, held);
-    Progress {
-        used: 0,
-        held: 0,
-        open,
-    }
+    write_held(output, out, held)?;
+    Ok(Progress { used: 0, held: 0 })
 }
 
 // Takes one byte of the input.
@@ -159,14 +147,17 @@ fn take_byte<W: Write>(
     out: &mut [u8],
     held: usize,
     b: u8,
-) -> Progress
+) -> Result<Progress, Closed>
     requires { (length buffer.old ≡ 1024) × (used ≤ 1025) × (length out.old ≡ 131072) × (held ≤ 65536) }
-    ensures run { (result.used ≤ 1025) × (result.held ≤ 65536)
-        × (run_in state.new table.new buffer.new result.used out.new result.held
+    ensures run { MatchResult result
+        (λ p. (p.used ≤ 1025) × (p.held ≤ 65536)
+        × (run_in state.new table.new buffer.new p.used out.new p.held
+        ≡ byte_taken (run_in state.old table.old buffer.old used out.old held) b))
+        (λ _. (run_in state.new table.new buffer.new 0 out.new 0
         ≡ byte_taken (run_in state.old table.old buffer.old used out.old held) b)
-        × (byte_hands (run_in state.old table.old buffer.old used out.old held) b ≡ [] → result.open ≡ true) }
+        × (byte_hands (run_in state.old table.old buffer.old used out.old held) b ≡ [] → ⊥)) }
     ensures writes { Writes (W.contents output.old) (W.contents output.new)
-        (byte_hands (run_in state.old table.old buffer.old used out.old held) b) result.open }
+        (byte_hands (run_in state.old table.old buffer.old used out.old held) b) (is_ok result) }
 {
     if b == b'\n' {
         let waiting = hold_answer(state, table, &buffer[..], used, out, held);
@@ -174,17 +165,15 @@ fn take_byte<W: Write>(
     }
     if used < LINE_MAX {
         buffer[used] = b;
-        return Progress {
+        return Ok(Progress {
             used: used + 1,
             held,
-            open: true,
-        };
+        });
     }
-    Progress {
+    Ok(Progress {
         used: TOO_LONG,
         held,
-        open: true,
-    }
+    })
 }
 
 // Takes the bytes of a chunk, as long as standard output takes the answers. Nothing waits before it.
@@ -196,32 +185,25 @@ fn take_chunk<W: Write>(
     from: usize,
     out: &mut [u8],
     chunk: &[u8],
-) -> Progress
+) -> Result<Progress, Closed>
     requires { (length buffer.old ≡ 1024) × (from ≤ 1025) × (length out.old ≡ 131072) }
-    ensures run { (result.used ≤ 1025) × (result.held ≤ 65536)
-        × TakesChunk (run_in state.old table.old buffer.old from out.old 0) chunk.now
-        (run_in state.new table.new buffer.new result.used out.new result.held) result.open }
+    ensures run { MatchResult result
+        (λ p. (p.used ≤ 1025) × (p.held ≤ 65536)
+        × (run_in state.new table.new buffer.new p.used out.new p.held
+        ≡ chunk_taken (run_in state.old table.old buffer.old from out.old 0) chunk.now))
+        (λ _. Stops (run_in state.old table.old buffer.old from out.old 0) chunk.now
+        (run_in state.new table.new buffer.new 0 out.new 0)) }
     ensures writes { Writes (W.contents output.old) (W.contents output.new)
-        (handed (run_in state.old table.old buffer.old from out.old 0) chunk.now) result.open }
+        (handed (run_in state.old table.old buffer.old from out.old 0) chunk.now) (is_ok result) }
 {
     let mut used = from;
     let mut held = 0;
-    let mut i = 0;
-    while i < chunk.len() {
-        let p = take_byte(output, state, table, buffer, used, out, held, chunk[i]);
-        if p.open {
-            used = p.used;
-            held = p.held;
-            i += 1;
-        } else {
-            return p;
-        }
+    for &b in chunk {
+        let p = take_byte(output, state, table, buffer, used, out, held, b)?;
+        used = p.used;
+        held = p.held;
     }
-    Progress {
-        used,
-        held,
-        open: true,
-    }
+    Ok(Progress { used, held })
 }
 
 // Reads once; how many bytes came, 0 at the end of the input.
@@ -237,7 +219,7 @@ fn read_chunk<R: Read>(input: &mut R, chunk: &mut [u8], most: usize) -> io::Resu
     ensures bound { IfOk result (λ n. (n ≤ most) × (n ≤ length chunk.new)) }
     ensures bytes { Reads (R.remaining input.old) (R.remaining input.new) result most chunk.new }
 {
-    let n = least(most, chunk.len());
+    let n = most.min(chunk.len());
     read_once(input, &mut chunk[0..n])
 }
 
@@ -252,44 +234,38 @@ fn read_turn<R: Read, W: Write>(
     out: &mut [u8],
     chunk: &mut [u8],
     left: usize,
-) -> Turn
+) -> Result<Turn, Closed>
     requires { (length buffer.old ≡ 1024) × (used ≤ 1025) × (length out.old ≡ 131072) }
-    ensures run { (result.used ≤ 1025) × (result.got ≤ left) × (result.got ≤ length chunk.new)
-        × (((result.used ≡ 0) × (result.got ≡ 0))
-        ⊎ (run_in state.new table.new buffer.new result.used out.new 0
+    ensures run { IfOk result (λ t. (t.used ≤ 1025) × (t.got ≤ left) × (t.got ≤ length chunk.new)
+        × (run_in state.new table.new buffer.new t.used out.new 0
         ≡ written (chunk_taken (run_in state.old table.old buffer.old used out.old 0)
-        (take result.got chunk.new)))) }
-    ensures bytes { Turned (run_in state.old table.old buffer.old used out.old 0)
-        (run_in state.new table.new buffer.new result.used out.new 0)
+        (take t.got chunk.new)))) }
+    ensures bytes { MatchResult result
+        (λ t. Turned (run_in state.old table.old buffer.old used out.old 0)
+        (run_in state.new table.new buffer.new t.used out.new 0)
         (R.remaining input.old) (R.remaining input.new)
         (W.contents output.old) (W.contents output.new)
-        left (length chunk.old) result.used result.got result.heard result.open }
+        left (length chunk.old) t.used t.got t.heard true)
+        (λ _. Turned (run_in state.old table.old buffer.old used out.old 0)
+        (run_in state.new table.new buffer.new 0 out.new 0)
+        (R.remaining input.old) (R.remaining input.new)
+        (W.contents output.old) (W.contents output.new)
+        left (length chunk.old) 0 0 false false) }
 {
     let Ok(got) = read_chunk(input, chunk, left) else {
-        return Turn {
+        return Ok(Turn {
             used,
             got: 0,
             heard: false,
-            open: true,
-        };
+        });
     };
-    let p = take_chunk(output, state, table, buffer, used, out, &chunk[0..got]);
-    if p.open {
-        if write_held(output, &out[..], p.held) {
-            return Turn {
-                used: p.used,
-                got,
-                heard: true,
-                open: true,
-            };
-        }
-    }
-    Turn {
-        used: 0,
-        got: 0,
-        heard: false,
-        open: false,
-    }
+    let p = take_chunk(output, state, table, buffer, used, out, &chunk[0..got])?;
+    write_held(output, &out[..], p.held)?;
+    Ok(Turn {
+        used: p.used,
+        got,
+        heard: true,
+    })
 }
 
 // Reads to the end of the input or to its limit, and answers every line that has its line feed; how many bytes the last one has, which lacks it.
@@ -301,33 +277,35 @@ fn read_lines<R: Read, W: Write>(
     buffer: &mut [u8],
     out: &mut [u8],
     chunk: &mut [u8],
-) -> LastLine
+) -> Result<LastLine, Closed>
     requires { (state.old ≡ empty_state) × (table.old ≡ empty_table) × (length buffer.old ≡ 1024) × (length out.old ≡ 131072) }
-    ensures run { ReadsAll start (run_in state.new table.new buffer.new result.used out.new 0) result.used }
-    ensures bytes { LinesRead (run_in state.new table.new buffer.new result.used out.new 0)
+    ensures run { MatchResult result
+        (λ l. ReadsAll start (run_in state.new table.new buffer.new l.used out.new 0) l.used)
+        (λ _. ReadsAll start (run_in state.new table.new buffer.new 0 out.new 0) 0) }
+    ensures bytes { MatchResult result
+        (λ l. LinesRead (run_in state.new table.new buffer.new l.used out.new 0)
         (R.remaining input.old) (R.remaining input.new)
         (W.contents output.old) (W.contents output.new)
-        (length chunk.old) result.used result.heard result.open }
+        (length chunk.old) l.used l.heard true)
+        (λ _. LinesRead (run_in state.new table.new buffer.new 0 out.new 0)
+        (R.remaining input.old) (R.remaining input.new)
+        (W.contents output.old) (W.contents output.new)
+        (length chunk.old) 0 false false) }
 {
     let mut used: usize = 0;
     let mut left: usize = INPUT_MAX;
     while 0 < left {
-        let t = read_turn(input, output, state, table, buffer, used, out, chunk, left);
+        let t = read_turn(input, output, state, table, buffer, used, out, chunk, left)?;
         used = t.used;
         if t.got == 0 {
-            return LastLine {
+            return Ok(LastLine {
                 used,
                 heard: t.heard,
-                open: t.open,
-            };
+            });
         }
         left -= t.got;
     }
-    LastLine {
-        used,
-        heard: true,
-        open: true,
-    }
+    Ok(LastLine { used, heard: true })
 }
 
 // "a last line that is not empty may lack its line feed"
@@ -351,11 +329,16 @@ fn run<R: Read, W: Write>(
     ensures whole { 0 < length chunk.old → result.heard ≡ true → result.open ≡ true
         → AnswersWhole (R.remaining input.old) (W.contents output.old) (W.contents output.new) }
 {
-    let last = read_lines(input, output, state, table, buffer, out, chunk);
+    let Ok(last) = read_lines(input, output, state, table, buffer, out, chunk) else {
+        return Finish {
+            heard: false,
+            open: false,
+        };
+    };
     let used = last.used;
     if 0 < used {
         let held = hold_answer(state, table, &buffer[..], used, out, 0);
-        let wrote = write_held(output, &out[..], held);
+        let wrote = write_held(output, &out[..], held).is_ok();
         return Finish {
             heard: last.heard,
             open: wrote,
@@ -363,7 +346,7 @@ fn run<R: Read, W: Write>(
     }
     Finish {
         heard: last.heard,
-        open: last.open,
+        open: true,
     }
 }
 

@@ -1,17 +1,13 @@
 -- What a call that may ask is known to have. Assumes nothing.
+use Rattle.std.specs.Prelude.{Some, None, Ok, Err, is_some}
 use Prim.Native.Nat.{ℕ, ◌≤◌, ◌<◌}
 use mathlib.Core.Bool.{Bool, true, false, and-eq-true_iff}
-use mathlib.Core.Path.{◌≡◌, refl, sym, ap, ◌∙◌}
+use mathlib.Core.Path.{◌≡◌, refl, ap, ◌∙◌}
 use mathlib.Core.List.{List, ◌++◌, map}
 use native.Mathlib.Omega.{arith}
 use borrow.Author.Tests.{leb-true, ltb-true, le-leb, lt-leb, lt-ltb, le-ltb}
 use lib.Dec.{leb}
-use lib.IntN.{pos}
-use lib.ListN.{length, take, drop}
-use lib.Seq.{take_all}
-use mir.Facts.{to_z_pos}
-use mir.Syntax.{w64}
-use mir.Val.{to_z}
+use lib.ListN.{length, drop}
 use Rattle.rights.specs.Bytes.{all}
 use Rattle.rights.specs.How.Numbers.{Fits, view_of}
 use Rattle.rights.specs.Path.{Path}
@@ -26,14 +22,14 @@ use Rattle.rights.specs.Rights.{rights_on}
 use Rattle.rights.specs.Marks.{bit}
 use Rattle.rights.specs.How.Selection.{selection, Selects}
 use Rattle.rights.specs.Table.{table_ok, count, records}
-use Rattle.rights.specs.declared.path.Read.TheVariants.{At, Bad}
-use Rattle.rights.proofs.TableLaws.{both, table_few}
+use Rattle.rights.proofs.TableLaws.{both}
 use Rattle.rights.proofs.ListLaws.{all_at}
 use Rattle.rights.proofs.NodeLaws.{table_fits}
 use Rattle.rights.proofs.OwnNames.{own-passes}
 use Rattle.rights.proofs.PassLaws.{view-length}
 use Rattle.rights.proofs.SoundLaws.{policy_sound}
-use Rattle.trials.specs.Trials.{refused, not_well_formed, yes, either, path_code, word_code, asks, asks_rights, RightsTried, below, asks_nodes, SelectionTried}
+use Rattle.trials.specs.declared.TrialError.TheVariants.{NotWellFormed, NotAsked}
+use Rattle.trials.specs.Trials.{either, word_answer, asks, asks_rights, RightsAnswered, below, asks_nodes, SelectionAnswered}
 
 -- a checked policy is as long as it has to be
 pub policy_long : (p : List ℕ) → policy_ok p ≡ true → 0 < length p
@@ -82,69 +78,47 @@ nodes_fit p u t room shown e =
 
 -- Answers
 
--- a small number is its own answer
-pub counted : (n : ℕ) → n ≤ 16384 → to_z w64 n ≡ pos n
-counted n h = to_z_pos w64 (omega arith)
-
-either_read : {A : Type 0} (g : Got Path) (i : ℕ) (x y : A) → place_of g ≡ At i → either g x y ≡ x
+either_read : {A : Type 0} (g : Got Path) (i : ℕ) (x y : A) → place_of g ≡ Some i → either g x y ≡ x
 either_read (got p e) i x y h = refl
 either_read bad i x y h = absurd (let z : ◌≡◌ {A = ℕ} 0 1 = cc in omega arith)
 
-either_bad : {A : Type 0} (g : Got Path) (x y : A) → place_of g ≡ Bad → either g x y ≡ y
+either_bad : {A : Type 0} (g : Got Path) (x y : A) → place_of g ≡ None → either g x y ≡ y
 either_bad (got p e) x y h = absurd (let z : ◌≡◌ {A = ℕ} 0 1 = cc in omega arith)
 either_bad bad x y h = refl
 
-pub path_yes : (s : List ℕ) (i : ℕ) → place_of (path_of s) ≡ At i → pos 1 ≡ path_code s
-path_yes s i h = sym (either_read (path_of s) i (pos 1) (pos 0) h)
-
-pub path_no : (s : List ℕ) → place_of (path_of s) ≡ Bad → pos 0 ≡ path_code s
-path_no s h = sym (either_bad (path_of s) (pos 1) (pos 0) h)
-
-pub yes-is : (b : Bool) → b ≡ true → pos 1 ≡ yes b
-yes-is b e = rw e
-
-pub no_is : (b : Bool) → b ≡ false → pos 0 ≡ yes b
-no_is b e = rw e
+pub path_told : (g : Got Path) → is_some (place_of g) ≡ either g true false
+path_told (got p e) = refl
+path_told bad = refl
 
 module _ (p label : List ℕ) where
-  whole : take (length label) (drop 0 label) ≡ label
-  whole = take_all (length label) label (omega arith)
-
-  pub word_yes : policy_ok p ≡ true → policy_word (policy_of p) (take (length label) (drop 0 label)) ≡ true → pos 1 ≡ word_code p label
-  word_yes e h = let q : policy_word (policy_of p) label ≡ true = rw whole at h in rw (e, q)
-
-  pub word_no : policy_ok p ≡ true → policy_word (policy_of p) (take (length label) (drop 0 label)) ≡ false → pos 0 ≡ word_code p label
-  word_no e h = let q : policy_word (policy_of p) label ≡ false = rw whole at h in rw (e, q)
-
-  pub word_refused : policy_ok p ≡ false → refused ≡ word_code p label
-  word_refused e = rw e
+  pub word_told : policy_ok p ≡ true → (b : Bool) → b ≡ policy_word (policy_of p) label → Some b ≡ word_answer p label
+  word_told e b h = rw (e, h)
 
 module _ (p : List ℕ) (u : ℕ) (t : List ℕ) (before : List ℕ) where
   pub rights_done : asks_rights p u t (length before) ≡ true → (n : ℕ) → n ≡ count t → (after : List ℕ) → after ≡ rights_on (policy_of p) u (records t) ++ drop (count t) before
-      → RightsTried p u t before after (to_z w64 n)
-  rights_done e n q after h =
-      let g = rights_gives p u t (length before) e in
-      let f = table_few t (asks_gives p u t g.0).2 in
-      record { answer = rw (e, q) (counted (count t) f); out = rw e h }
+      → RightsAnswered p u t before after (Some n)
+  rights_done e n q after h = record { answer = rw (e, q); out = rw e h }
 
-  pub rights-refused : asks_rights p u t (length before) ≡ false → RightsTried p u t before before refused
+  pub rights-refused : asks_rights p u t (length before) ≡ false → RightsAnswered p u t before before None
   rights-refused e = record { answer = rw e; out = rw e }
 
   module _ (shown s : List ℕ) where
-    pub nodes_done : asks_nodes p u t shown (length before) ≡ true → (i : ℕ) → place_of (path_of s) ≡ At i → (own after : List ℕ) → Own p u own
-        → Selects (view_of t shown) (name_among p own) s before after → SelectionTried p u t shown s before after (to_z w64 (length shown))
+    pub nodes_done : asks_nodes p u t shown (length before) ≡ true → (i : ℕ) → place_of (path_of s) ≡ Some i → (own after : List ℕ) → Own p u own
+        → Selects (view_of t shown) (name_among p own) s before after → SelectionAnswered p u t shown s before after (Ok (length shown))
     nodes_done e i q own after o found =
-        let g = nodes_gives p u t (length before) shown e in
         let h = found ∙ ap (λ mine. map bit (selection s mine (view_of t shown)) ++ drop (length (view_of t shown)) before) (own-passes o) in
         record {
-          answer = rw (e, either_read (path_of s) i (pos (length shown)) not_well_formed q) (counted (length shown) g.1);
+          answer = rw (e, either_read (path_of s) i _ _ q);
           marks = rw (e, ← (view-length t shown), either_read (path_of s) i (map bit (selection s (passes_own (policy_of p) u) (view_of t shown)) ++ drop (length (view_of t shown)) before) before q) h;
         }
 
-    pub nodes_bad : asks_nodes p u t shown (length before) ≡ true → place_of (path_of s) ≡ Bad → SelectionTried p u t shown s before before not_well_formed
-    nodes_bad e q = record { answer = rw (e, either_bad (path_of s) (pos (length shown)) not_well_formed q); marks = rw (e, either_bad (path_of s) (map bit (selection s (passes_own (policy_of p) u) (view_of t shown)) ++ drop (length shown) before) before q) }
+    pub nodes_bad : asks_nodes p u t shown (length before) ≡ true → place_of (path_of s) ≡ None → SelectionAnswered p u t shown s before before (Err NotWellFormed)
+    nodes_bad e q = record {
+      answer = rw (e, either_bad (path_of s) _ _ q);
+      marks = rw (e, either_bad (path_of s) (map bit (selection s (passes_own (policy_of p) u) (view_of t shown)) ++ drop (length shown) before) before q);
+    }
 
-    pub nodes_refused : asks_nodes p u t shown (length before) ≡ false → SelectionTried p u t shown s before before refused
+    pub nodes_refused : asks_nodes p u t shown (length before) ≡ false → SelectionAnswered p u t shown s before before (Err NotAsked)
     nodes_refused e = record { answer = rw e; marks = rw e }
 
 module _ (p : List ℕ) (u : ℕ) (t : List ℕ) (room : ℕ) where

@@ -1,137 +1,106 @@
 #![tactic(auto)]
 // The lower crate for callers that have checked nothing: C programs (by crate trials_c), tests and benches. Each function checks all that it is lent first,
-// and answers a number: what was asked, or -1 where the bytes are no table or no policy, the subject is not declared or an area is too short.
-ghost use Rattle.std.specs.Prelude.{◌≡◌};
+// and says so where the bytes are no table or no policy, the subject is not declared or an area is too short.
+ghost use Rattle.std.specs.Prelude.{◌≡◌, ◌≤◌, true, false, length, IfSome, IfOk};
 ghost use Rattle.rights.specs.Bytes.{all};
+ghost use Rattle.rights.specs.PathReader.{path_of};
 ghost use Rattle.rights.specs.Table.{table_ok};
 ghost use Rattle.rights.specs.PolicyCheck.{policy_ok};
-ghost use Rattle.trials.specs.Trials.{yes, path_code, word_code, asks, asks_rights, below, RightsTried, asks_nodes, SelectionTried};
+ghost use Rattle.trials.specs.Trials.{either, word_answer, asks, asks_rights, below, RightsAnswered, asks_nodes, SelectionAnswered};
 
-use rights::bytes::wide;
 use rights::isa::{own_subjects, roles_of};
 use rights::limits::{RECORDS_MAX, SUBJECTS_MAX};
-use rights::path::{Read, check_path};
+use rights::nodes::Shown;
+use rights::path::check_path;
 use rights::policy::is_policy_word;
 use rights::policy_check::policy_ok;
 use rights::rights::rights_on;
 use rights::selection::select;
 use rights::table::{count_of, table_ok};
 
-// Whether s is a well-formed path: 1 or 0.
-pub fn trial_path(s: &[u8]) -> i64
-    ensures { result ≡ path_code s.now }
-{
-    let Read::At(_) = check_path(s) else {
-        return 0;
-    };
-    1
+// Why a path was not run.
+#[derive(Clone, Copy, Debug, PartialEq, Eq)]
+pub enum TrialError {
+    // The path is not well formed.
+    NotWellFormed,
+    // It was asked of something else than nodes of a table.
+    NotAsked,
 }
 
-// Whether t is a table: 1 or 0.
-pub fn trial_table(t: &[u8]) -> i64
-    ensures { result ≡ yes (table_ok t.now) }
+// Whether s is a well-formed path.
+pub fn trial_path(s: &[u8]) -> bool
+    ensures { result ≡ either (path_of s.now) true false }
 {
-    if table_ok(t) {
-        return 1;
-    }
-    0
+    check_path(s).is_some()
 }
 
-// Whether p is a policy: 1 or 0.
-pub fn trial_policy(p: &[u8]) -> i64
-    ensures { result ≡ yes (policy_ok p.now) }
+// Whether t is a table.
+pub fn trial_table(t: &[u8]) -> bool
+    ensures { result ≡ table_ok t.now }
 {
-    if policy_ok(p) {
-        return 1;
-    }
-    0
+    table_ok(t)
 }
 
-// Whether a label is a policy word: 1 or 0, or -1 where the bytes are no policy.
-pub fn trial_word(policy: &[u8], label: &[u8]) -> i64
-    ensures { result ≡ word_code policy.now label.now }
+// Whether p is a policy.
+pub fn trial_policy(p: &[u8]) -> bool
+    ensures { result ≡ policy_ok p.now }
 {
-    if policy_ok(policy) {
-        let n = label.len();
-        if is_policy_word(policy, label, 0, n) {
-            return 1;
-        }
-        return 0;
+    policy_ok(p)
+}
+
+// Whether a label is a policy word; nothing where the bytes are no policy.
+pub fn trial_word(policy: &[u8], label: &[u8]) -> Option<bool>
+    ensures { result ≡ word_answer policy.now label.now }
+{
+    if !policy_ok(policy) {
+        return None;
     }
-    -1
+    Some(is_policy_word(policy, label))
 }
 
 // Whether these are a policy, a subject of it and a table.
 fn may_ask(policy: &[u8], u: usize, table: &[u8]) -> bool
     ensures { result ≡ asks policy.now u table.now }
 {
-    if policy_ok(policy) {
-        if u < wide(policy[0]) {
-            return table_ok(table);
-        }
-    }
-    false
+    policy_ok(policy) && (u < usize::from(policy[0]) && table_ok(table))
 }
 
 // Whether they are, with room for a byte a node.
 fn may_ask_rights(policy: &[u8], u: usize, table: &[u8], room: usize) -> bool
     ensures { result ≡ asks_rights policy.now u table.now room }
 {
-    if may_ask(policy, u, table) {
-        return count_of(table) <= room;
-    }
-    false
+    may_ask(policy, u, table) && count_of(table) <= room
 }
 
-// The rights of subject u on each node of a table, one byte a node in out, and the number of nodes; or -1, and out as it was.
-pub fn trial_rights(policy: &[u8], u: usize, table: &[u8], out: &mut [u8]) -> i64
-    ensures { RightsTried policy.now u table.now out.old out.new result }
+// The rights of subject u on each node of a table, one byte a node in out, and the number of nodes; or nothing, and out as it was.
+pub fn trial_rights(policy: &[u8], u: usize, table: &[u8], out: &mut [u8]) -> Option<usize>
+    ensures tried { RightsAnswered policy.now u table.now out.old out.new result }
+    ensures few { IfSome result (λ n. n ≤ 16384) }
 {
-    if may_ask_rights(policy, u, table, out.len()) {
-        rights_on(policy, u, table, out);
-        let n = count_of(table);
-        return n as i64;
+    if !may_ask_rights(policy, u, table, out.len()) {
+        return None;
     }
-    -1
+    rights_on(policy, u, table, out);
+    Some(count_of(table))
 }
 
-// Whether a number is that of one of n records, hidden or not.
-fn is_below(x: u16, n: usize) -> bool
-    ensures { result ≡ below n x }
-{
-    x as usize % RECORDS_MAX < n
-}
-
-// Whether each number is.
+// Whether each number is that of one of n records, hidden or not.
 fn all_below(shown: &[u16], n: usize) -> bool
     ensures { result ≡ all (below n) shown.now }
 {
-    let mut i = 0;
-    while i < shown.len() {
-        if !is_below(shown[i], n) {
-            return false;
-        }
-        i += 1;
-    }
-    true
+    shown.iter().all(|x| usize::from(*x) % RECORDS_MAX < n)
 }
 
 // Whether they are, with at most 16,384 numbers of the table's records and room for a byte a number.
 fn may_select(policy: &[u8], u: usize, table: &[u8], shown: &[u16], room: usize) -> bool
     ensures { result ≡ asks_nodes policy.now u table.now shown.now room }
 {
-    if may_ask(policy, u, table) {
-        if shown.len() <= RECORDS_MAX {
-            if shown.len() <= room {
-                return all_below(shown, count_of(table));
-            }
-        }
-    }
-    false
+    may_ask(policy, u, table)
+        && (shown.len() <= RECORDS_MAX
+            && (shown.len() <= room && all_below(shown, count_of(table))))
 }
 
-// Which of the shown nodes a path selects, 1 or 0 in the first bytes of marks, and the number of shown nodes; or marks as it was, and -2 where the path
-// is not well formed, -1 where it was asked of something else than nodes of a table.
+// Which of the shown nodes a path selects, 1 or 0 in the first bytes of marks, and the number of shown nodes; or why not, and marks as it was.
 pub fn trial_select(
     policy: &[u8],
     u: usize,
@@ -139,19 +108,24 @@ pub fn trial_select(
     shown: &[u16],
     path: &[u8],
     marks: &mut [u8],
-) -> i64
-    ensures { SelectionTried policy.now u table.now shown.now path.now marks.old
+) -> Result<usize, TrialError>
+    ensures tried { SelectionAnswered policy.now u table.now shown.now path.now marks.old
         marks.new result }
+    ensures few { IfOk result (λ n. n ≤ 16384) }
 {
-    if may_select(policy, u, table, shown, marks.len()) {
-        let Read::At(_) = check_path(path) else {
-            return -2;
-        };
-        let roles = roles_of(policy, u);
-        let mut subjects = [0u8; SUBJECTS_MAX];
-        let m = own_subjects(policy, u, &roles, &mut subjects);
-        select(policy, &subjects[0..m], table, shown, path, marks);
-        return shown.len() as i64;
+    if !may_select(policy, u, table, shown, marks.len()) {
+        return Err(TrialError::NotAsked);
     }
-    -1
+    let Some(_) = check_path(path) else {
+        return Err(TrialError::NotWellFormed);
+    };
+    let roles = roles_of(policy, u);
+    let mut subjects = [0u8; SUBJECTS_MAX];
+    let m = own_subjects(policy, u, &roles, &mut subjects);
+    let nodes = Shown {
+        table,
+        numbers: shown,
+    };
+    select(policy, &subjects[0..m], &nodes, path, marks);
+    Ok(shown.len())
 }

@@ -7,7 +7,10 @@ use native.Mathlib.Omega.{arith}
 use lib.ListN.{length, get_or, take, drop}
 use lib.Seq.{get_or-drop, drop-drop}
 use lib.Dec.{eqb, leb, ltb}
-use borrow.Author.Tests.{ltb-true, ltb-false, leb-true, lt-ltb, le-ltb, eq-eqb, ne_eqb}
+use borrow.Author.Tests.{ltb-true, ltb-false, leb-true, lt-ltb, le-ltb}
+use Rattle.std.proofs.Common.{Ordering, Less, Equal, Greater}
+use Rattle.std.specs.Ordering.{MatchOrdering, is_lt, nat_cmp, ord_max}
+use Rattle.std.specs.Cmp.{ranks}
 use Rattle.rights.specs.Table.{level, count, capacity, records, table_ok}
 use Rattle.rights.specs.Limits.{records_max}
 use Rattle.rights.proofs.ListLaws.{by_case}
@@ -35,11 +38,14 @@ deepest_more m i j d l tree ej h ed el =
     let e : d ≡ deepest (chunks (m - j) (drop 32 (drop (i * 32) tree))) = rw (k, ← drop-drop 32 (i * 32) tree) at ed in
     rw (s, level_first (i * 32) tree, ← el, ← e)
 
-pub greater : (a b : ℕ) → a < b → b ≡ cond (ltb a b) b a
-greater a b h = rw (lt-ltb a b h)
+-- std's `max` of two levels is the deeper of them
+greater : (a b : ℕ) (o : Ordering) → MatchOrdering o (b < a) (b ≡ a) (a < b) → cond (is_lt o) a b ≡ cond (ltb a b) b a
+greater a b Less h = rw (le-ltb a b (omega arith))
+greater a b Equal h = rw (le-ltb a b (omega arith)) h
+greater a b Greater h = rw (lt-ltb a b h)
 
-pub not_greater : (a b : ℕ) → b ≤ a → a ≡ cond (ltb a b) b a
-not_greater a b h = rw (le-ltb a b h)
+pub max_deeper : (a b : ℕ) → ord_max nat_cmp a b ≡ cond (ltb a b) b a
+max_deeper a b = greater a b (nat_cmp b a) (ranks b a)
 
 -- no record is deeper than the deepest
 pub under-deepest : (m j : ℕ) (tree : List ℕ) → j < m → get_or tree (j * 32) 0 ≤ deepest (chunks m tree)
@@ -58,13 +64,6 @@ under-deepest (suc m) (suc j) tree h =
     (λ q. let k : deepest (chunks m (drop 32 tree)) < level (take 32 tree) = ltb-true (deepest (chunks m (drop 32 tree))) (level (take 32 tree)) q in rw q (omega (arith, ih, k)))
     (λ q. rw q ih))
 
--- one place
-pub mark_none : (b l d : ℕ) → b ≡ 0 → false ≡ (not (eqb b 0) && ltb 11 (l + d))
-mark_none b l d z = rw (eq-eqb b 0 z)
-
-pub mark_some : (b l d : ℕ) (v : Bool) → (b ≡ 0 → ⊥) → v ≡ ltb 11 (l + d) → v ≡ (not (eqb b 0) && ltb 11 (l + d))
-mark_some b l d v z e = rw (ne_eqb b 0 z) e
-
 -- a loop over the places
 module _ (deep n i : ℕ) (t ms : List ℕ) (inside : i < n) (many : n ≤ length ms) where
   place_step : too_deep deep (marks_of (drop i ms)) (chunks (n - i) (drop (4 + i * 32) t))
@@ -72,19 +71,36 @@ module _ (deep n i : ℕ) (t ms : List ℕ) (inside : i < n) (many : n ≤ lengt
   unfolding too_deep
   place_step = let h : i < length ms = omega arith in rw (chunks_cons n i t inside, marks_drop ms i h, level_first (4 + i * 32) t)
 
-  pub deep_stop : (not (eqb (get_or ms i 0) 0) && ltb 11 (get_or t (4 + i * 32) 0 + deep)) ≡ true → true ≡ too_deep deep (marks_of (drop i ms)) (chunks (n - i) (drop (4 + i * 32) t))
+  deep_stop : (not (eqb (get_or ms i 0) 0) && ltb 11 (get_or t (4 + i * 32) 0 + deep)) ≡ true → true ≡ too_deep deep (marks_of (drop i ms)) (chunks (n - i) (drop (4 + i * 32) t))
   deep_stop e = rw (place_step, e)
 
-  pub deep_step : (not (eqb (get_or ms i 0) 0) && ltb 11 (get_or t (4 + i * 32) 0 + deep)) ≡ false
+  deep_step : (not (eqb (get_or ms i 0) 0) && ltb 11 (get_or t (4 + i * 32) 0 + deep)) ≡ false
       → too_deep deep (marks_of (drop i ms)) (chunks (n - i) (drop (4 + i * 32) t)) ≡ too_deep deep (marks_of (drop (i + 1) ms)) (chunks (n - (i + 1)) (drop (4 + (i + 1) * 32) t))
   deep_step e = rw (place_step, e)
 
-pub deep_none : (deep n i : ℕ) (t ms : List ℕ) → n ≤ i → too_deep deep (marks_of (drop i ms)) (chunks (n - i) (drop (4 + i * 32) t)) ≡ false
+deep_none : (deep n i : ℕ) (t ms : List ℕ) → n ≤ i → too_deep deep (marks_of (drop i ms)) (chunks (n - i) (drop (4 + i * 32) t)) ≡ false
 unfolding chunks too_deep
 deep_none deep n i t ms h = let z : n - i ≡ 0 = omega arith in rw z
 
-pub deep_first : (deep n : ℕ) (t ms : List ℕ) → too_deep deep (marks_of ms) (chunks n (drop 4 t)) ≡ too_deep deep (marks_of (drop 0 ms)) (chunks (n - 0) (drop (4 + 0 * 32) t))
-deep_first deep n t ms = let z : n - 0 ≡ n = omega arith in rw z
+-- of all places, from what is known of each
+module _ (deep n : ℕ) (t ms : List ℕ) (many : n ≤ length ms) where
+  abbrev deep_at : ℕ → Bool
+  deep_at k = not (eqb (get_or ms k 0) 0) && ltb 11 (get_or t (4 + k * 32) 0 + deep)
+
+  none_deep : (r i : ℕ) → i + r ≡ n → ((k : ℕ) → k < n → deep_at k ≡ false) → too_deep deep (marks_of (drop i ms)) (chunks (n - i) (drop (4 + i * 32) t)) ≡ false
+  none_deep zero i e h = deep_none deep n i t ms (omega arith)
+  none_deep (suc r) i e h = deep_step deep n i t ms (omega arith) many (h i (omega arith)) ∙ none_deep r (i + 1) (omega arith) h
+
+  some_deep : (r i k : ℕ) → i + r ≡ k → k < n → deep_at k ≡ true → true ≡ too_deep deep (marks_of (drop i ms)) (chunks (n - i) (drop (4 + i * 32) t))
+  some_deep zero i k e l h = let z : i ≡ k = omega arith in deep_stop deep n i t ms (omega arith) many (rw z h)
+  some_deep (suc r) i k e l h =
+      by_case (deep_at i)
+      (λ q. deep_stop deep n i t ms (omega arith) many q)
+      (λ q. some_deep r (i + 1) k (omega arith) l h ∙ sym (deep_step deep n i t ms (omega arith) many q))
+
+  pub any_deep : (v : Bool) → ((k : ℕ) → k < n → v ≡ false → deep_at k ≡ false) → (v ≡ true → (k : ℕ) × (k < n) × (deep_at k ≡ true)) → v ≡ too_deep deep (marks_of ms) (chunks n (drop 4 t))
+  any_deep true never once = let y = once refl in let z : n - 0 ≡ n = omega arith in rw z at (some_deep y.0 0 y.0 (omega arith) y.1 y.2)
+  any_deep false never once = let z : n - 0 ≡ n = omega arith in sym (rw z at (none_deep n 0 (omega arith) (λ k l. never k l refl)))
 
 -- no level above 11 comes at a place that is done
 or-false : (a b : Bool) → a || b ≡ false → (a ≡ false) × (b ≡ false)

@@ -33,15 +33,15 @@ set-bit x false e = rw e
 
 -- a slot a level: what f says of the node above
 module _ (lv : ℕ → ℕ) (f : ℕ → Bool) where
-  abbrev pub Slots : List ℕ → ℕ → Type 0
-  Slots a i = (l : ℕ) → l < 16 → get_or a l 0 ≡ bit (at_parent false (nearest_first (λ k. (lv k, f k)) i) l)
+  abbrev pub Slots : List Bool → ℕ → Type 0
+  Slots a i = (l : ℕ) → l < 16 → get_or a l false ≡ at_parent false (nearest_first (λ k. (lv k, f k)) i) l
 
-  pub slots_first : Slots (replicate 16 0) 0
+  pub slots_first : Slots (replicate 16 false) 0
   unfolding at_parent nearest_first
-  slots_first l h = get_or-replicate 16 l 0 0 h
+  slots_first l h = get_or-replicate 16 l false false h
 
-  pub slots_next : (a a' : List ℕ) (i k u : ℕ) → k ≡ lv i → u ≡ bit (f i) → Slots a i
-      → ((l : ℕ) → l < 16 → get_or a' l 0 ≡ cond (ltb k l) u (get_or a l 0)) → Slots a' (i + 1)
+  pub slots_next : (a a' : List Bool) (i k : ℕ) (u : Bool) → k ≡ lv i → u ≡ f i → Slots a i
+      → ((l : ℕ) → l < 16 → get_or a' l false ≡ cond (ltb k l) u (get_or a l false)) → Slots a' (i + 1)
   unfolding at_parent nearest_first
   slots_next a a' i k u p q inv g l h =
       g l h
@@ -73,7 +73,7 @@ module _ (c : Change) (word : List ℕ → Bool) (t ss xs m d₀ : List ℕ) (n 
   abbrev pub insert_in : ℕ → Bool
   insert_in k = holds insert (get_or ss k 0)
 
-  pub record Marking (o a b : List ℕ) (j i : ℕ) : Type 0 where
+  pub record Marking (o : List ℕ) (a b : List Bool) (j i : ℕ) : Type 0 where
     pub within : i ≤ n
     pub behind : j ≤ i
     pub size : length o ≡ length d₀
@@ -94,32 +94,36 @@ module _ (c : Change) (word : List ℕ → Bool) (t ss xs m d₀ : List ℕ) (n 
       → z ≡ is_done_at i
   found i k s on sel up may z p q r e u w x = x ∙ rw (p, q, r, e, u, w) refl
 
-  pub marking_more : (o a b a' b' : List ℕ) (j i k e v u w : ℕ) (on sel up may z : Bool) → i < n → n ≤ length d₀
+  pub marking_more : (o : List ℕ) (a b a' b' : List Bool) (j i k e v : ℕ) (on sel z : Bool) → i < n → n ≤ length d₀
       → get_or t (4 + i * 32) 0 < 12
       → k ≡ get_or t (4 + i * 32) 0
       → Marking o a b j i
       → on ≡ (ltb j (length xs) && eqb (get_or xs j 0 % 16384) i)
       → sel ≡ (on && not (eqb (get_or m j 0) 0))
-      → up ≡ not (eqb (get_or a k 0) 0)
-      → may ≡ not (eqb (get_or b k 0) 0)
-      → z ≡ does c (record { level = get_or t (4 + i * 32) 0; rights = get_or ss i 0; shown = on; selected = sel; word = word (label (record_at t i)); parent_selected = up; parent_insert = may })
+      → z ≡ does c (record {
+        level = get_or t (4 + i * 32) 0;
+        rights = get_or ss i 0;
+        shown = on;
+        selected = sel;
+        word = word (label (record_at t i));
+        parent_selected = get_or a k false;
+        parent_insert = get_or b k false;
+      })
       → v ≡ bit z
-      → u ≡ bit sel
-      → w ≡ bit (insert_in i)
-      → (length a' ≡ 16) × ((l : ℕ) → l < 16 → get_or a' l 0 ≡ cond (ltb k l) u (get_or a l 0))
-      → (length b' ≡ 16) × ((l : ℕ) → l < 16 → get_or b' l 0 ≡ cond (ltb k l) w (get_or b l 0))
+      → (length a' ≡ 16) × ((l : ℕ) → l < 16 → get_or a' l false ≡ cond (ltb k l) sel (get_or a l false))
+      → (length b' ≡ 16) × ((l : ℕ) → l < 16 → get_or b' l false ≡ cond (ltb k l) (insert_in i) (get_or b l false))
       → e ≡ cond on (j + 1) j
       → Marking (set o i v) a' b' e (i + 1)
-  marking_more o a b a' b' j i k e v u w on sel up may z h hd low ke g p q r x y vv uu ww ga gb ee =
+  marking_more o a b a' b' j i k e v on sel z h hd low ke g p q y vv ga gb ee =
       let lv : get_or t (4 + i * 32) 0 ≡ level_in i = sym (level_at_lem t i) in
       let kl : k ≡ level_in i = ke ∙ lv in
       let size = g.size in
       let sn = mark_next i shown_marks (shown_by_numbers (drop e xs) (n - (i + 1)) (i + 1)) on (g.shown-is ∙ shown-step xs n j i e on h p ee) in
       let mn = mark_next i selected_marks (by_numbers (drop e xs) (drop e (marks_of m)) (n - (i + 1)) (i + 1)) sel (g.selected-is ∙ marks_step xs n j i e on h p ee m sel q) in
       let se : sel ≡ selected_in i = sym mn.0 in
-      let ue : up ≡ at_parent false (nearest_first (λ j. (level_in j, selected_in j)) i) (level_in i) = r ∙ set-bit _ _ (g.chosen_is k (omega arith)) ∙ ap (at_parent false (nearest_first (λ j. (level_in j, selected_in j)) i)) kl in
-      let me : may ≡ at_parent false (nearest_first (λ j. (level_in j, insert_in j)) i) (level_in i) = x ∙ set-bit _ _ (g.granting_is k (omega arith)) ∙ ap (at_parent false (nearest_first (λ j. (level_in j, insert_in j)) i)) kl in
-      let f : z ≡ is_done_at i = found i (get_or t (4 + i * 32) 0) (get_or ss i 0) on sel up may z lv refl (sym sn.0) se ue me y in
+      let ue : get_or a k false ≡ at_parent false (nearest_first (λ j. (level_in j, selected_in j)) i) (level_in i) = g.chosen_is k (omega arith) ∙ ap (at_parent false (nearest_first (λ j. (level_in j, selected_in j)) i)) kl in
+      let me : get_or b k false ≡ at_parent false (nearest_first (λ j. (level_in j, insert_in j)) i) (level_in i) = g.granting_is k (omega arith) ∙ ap (at_parent false (nearest_first (λ j. (level_in j, insert_in j)) i)) kl in
+      let f : z ≡ is_done_at i = found i (get_or t (4 + i * 32) 0) (get_or ss i 0) on sel _ _ z lv refl (sym sn.0) se ue me y in
       record {
         within = omega arith;
         behind = by_case on (λ o. omega (arith, g.behind, rw o at ee)) (λ o. omega (arith, g.behind, rw o at ee));
@@ -127,8 +131,8 @@ module _ (c : Change) (word : List ℕ → Bool) (t ss xs m d₀ : List ℕ) (n 
         after = push_drop o i v d₀ g.after;
         chosen = ga.0;
         granting = gb.0;
-        chosen_is = slots_next level_in selected_in a a' i k u kl (uu ∙ ap bit se) g.chosen_is ga.1;
-        granting_is = slots_next level_in insert_in b b' i k w kl ww g.granting_is gb.1;
+        chosen_is = slots_next level_in selected_in a a' i k sel kl se g.chosen_is ga.1;
+        granting_is = slots_next level_in insert_in b b' i k (insert_in i) kl refl g.granting_is gb.1;
         shown-is = sn.1;
         selected-is = mn.1;
         written =
@@ -138,7 +142,7 @@ module _ (c : Change) (word : List ℕ → Bool) (t ss xs m d₀ : List ℕ) (n 
             ∙ g.written;
       }
 
-  pub marking_start : Marking d₀ (replicate 16 0) (replicate 16 0) 0 0
+  pub marking_start : Marking d₀ (replicate 16 false) (replicate 16 false) 0 0
   marking_start =
       record {
         within = omega arith;
@@ -154,7 +158,7 @@ module _ (c : Change) (word : List ℕ → Bool) (t ss xs m d₀ : List ℕ) (n 
         written = ap (λ k. map bit (each_from is_done_at 0 k)) (sub-zero n);
       }
 
-  marking_end : (o a b : List ℕ) (j i : ℕ) → n ≤ i → Marking o a b j i → o ≡ map bit (each_from is_done_at 0 n) ++ drop n d₀
+  marking_end : (o : List ℕ) (a b : List Bool) (j i : ℕ) → n ≤ i → Marking o a b j i → o ≡ map bit (each_from is_done_at 0 n) ++ drop n d₀
   marking_end o a b j i h g =
       let k = g.within in
       let e : i ≡ n = omega arith in
@@ -162,7 +166,7 @@ module _ (c : Change) (word : List ℕ → Bool) (t ss xs m d₀ : List ℕ) (n 
       (ap (λ l. take n o ++ map bit l) (sym (each_end is_done_at n n (omega arith))) ∙ (rw e at g.written))
       (rw e at g.after)
 
-  pub marking_gives : (o a b : List ℕ) (j i : ℕ) → n ≡ count t → n ≤ i → Marking o a b j i
+  pub marking_gives : (o : List ℕ) (a b : List Bool) (j i : ℕ) → n ≡ count t → n ≤ i → Marking o a b j i
       → o ≡ map bit (done_marks c word t ss (shown_by_numbers xs (count t) 0) (by_numbers xs (marks_of m) (count t) 0)) ++ drop (count t) d₀
   marking_gives o a b j i e h g = rw e at (marking_end o a b j i h g)
 

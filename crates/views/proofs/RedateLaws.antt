@@ -1,10 +1,10 @@
 -- Laws of a window that is set. Assumes nothing.
 use mathlib.Core.Path.{◌≡◌, sym, ap, ap₂, ◌∙◌}
 use mathlib.Core.List.{List, ◌++◌, append_assoc}
-use mathlib.Core.Bool.{true, ◌&&◌, and-eq-true_iff}
+use mathlib.Core.Bool.{true, ◌&&◌}
 use Prim.Native.Nat.{ℕ, ◌+◌, ◌*◌, ◌/◌, ◌%◌, ◌≤◌, ◌<◌}
 use native.Mathlib.Omega.{arith}
-use borrow.Author.Tests.{leb-true, lt-ltb}
+use borrow.Author.Tests.{lt-ltb}
 use lib.Dec.{leb}
 use lib.ListN.{length, get_or, take, drop}
 use lib.Seq.{take_at, drop_at, take-take, drop-drop, length-take-le, get_or-take, get_or-drop}
@@ -16,10 +16,6 @@ use Rattle.rights.proofs.TableLaws.{label_sound, record_levels, record_parts, sp
 use Rattle.rights.proofs.TextLaws.{drop-take}
 use Rattle.views.specs.Change.{redate}
 use Rattle.views.specs.Shown.{in_window}
-
--- the days of a window
-pub window-days : (f l : ℕ) → window_ok f l ≡ true → (f ≤ 366) × (l ≤ 366)
-window-days f l e = let w = simp and-eq-true_iff at e in (leb-true _ _ w.0.1, leb-true _ _ w.1.0.1)
 
 module _ (f l : ℕ) (r : List ℕ) (full : length r ≡ 32) where
   apart : redate f l r ≡ take 26 r ++ (window_bytes f l ++ drop 30 r)

@@ -62,6 +62,10 @@ module _ {E : Type 0} (lev : E → ℕ) where
     unfolding remove drop_below
     pass_kept k h d u = rw (d, le-ltb cut (lev x) h, drop-none k (remove lev (drop 1 ms) t) (under-remove k (drop 1 ms) t u))
 
+-- the first of the records that are left is at a level below 12
+pub first_low : (n i : ℕ) (t : List ℕ) → i < n → Under level 12 (chunks (n - i) (drop (4 + i * 32) t)) → get_or t (4 + i * 32) 0 < 12
+first_low n i t inside u = rw (← level_first (4 + i * 32) t) (rw (chunks_cons n i t inside) at u).0
+
 -- what one record does
 module _ (n i cut w : ℕ) (t ms : List ℕ) (inside : i < n) (many : n ≤ length ms) where
   low_next : Under level 12 (chunks (n - i) (drop (4 + i * 32) t)) → Under level 12 (chunks (n - (i + 1)) (drop (4 + (i + 1) * 32) t))

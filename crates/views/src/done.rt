@@ -8,19 +8,13 @@ ghost use Rattle.rights.specs.Limits.{records_max};
 ghost use Rattle.views.specs.Done.{does};
 ghost use Rattle.views.specs.How.Numbers.{DoneWhere, DoneBy, asks_word};
 
-use rights::bytes::wide;
 use rights::limits::{COUNT_BYTES, DELETE, INSERT, READ, RECORD_BYTES, RECORDS_MAX, UPDATE};
-use rights::marks::{is_set, mark_of};
-use rights::nodes::wide_number;
 use rights::policy::unmark_words;
 use rights::rights::holds_right;
 use rights::table::count_of;
 
-// Slots a level, 0 to 15: more than there are levels.
-const LAST_SLOT: usize = 15;
-
 // The seven changes.
-#[derive(Clone, Copy)]
+#[derive(Clone, Copy, PartialEq, Eq, Debug)]
 pub enum Change {
     Rename,
     Update,
@@ -35,110 +29,68 @@ pub enum Change {
 fn stands_at(shown: &[u16], j: usize, i: usize) -> bool
     ensures { result ≡ (ltb j (length shown.now) && eqb (get_or shown.now j 0 % records_max) i) }
 {
-    if shown.len() <= j {
-        return false;
-    }
-    wide_number(shown[j]) % RECORDS_MAX == i
+    j < shown.len() && usize::from(shown[j]) % RECORDS_MAX == i
 }
 
 // Whether shown node j stands here and is marked.
 fn is_marked(marks: &[u8], j: usize, stands: bool) -> bool
     ensures { result ≡ (stands && not (eqb (get_or marks.now j 0) 0)) }
 {
-    if marks.len() <= j {
-        return false;
-    }
-    if stands {
-        return is_set(marks[j]);
-    }
-    false
+    stands && j < marks.len() && marks[j] != 0
 }
 
-// One further if it stands here.
-fn next_of(j: usize, stands: bool, n: usize) -> usize
-    requires { j < n }
-    ensures { result ≡ cond stands (j + 1) j }
-{
-    if stands {
-        return j + 1;
-    }
-    j
-}
-
-// Writes v at every deeper level than this one: what the children of a node at this level find.
-fn pass_down(slots: &mut [u8; 16], level: usize, v: u8)
-    requires { length slots.old ≡ 16 }
+// Writes v at every deeper level than this one: what the children of a node at this level find. 16 slots are more than
+// there are levels.
+fn pass_down(slots: &mut [bool; 16], level: usize, v: bool)
+    requires { (level < 16) × (length slots.old ≡ 16) }
     ensures { (length slots.new ≡ 16) × ((l : ℕ) → l < 16
-        → get_or slots.new l 0 ≡ cond (ltb level l) v (get_or slots.old l 0)) }
+        → get_or slots.new l false ≡ cond (ltb level l) v (get_or slots.old l false)) }
 {
-    let mut l = level;
-    while l < LAST_SLOT {
-        l += 1;
-        slots[l] = v;
-    }
+    slots[level + 1..].fill(v);
 }
 
-// Whether both hold.
-fn both(a: bool, b: bool) -> bool
-    ensures { result ≡ (a && b) }
-{
-    if a {
-        return b;
-    }
-    false
-}
-
-// Whether a node at this level is not the root, and may be done otherwise.
-fn is_inner(may: bool, level: u8) -> bool
-    ensures { result ≡ (may && not (eqb level 0)) }
-{
-    if may {
-        return level != 0;
-    }
-    false
-}
-
-// Whether a node with these rights is concerned and may be renamed, whatever its label.
-fn is_renamable(concerned: bool, set: u8) -> bool
-    ensures { result ≡ (concerned && (holds read set && holds update set)) }
-{
-    if concerned {
-        if holds_right(set, READ) {
-            return holds_right(set, UPDATE);
-        }
-    }
-    false
-}
-
-// Whether the change does a node, whatever its label: the user's rights on it, its level, whether it is shown and selected; whether its parent is
-// selected (chosen) and the user has insert on its parent (granting).
-fn is_done(
-    change: Change,
-    set: u8,
+// What a change asks of a node, but for its label: its level, the user's rights on it, whether it is shown, whether it
+// is selected; of its parent, whether it is selected and whether the user has insert on it.
+// Kept: its bools are facts of the node, and none says whether another field counts.
+#[derive(Clone, Copy)]
+struct Asked {
     level: u8,
+    rights: u8,
     shown: bool,
     selected: bool,
-    chosen: bool,
-    granting: bool,
-) -> bool
-    ensures { result ≡ does change (record {
-      level = level;
-      rights = set;
-      shown = shown;
-      selected = selected;
-      word = false;
-      parent_selected = chosen;
-      parent_insert = granting;
-    }) }
-{
-    match change {
-        Change::Rename => is_renamable(selected, set),
-        Change::Update => is_renamable(both(shown, chosen), set),
-        Change::Append => both(selected, holds_right(set, INSERT)),
-        Change::Before => both(selected, is_inner(granting, level)),
-        Change::After => both(selected, is_inner(granting, level)),
-        Change::Remove => both(selected, is_inner(holds_right(set, DELETE), level)),
-        Change::Window => is_inner(is_renamable(selected, set), level),
+    parent_selected: bool,
+    parent_insert: bool,
+}
+
+impl Asked {
+    // Whether the node may be renamed.
+    fn is_renamable(self) -> bool
+        ensures { result ≡ (holds read self.rights && holds update self.rights) }
+    {
+        holds_right(self.rights, READ) && holds_right(self.rights, UPDATE)
+    }
+
+    // Whether the change does the node.
+    fn is_done(self, change: Change) -> bool
+        ensures { result ≡ does change (record {
+          level = self.level;
+          rights = self.rights;
+          shown = self.shown;
+          selected = self.selected;
+          word = false;
+          parent_selected = self.parent_selected;
+          parent_insert = self.parent_insert;
+        }) }
+    {
+        let inner = self.level != 0;
+        match change {
+            Change::Rename => self.selected && self.is_renamable(),
+            Change::Update => self.shown && self.parent_selected && self.is_renamable(),
+            Change::Append => self.selected && holds_right(self.rights, INSERT),
+            Change::Before | Change::After => self.selected && self.parent_insert && inner,
+            Change::Remove => self.selected && holds_right(self.rights, DELETE) && inner,
+            Change::Window => self.selected && self.is_renamable() && inner,
+        }
     }
 }
 
@@ -156,25 +108,27 @@ fn mark_by_rights(
     ensures { DoneWhere change (λ _. false) table.now rights.now shown.now
         marks.now done.old done.new }
 {
-    let n = count_of(table);
-    let mut chosen = [0u8; 16];
-    let mut granting = [0u8; 16];
+    let mut chosen = [false; 16];
+    let mut granting = [false; 16];
     let mut j = 0;
-    let mut i = 0;
-    while i < n {
+    for i in 0..count_of(table) {
         let level = table[COUNT_BYTES + i * RECORD_BYTES];
-        let l = wide(level);
+        let l = usize::from(level);
         let set = rights[i];
         let on = stands_at(shown, j, i);
         let sel = is_marked(marks, j, on);
-        let up = is_set(chosen[l]);
-        let may = is_set(granting[l]);
-        let does = is_done(change, set, level, on, sel, up, may);
-        done[i] = mark_of(does);
-        pass_down(&mut chosen, l, mark_of(sel));
-        pass_down(&mut granting, l, mark_of(holds_right(set, INSERT)));
-        j = next_of(j, on, n);
-        i += 1;
+        let node = Asked {
+            level,
+            rights: set,
+            shown: on,
+            selected: sel,
+            parent_selected: chosen[l],
+            parent_insert: granting[l],
+        };
+        done[i] = u8::from(node.is_done(change));
+        pass_down(&mut chosen, l, sel);
+        pass_down(&mut granting, l, holds_right(set, INSERT));
+        j += usize::from(on);
     }
 }
 
@@ -182,15 +136,7 @@ fn mark_by_rights(
 fn asks_word(change: Change) -> bool
     ensures { result ≡ asks_word change }
 {
-    match change {
-        Change::Rename => true,
-        Change::Update => true,
-        Change::Append => false,
-        Change::Before => false,
-        Change::After => false,
-        Change::Remove => false,
-        Change::Window => false,
-    }
+    matches!(change, Change::Rename | Change::Update)
 }
 
 // Writes for each record whether the change does it. `shown` has the numbers of the shown nodes, in document order, and `marks` says which of

@@ -5,7 +5,6 @@ ghost use Rattle.rights.specs.Marks.{marks_of};
 ghost use Rattle.views.specs.Change.{rename, changed};
 ghost use Rattle.views.specs.How.Pass.{overwritten};
 
-use rights::bytes::copy;
 use rights::limits::{COUNT_BYTES, RECORD_BYTES};
 use rights::table::count_of;
 
@@ -18,8 +17,8 @@ fn overwrite_one(t: &mut [u8], marks: &[u8], x: &[u8], k: usize, i: usize)
         × (drop (4 + i * 32 + 32) t.new ≡ drop (4 + i * 32 + 32) t.old) }
 {
     if marks[i] != 0 {
-        let at = COUNT_BYTES + i * RECORD_BYTES;
-        copy(t, at + k, x, 0, x.len());
+        let at = COUNT_BYTES + i * RECORD_BYTES + k;
+        t[at..at + x.len()].copy_from_slice(x);
     }
 }
 
@@ -29,10 +28,7 @@ pub(crate) fn overwrite_marked(t: &mut [u8], marks: &[u8], x: &[u8], k: usize)
     ensures { t.new ≡ changed t.old
         (rename level (overwritten k x.now) (marks_of marks.now) (records t.old)) }
 {
-    let n = count_of(t);
-    let mut i = 0;
-    while i < n {
+    for i in 0..count_of(t) {
         overwrite_one(t, marks, x, k, i);
-        i += 1;
     }
 }

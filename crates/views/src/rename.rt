@@ -1,5 +1,5 @@
 // rename and update (document 01, "Changes"), window (document 02, card 7): the records that are done get another label, or another window; in place, in one pass.
-ghost use Rattle.std.specs.Prelude.{◌≡◌, true, ◌+◌, ◌-◌, ◌≤◌, length, take, drop};
+ghost use Rattle.std.specs.Prelude.{◌≡◌, true, ◌≤◌, length};
 ghost use Rattle.rights.specs.Limits.{label_max};
 ghost use Rattle.rights.specs.Table.{count, records, window_ok, table_ok};
 ghost use Rattle.rights.specs.Marks.{marks_of};
@@ -9,15 +9,14 @@ use crate::overwrite::overwrite_marked;
 use rights::limits::{RECORD_BYTES, SPARE_AT, WINDOW_AT};
 use rights::record::put_label;
 
-// Stores the label s[from..to] in every marked record: its length and its padded bytes, which are bytes 1 to 25 of a record.
-pub fn rename_marked(t: &mut [u8], marks: &[u8], s: &[u8], from: usize, to: usize)
-    requires t_value { (table_ok t.old ≡ true) × (count t.old ≤ length marks.now) }
-    requires from_le_to { (from ≤ to) × (to ≤ from + label_max) × (to ≤ length s.now) }
+// Stores a label in every marked record: its length and its padded bytes, which are bytes 1 to 25 of a record.
+pub fn rename_marked(t: &mut [u8], marks: &[u8], label: &[u8])
+    requires { (table_ok t.old ≡ true) × (count t.old ≤ length marks.now) × (length label.now ≤ label_max) }
     ensures { t.new ≡ changed t.old
-        (renamed (take (to - from) (drop from s.now)) (marks_of marks.now) (records t.old)) }
+        (renamed label.now (marks_of marks.now) (records t.old)) }
 {
     let mut record = [0; RECORD_BYTES];
-    put_label(&mut record, 0, s, from, to - from);
+    put_label(&mut record, 0, label);
     overwrite_marked(t, marks, &record[1..SPARE_AT], 1);
 }
 
@@ -27,11 +26,8 @@ pub fn redate_marked(t: &mut [u8], marks: &[u8], first: usize, last: usize)
     ensures { t.new ≡ changed t.old
         (redated first last (marks_of marks.now) (records t.old)) }
 {
-    let window = [
-        (first % 256) as u8,
-        (first / 256) as u8,
-        (last % 256) as u8,
-        (last / 256) as u8,
-    ];
+    let [a, b] = (first as u16).to_le_bytes();
+    let [c, d] = (last as u16).to_le_bytes();
+    let window = [a, b, c, d];
     overwrite_marked(t, marks, &window, WINDOW_AT);
 }

@@ -7,7 +7,6 @@ ghost use Rattle.rights.specs.Table.{rec_at, level, records_from, count, table_o
 ghost use Rattle.views.specs.Shown.{grants, in_window, stored_from, stored};
 ghost use Rattle.views.specs.How.Numbers.{depth_after, numbers_from, shown_numbers};
 
-use rights::bytes::wide;
 use rights::limits::{COUNT_BYTES, POSITION, READ, RECORD_BYTES, RECORDS_MAX, WINDOW_AT};
 use rights::rights::holds_right;
 use rights::table::{count_of, day_at};
@@ -16,10 +15,7 @@ use rights::table::{count_of, day_at};
 fn is_granted(set: u8) -> bool
     ensures { result ≡ grants set }
 {
-    if holds_right(set, READ) {
-        return true;
-    }
-    holds_right(set, POSITION)
+    holds_right(set, READ) || holds_right(set, POSITION)
 }
 
 // Whether the window of the record at byte `at` takes in a day.
@@ -27,10 +23,7 @@ fn in_window(table: &[u8], at: usize, day: usize) -> bool
     requires { at + 32 ≤ length table.now }
     ensures { result ≡ in_window day (rec_at table.now at) }
 {
-    if day < day_at(table, at + WINDOW_AT) {
-        return false;
-    }
-    day <= day_at(table, at + WINDOW_AT + 2)
+    day_at(table, at + WINDOW_AT) <= day && day <= day_at(table, at + WINDOW_AT + 2)
 }
 
 // Whether the node of the record at byte `at` is shown on a day, below a shown chain of this depth.
@@ -38,24 +31,15 @@ fn is_shown(depth: usize, table: &[u8], at: usize, set: u8, day: usize) -> bool
     requires { at + 32 ≤ length table.now }
     ensures { result ≡ ((grants set && in_window day (rec_at table.now at)) && leb (level (rec_at table.now at)) depth) }
 {
-    if depth < wide(table[at]) {
-        return false;
-    }
-    if is_granted(set) {
-        return in_window(table, at, day);
-    }
-    false
+    usize::from(table[at]) <= depth && is_granted(set) && in_window(table, at, day)
 }
 
 // The depth of the shown chain after a node at this level.
 fn depth_after(depth: usize, level: u8, shown: bool) -> usize
     ensures { result ≡ depth_after depth level shown }
 {
-    let l = wide(level);
-    if shown {
-        return l + 1;
-    }
-    if depth < l { depth } else { l }
+    let level = usize::from(level);
+    if shown { level + 1 } else { depth.min(level) }
 }
 
 // The number that stands for a shown node: its record's, and 16,384 more where the label stays hidden.
@@ -63,23 +47,12 @@ fn number_of(i: usize, set: u8) -> u16
     requires { i < records_max }
     ensures { result ≡ cond (holds read set) i (i + records_max) }
 {
-    let readable = holds_right(set, READ);
-    if readable {
-        return i as u16;
-    }
-    (i + RECORDS_MAX) as u16
-}
-
-// Puts x at place k if it is to be kept, and returns the next free place.
-fn put(shown: &mut [u16], k: usize, keep: bool, x: u16) -> usize
-    requires { k < length shown.old }
-    ensures { (result ≡ cond keep (k + 1) k) × (shown.new ≡ cond keep (set shown.old k x) shown.old) }
-{
-    if keep {
-        shown[k] = x;
-        return k + 1;
-    }
-    k
+    let number = if holds_right(set, READ) {
+        i
+    } else {
+        i + RECORDS_MAX
+    };
+    number as u16
 }
 
 // The shown ones of the first n nodes, by the depth of the shown chain.
@@ -91,15 +64,14 @@ fn show_first(table: &[u8], n: usize, rights: &[u8], day: usize, shown: &mut [u1
 {
     let mut depth = 0;
     let mut k = 0;
-    let mut i = 0;
-    while i < n {
+    for i in 0..n {
         let at = COUNT_BYTES + i * RECORD_BYTES;
-        let set = rights[i];
-        let on = is_shown(depth, table, at, set, day);
-        let x = number_of(i, set);
-        k = put(shown, k, on, x);
+        let on = is_shown(depth, table, at, rights[i], day);
         depth = depth_after(depth, table[at], on);
-        i += 1;
+        if on {
+            shown[k] = number_of(i, rights[i]);
+            k += 1;
+        }
     }
     k
 }

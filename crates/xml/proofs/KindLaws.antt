@@ -1,4 +1,5 @@
 -- What a pass tells: whether the tokens nest and the closing tags of the window match, and what the nodes are like. Assumes nothing.
+use Rattle.std.specs.Prelude.{Option, Some, None}
 use Prim.Native.Nat.{ℕ, suc, ◌+◌, ◌-◌, ◌<◌}
 use mathlib.Core.Path.{◌≡◌, refl, sym, ◌∙◌}
 use mathlib.Core.List.{List, [], ◌∷◌}
@@ -13,8 +14,6 @@ use Rattle.rights.proofs.ListLaws.{by_case}
 use Rattle.rights.proofs.TableLaws.{both}
 use Rattle.xml.specs.How.Tokens.{Token, opens, closes, empty, text, Tokens, got, bad, with_token, nested_in, nested, same_bytes, token_nodes}
 use Rattle.xml.specs.How.Scan.{tallied, tally_all, no_nodes, in_window, matched_within, kind_within, opened, closes_it, told, told_by}
-use Rattle.xml.specs.declared.document.Kind.{Kind}
-use Rattle.xml.specs.declared.document.Kind.TheVariants.{NoDocument, Document}
 use Rattle.xml.specs.declared.document.Tally.{Tally}
 
 -- The names of the window are those of the open elements: the name of level l among them
@@ -75,8 +74,8 @@ module _ (low : ℕ) (names : List (List ℕ)) where
       (λ e. rw e)
 
 -- what is told of the tokens that follow, where these elements are open
-abbrev told_of : ℕ → ℕ → List (List ℕ) → Tally → List Token → Kind
-told_of low w ns t xs = cond (nested_in (length ns) xs && matched_within low w ns xs) (Document (tally_all t (token_nodes (length ns) xs))) NoDocument
+abbrev told_of : ℕ → ℕ → List (List ℕ) → Tally → List Token → Option Tally
+told_of low w ns t xs = cond (nested_in (length ns) xs && matched_within low w ns xs) (Some (tally_all t (token_nodes (length ns) xs))) None
 
 told_is : (low : ℕ) (names : List (List ℕ)) (ns : List (List ℕ)) (t : Tally) (xs : List Token) → Open low names ns → told low names (length ns) t xs ≡ told_of low (length names) ns t xs
 unfolding told nested_in matched_within tally_all token_nodes
@@ -109,17 +108,17 @@ module _ (low : ℕ) (names : List (List ℕ)) (n : List ℕ) where
   kind_empty bad = refl
 
 module _ (low w : ℕ) (n : List ℕ) where
-  pub kind_closes : (T : Tokens) → kind_within low w (with_token (closes n) T) ≡ NoDocument
+  pub kind_closes : (T : Tokens) → kind_within low w (with_token (closes n) T) ≡ None
   unfolding nested
   kind_closes (got xs) = refl
   kind_closes bad = refl
 
-  pub kind_text : (T : Tokens) → kind_within low w (with_token (text n) T) ≡ NoDocument
+  pub kind_text : (T : Tokens) → kind_within low w (with_token (text n) T) ≡ None
   unfolding nested
   kind_text (got xs) = refl
   kind_text bad = refl
 
-pub kind_none : (low w : ℕ) → kind_within low w (got []) ≡ NoDocument
+pub kind_none : (low w : ℕ) → kind_within low w (got []) ≡ None
 unfolding nested
 kind_none low w = refl
 

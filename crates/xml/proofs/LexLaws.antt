@@ -1,4 +1,5 @@
 -- One token at the front of the bytes: what stands there where one is read, and that it is read where it stands. Assumes nothing.
+use Rattle.std.specs.Prelude.{Option, Some, None}
 use Prim.Native.Nat.{ℕ, ◌+◌, ◌≤◌, ◌<◌}
 use mathlib.Core.Path.{◌≡◌, refl, sym, ap, ◌∙◌}
 use mathlib.Core.List.{List, [], ◌∷◌, ◌++◌}
@@ -12,8 +13,6 @@ use borrow.Author.Tests.{ne_eqb, eqb-true, leb-true}
 use Rattle.rights.specs.Bytes.{byte_at, all, run}
 use Rattle.rights.specs.Labels.{label_byte}
 use Rattle.rights.specs.PathReader.{run_at}
-use Rattle.rights.specs.declared.path.Read.{Read}
-use Rattle.rights.specs.declared.path.Read.TheVariants.{At, Bad}
 use Rattle.rights.proofs.ListLaws.{by_case}
 use Rattle.rights.proofs.PathTexts.{and_left, and_right, cond_elim, Reads, reads_byte, reads_take, run-all, run_length, run_over, byte_after, byte_here}
 use Rattle.rights.proofs.TextLaws.{drop-take}
@@ -66,7 +65,7 @@ record LabelAt (s : List ℕ) (at e : ℕ) : Type 0 where
   there : Reads s at label e
   named : drop at (take e s) ≡ label
 
-label_there : (s : List ℕ) (at e : ℕ) → label_end s at ≡ At e → LabelAt s at e
+label_there : (s : List ℕ) (at e : ℕ) → label_end s at ≡ Some e → LabelAt s at e
 unfolding label_end
 label_there s at e =
     let n : ℕ = run_at label_byte s at in
@@ -87,9 +86,9 @@ cond-is : {A : Type 0} (P : A → Type 0) {x y : A} (b : Bool) → (b ≡ true �
 cond-is P true f g = f refl
 cond-is P false f g = g refl
 
-after_is : {A : Type 0} (P : A → Type 0) {b : A} (f : ℕ → A) (r : Read) → ((e : ℕ) → r ≡ At e → P (f e)) → P b → P (r and_then (b, f))
-after_is P f (At e) h g = h e refl
-after_is P f Bad h g = g
+after_is : {A : Type 0} (P : A → Type 0) {b : A} (f : ℕ → A) (r : Option ℕ) → ((e : ℕ) → r ≡ Some e → P (f e)) → P b → P (r and_then (b, f))
+after_is P f (Some e) h g = h e refl
+after_is P f None h g = g
 
 -- What is read says of the bytes after k blanks: a token stands there, m bytes with the blanks, or no byte is left
 abbrev pub Says : ℕ → List ℕ → Lexed → Type 0

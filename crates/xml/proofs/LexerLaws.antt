@@ -1,4 +1,5 @@
 -- Tokens by their places in the bytes, case by case, as the code goes through them. Assumes nothing.
+use Rattle.std.specs.Prelude.{Some, None}
 use Prim.Native.Nat.{ℕ, suc, ◌+◌, ◌-◌, ◌≤◌, ◌<◌}
 use mathlib.Core.Path.{◌≡◌, sym, ap, ◌∙◌}
 use mathlib.Core.List.{List}
@@ -12,7 +13,6 @@ use Rattle.rights.specs.Bytes.{run, byte_at}
 use Rattle.rights.specs.Labels.{label_byte}
 use Rattle.rights.specs.PathReader.{run_at}
 use Rattle.rights.specs.How.Reading.{Ends}
-use Rattle.rights.specs.declared.path.Read.TheVariants.{At, Bad as Unread}
 use Rattle.rights.proofs.ListLaws.{by_case}
 use Rattle.rights.proofs.TableLaws.{both}
 use Rattle.rights.proofs.PathLaws.{inside}
@@ -30,19 +30,19 @@ module _ (s : List ℕ) (i j : ℕ) where
   run_from : (f : ℕ → Bool) → run_at f (drop i s) j ≡ run_at f s (i + j)
   run_from f = rw (drop-drop j i s)
 
-  pub label-none : label_end s (i + j) ≡ Unread → label_end (drop i s) j ≡ Unread
+  pub label-none : label_end s (i + j) ≡ None → label_end (drop i s) j ≡ None
   unfolding label_end
   label-none e =
       rw (run_from label_byte)
       (by_case (leb 1 (run_at label_byte s (i + j)) && leb (run_at label_byte s (i + j)) 24) (λ q. absurd (let u = rw q at e in let z : ◌≡◌ {A = ℕ} 0 1 = cc in omega arith)) (λ q. rw q))
 
   pub record Labelled (e : ℕ) : Type 0 where
-    pub there : label_end (drop i s) j ≡ At (e - i)
+    pub there : label_end (drop i s) j ≡ Some (e - i)
     pub run : e ≡ i + j + run_at label_byte s (i + j)
     pub some : i + j < e
     pub most : e ≤ i + j + 24
 
-  pub labelled : (e : ℕ) → label_end s (i + j) ≡ At e → Labelled e
+  pub labelled : (e : ℕ) → label_end s (i + j) ≡ Some e → Labelled e
   unfolding label_end
   labelled e p =
       by_case (leb 1 (run_at label_byte s (i + j)) && leb (run_at label_byte s (i + j)) 24)
@@ -76,14 +76,14 @@ lexed_bad want s i h = record { is = λ at l. h (i - at); on = tt }
 module _ (s : List ℕ) (i : ℕ) where
   -- `</`
 
-  pub closing_unnamed : label_end s (i + 2) ≡ Unread → LexedAs closing s i Bad
+  pub closing_unnamed : label_end s (i + 2) ≡ None → LexedAs closing s i Bad
   closing_unnamed e = lexed_bad closing s i (λ k. rw (label-none s i 2 e))
 
-  module _ (e : ℕ) (p : label_end s (i + 2) ≡ At e) where
+  module _ (e : ℕ) (p : label_end s (i + 2) ≡ Some e) where
     pub closing_unended : eqb (byte_at s e) 62 ≡ false → LexedAs closing s i Bad
     closing_unended q = let l = labelled s i 2 e p in lexed_bad closing s i (λ k. rw (l.there, byte_from s i e (omega arith), q))
 
-    pub closing_read : eqb (byte_at s e) 62 ≡ true → LexedAs closing s i (Closes (i + 2) e (e + 1))
+    pub closing_read : eqb (byte_at s e) 62 ≡ true → LexedAs closing s i (Closes (record { start = i + 2; end = e; next = e + 1 }))
     closing_read q =
         let l = labelled s i 2 e p in
         let w = inside s e 62 (omega arith) (eqb-true _ _ q) in
@@ -96,10 +96,10 @@ module _ (s : List ℕ) (i : ℕ) where
 
   -- `<`
 
-  pub opening_unnamed : label_end s (i + 1) ≡ Unread → LexedAs opening s i Bad
+  pub opening_unnamed : label_end s (i + 1) ≡ None → LexedAs opening s i Bad
   opening_unnamed e = lexed_bad opening s i (λ k. rw (label-none s i 1 e))
 
-  module _ (e : ℕ) (p : label_end s (i + 1) ≡ At e) where
+  module _ (e : ℕ) (p : label_end s (i + 1) ≡ Some e) where
     pub opening_unstarted : name_start (byte_at s (i + 1)) ≡ false → LexedAs opening s i Bad
     opening_unstarted q = let l = labelled s i 1 e p in lexed_bad opening s i (λ k. rw (l.there, get_or-drop i s 1 0, q))
 
@@ -107,7 +107,7 @@ module _ (s : List ℕ) (i : ℕ) where
       next_byte : byte_at (drop i s) (e - i + 1) ≡ byte_at s (e + 1)
       next_byte = let l = labelled s i 1 e p in let z : e - i + 1 ≡ e + 1 - i = omega arith in rw z (byte_from s i (e + 1) (omega arith))
 
-      pub opening_read : eqb (byte_at s e) 62 ≡ true → LexedAs opening s i (Opens (i + 1) e (e + 1))
+      pub opening_read : eqb (byte_at s e) 62 ≡ true → LexedAs opening s i (Opens (record { start = i + 1; end = e; next = e + 1 }))
       opening_read q =
           let l = labelled s i 1 e p in
           let w = inside s e 62 (omega arith) (eqb-true _ _ q) in
@@ -127,7 +127,7 @@ module _ (s : List ℕ) (i : ℕ) where
           opening_unended r =
               let l = labelled s i 1 e p in lexed_bad opening s i (λ k. rw (l.there, get_or-drop i s 1 0, n, byte_from s i e (omega arith), o, q, next_byte, r))
 
-          pub opening_empty : eqb (byte_at s (e + 1)) 62 ≡ true → LexedAs opening s i (Empty (i + 1) e (e + 2))
+          pub opening_empty : eqb (byte_at s (e + 1)) 62 ≡ true → LexedAs opening s i (Empty (record { start = i + 1; end = e; next = e + 2 }))
           opening_empty r =
               let l = labelled s i 1 e p in
               let w = inside s (e + 1) 62 (omega arith) (eqb-true _ _ r) in
@@ -140,10 +140,10 @@ module _ (s : List ℕ) (i : ℕ) where
 
   -- a text
 
-  pub texting-none : label_end s i ≡ Unread → LexedAs texting s i Bad
+  pub texting-none : label_end s i ≡ None → LexedAs texting s i Bad
   texting-none e = let z : i ≡ i + 0 = omega arith in lexed_bad texting s i (λ k. rw (label-none s i 0 (ap (label_end s) (sym z) ∙ e)))
 
-  module _ (e t : ℕ) (p : label_end s i ≡ At e) (w : Ends blank_byte s e t) where
+  module _ (e t : ℕ) (p : label_end s i ≡ Some e) (w : Ends blank_byte s e t) where
     abbrev there : Labelled s i 0 e
     there = let z : i + 0 ≡ i = omega arith in labelled s i 0 e (ap (label_end s) z ∙ p)
 
@@ -157,7 +157,7 @@ module _ (s : List ℕ) (i : ℕ) where
     pub texting_unended : eqb (byte_at s t) 60 ≡ false → LexedAs texting s i Bad
     texting_unended q = let l = there in let h = w.from in lexed_bad texting s i (λ k. rw (l.there, behind, byte_from s i t (omega arith), q))
 
-    pub texting_read : eqb (byte_at s t) 60 ≡ true → LexedAs texting s i (Label i e t)
+    pub texting_read : eqb (byte_at s t) 60 ≡ true → LexedAs texting s i (Label (record { start = i; end = e; next = t }))
     texting_read q =
         let l = there in
         let f = w.from in
@@ -184,10 +184,10 @@ module _ (s : List ℕ) (at i : ℕ) (w : Ends blank_byte s at i) where
   lex_end h = record { is = blanks ∙ rw (drop_of_length-le s h); on = tt }
 
   placed : (r : Lexeme) → Placed s i r → Placed s at r
-  placed (Opens a e t) p = spot_from w.from p
-  placed (Closes a e t) p = spot_from w.from p
-  placed (Empty a e t) p = spot_from w.from p
-  placed (Label a e t) p = spot_from w.from p
+  placed (Opens v) p = spot_from w.from p
+  placed (Closes v) p = spot_from w.from p
+  placed (Empty v) p = spot_from w.from p
+  placed (Label v) p = spot_from w.from p
   placed End p = tt
   placed Bad p = tt
 

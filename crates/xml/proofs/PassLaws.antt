@@ -1,4 +1,5 @@
 -- A whole pass, by the first token. Assumes nothing.
+use Rattle.std.specs.Prelude.{Option, None}
 use Prim.Native.Nat.{ℕ, zero, suc, ◌-◌, ◌≤◌, ◌<◌}
 use mathlib.Core.Path.{◌≡◌, refl, sym, ap, ◌∙◌}
 use mathlib.Core.List.{List, ◌∷◌, map}
@@ -6,11 +7,11 @@ use native.Mathlib.Omega.{arith}
 use lib.ListN.{length, get_or, drop, replicate, length-replicate}
 use Rattle.rights.specs.Nodes.{node}
 use Rattle.xml.specs.How.Tokens.{Token, opens, closes, empty, text, token, lex, Tokens, with_token, tokens_from, tokens}
-use Rattle.xml.specs.How.Lexer.{between, Spot, LexedAt}
-use Rattle.xml.specs.How.Scan.{tallied, no_nodes, kind_within, name_at, told_at, Ready}
+use Rattle.xml.specs.How.Lexer.{name_in, Spot, LexedAt}
+use Rattle.xml.specs.How.Scan.{tallied, no_nodes, kind_within, told_by, name_at, told_at, Ready}
+use Rattle.xml.specs.declared.lexer.Span.{Span}
+use Rattle.xml.specs.declared.lexer.Lexeme.{Lexeme}
 use Rattle.xml.specs.declared.lexer.Lexeme.TheVariants.{Opens, Closes, Empty, Label, End, Bad}
-use Rattle.xml.specs.declared.document.Kind.{Kind}
-use Rattle.xml.specs.declared.document.Kind.TheVariants.{NoDocument}
 use Rattle.xml.specs.declared.document.Tally.{Tally}
 use Rattle.xml.proofs.ScanLaws.{named}
 use Rattle.xml.proofs.KindLaws.{kind_opens, kind_empty, kind_closes, kind_text, kind_none, root_open}
@@ -30,44 +31,62 @@ module _ (s : List ℕ) (low w : ℕ) where
   unfolding tokens_from
   first x t e = let z : t - 0 ≡ t = omega arith in rw (e, z)
 
-  pub pass_end : LexedAt s 0 End → NoDocument ≡ kind_within low w (tokens s)
+  pass_end : LexedAt s 0 End → None ≡ kind_within low w (tokens s)
   unfolding tokens_from
   pass_end l = rw l.is (sym (kind_none low w))
 
-  pub pass_bad : LexedAt s 0 Bad → NoDocument ≡ kind_within low w (tokens s)
+  pass_bad : LexedAt s 0 Bad → None ≡ kind_within low w (tokens s)
   unfolding tokens_from
   pass_bad l = rw l.is
 
-  module _ (a e t : ℕ) where
+  module _ (v : Span) where
     abbrev name : List ℕ
-    name = between s a e
+    name = name_in s v
 
     abbrev rest : Tokens
-    rest = tokens_from (length s) (drop t s)
+    rest = tokens_from (length s) (drop v.next s)
 
-    pub pass_closes : LexedAt s 0 (Closes a e t) → NoDocument ≡ kind_within low w (tokens s)
-    pass_closes l = rw (first (closes name) t l.is) (sym (kind_closes low w name rest))
+    pass_closes : LexedAt s 0 (Closes v) → None ≡ kind_within low w (tokens s)
+    pass_closes l = rw (first (closes name) v.next l.is) (sym (kind_closes low w name rest))
 
-    pub pass_label : LexedAt s 0 (Label a e t) → NoDocument ≡ kind_within low w (tokens s)
-    pass_label l = rw (first (text name) t l.is) (sym (kind_text low w name rest))
+    pass_label : LexedAt s 0 (Label v) → None ≡ kind_within low w (tokens s)
+    pass_label l = rw (first (text name) v.next l.is) (sym (kind_text low w name rest))
 
-    module _ (tally : Tally) (c : tally ≡ tallied no_nodes (node 0 name)) where
-      pub root_ready : Spot s 0 a e t → (d : ℕ) → d ≤ 1 → Ready s (replicate w a) (record { at = t; depth = d; tally = tally })
-      root_ready p d h = record { within = p.within; depth = omega arith; nodes = rw c (omega arith); before = λ k. below w a t k (omega arith) }
+    names : Spot s 0 v.start v.end v.next → map (name_at s) (replicate w v.start) ≡ replicate w name
+    names p = map-replicate (name_at s) w v.start ∙ ap (replicate w) (sym (named s v.start v.end p.run))
 
-      names : Spot s 0 a e t → map (name_at s) (replicate w a) ≡ replicate w name
-      names p = map-replicate (name_at s) w a ∙ ap (replicate w) (sym (named s a e p.run))
+    -- what stands behind a root's tag, where d elements are open
+    pub record Root (d : ℕ) : Type 0 where
+      pub spot : Spot s 0 v.start v.end v.next
+      pub few : d ≤ 1
+      pub told : kind_within low w (tokens s) ≡ told_by low (replicate w name) d (tallied no_nodes (node 0 name)) rest
 
-      pub pass_opens : LexedAt s 0 (Opens a e t) → (r : Kind) → ((f : ℕ) → length s - t < f → r ≡ told_at s low (replicate w a) f (record { at = t; depth = 1; tally = tally })) → r ≡ kind_within low w (tokens s)
-      pass_opens l r h =
-          let p = l.on in
-          let k = kind_opens low (replicate w name) name rest (root_open low w name) in
-          h (length s) (omega arith)
-          ∙ rw (names p, c, first (opens name) t l.is) (sym (rw (length-replicate {A = List ℕ} w name) at k))
+    pub root_opens : LexedAt s 0 (Opens v) → Root 1
+    root_opens l =
+        let k = kind_opens low (replicate w name) name rest (root_open low w name) in
+        record { spot = l.on; few = omega arith; told = rw (first (opens name) v.next l.is) (rw (length-replicate {A = List ℕ} w name) at k) }
 
-      pub pass_empty : LexedAt s 0 (Empty a e t) → (r : Kind) → ((f : ℕ) → length s - t < f → r ≡ told_at s low (replicate w a) f (record { at = t; depth = 0; tally = tally })) → r ≡ kind_within low w (tokens s)
-      pass_empty l r h =
-          let p = l.on in
-          let k = kind_empty low (replicate w name) name rest in
-          h (length s) (omega arith)
-          ∙ rw (names p, c, first (empty name) t l.is) (sym (rw (length-replicate {A = List ℕ} w name) at k))
+    pub root_empty : LexedAt s 0 (Empty v) → Root 0
+    root_empty l =
+        let k = kind_empty low (replicate w name) name rest in
+        record { spot = l.on; few = omega arith; told = rw (first (empty name) v.next l.is) (rw (length-replicate {A = List ℕ} w name) at k) }
+
+    module _ {d : ℕ} (r : Root d) (tally : Tally) (c : tally ≡ tallied no_nodes (node 0 name)) where
+      pub root_ready : Ready s (replicate w v.start) (record { at = v.next; depth = d; tally = tally })
+      root_ready =
+          let p = r.spot in
+          let h = r.few in
+          record { within = p.within; depth = omega arith; nodes = rw c (omega arith); before = λ k. below w v.start v.next k (omega arith) }
+
+      pub pass_root : (t : Option Tally) → ((f : ℕ) → length s - v.next < f → t ≡ told_at s low (replicate w v.start) f (record { at = v.next; depth = d; tally = tally }))
+          → t ≡ kind_within low w (tokens s)
+      pass_root t h = let p = r.spot in h (length s) (omega arith) ∙ rw (names p, c) (sym r.told)
+
+  -- any other first token
+  pub no_root : (r : Lexeme) → LexedAt s 0 r → ((v : Span) → r ≡ Opens v → ⊥) → ((v : Span) → r ≡ Empty v → ⊥) → None ≡ kind_within low w (tokens s)
+  no_root (Opens v) l o e = absurd (o v refl)
+  no_root (Closes v) l o e = pass_closes v l
+  no_root (Empty v) l o e = absurd (e v refl)
+  no_root (Label v) l o e = pass_label v l
+  no_root End l o e = pass_end l
+  no_root Bad l o e = pass_bad l

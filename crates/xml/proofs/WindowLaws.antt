@@ -1,4 +1,5 @@
 -- Nested tokens match exactly if they match in each window up to the deepest level; what the tally of the nodes is. Assumes nothing.
+use Rattle.std.specs.Prelude.{Option, Some, None, is_some}
 use Prim.Native.Nat.{ℕ, zero, suc, ◌+◌, ◌-◌, ◌*◌, ◌≤◌, ◌<◌, max}
 use mathlib.Core.Path.{◌≡◌, refl, sym, ap, ◌∙◌}
 use mathlib.Core.List.{List, [], ◌∷◌}
@@ -15,8 +16,6 @@ use Rattle.rights.proofs.TableLaws.{both}
 use Rattle.xml.specs.How.Tokens.{Token, opens, closes, empty, text, Tokens, got, bad, tokens, nested, same_bytes, matched_in, token_nodes, good_tokens, nodes_of_tokens, is_document, document_nodes}
 use Rattle.xml.specs.How.Loading.{deepest, is_restricted, tally_of, document_kind}
 use Rattle.xml.specs.How.Scan.{tallied, tally_all, no_nodes, in_window, matched_within, window, kind_within, FirstWindow}
-use Rattle.xml.specs.declared.document.Kind.{Kind}
-use Rattle.xml.specs.declared.document.Kind.TheVariants.{NoDocument, Document}
 use Rattle.xml.specs.declared.document.Tally.{Tally}
 
 -- two windows, one after the other
@@ -122,36 +121,34 @@ module _ (s : List ℕ) (deep : ℕ) where
   pub matched_first : Matched 0
   matched_first xs f = f.matches
 
-  module _ (low : ℕ) (kind : Kind) (k : kind ≡ kind_within low window (tokens s)) where
-    kind-of : (xs : List Token) → FirstWindow s deep xs → kind ≡ cond (matched_within low window [] xs) (Document (tally_all no_nodes (token_nodes 0 xs))) NoDocument
+  module _ (low : ℕ) (kind : Option Tally) (k : kind ≡ kind_within low window (tokens s)) where
+    kind-of : (xs : List Token) → FirstWindow s deep xs → kind ≡ cond (matched_within low window [] xs) (Some (tally_all no_nodes (token_nodes 0 xs))) None
     kind-of xs f = k ∙ rw (f.read, f.nests)
 
-    pub matched_none : kind ≡ NoDocument → (xs : List Token) → FirstWindow s deep xs → false ≡ matched_in [] xs
+    pub matched_none : is_some kind ≡ false → (xs : List Token) → FirstWindow s deep xs → false ≡ matched_in [] xs
     matched_none e xs f =
-        let q = sym e ∙ kind-of xs f in
         by_case (matched_in [] xs)
-        (λ b. absurd (let r = rw (matched_every low window [] xs b) at q in let z : ◌≡◌ {A = ℕ} 0 1 = cc in omega arith))
+        (λ b. absurd (let r = rw (kind-of xs f, matched_every low window [] xs b) at e in let z : ◌≡◌ {A = ℕ} 0 1 = cc in omega arith))
         (λ b. sym b)
 
-    pub matched_next : (before : ℕ) → low ≡ before + window → Matched before → (t : Tally) → kind ≡ Document t → Matched low
-    matched_next before z m t e xs f =
-        let q = sym e ∙ kind-of xs f in
+    pub matched_next : (before : ℕ) → low ≡ before + window → Matched before → is_some kind ≡ true → Matched low
+    matched_next before z m e xs f =
         let here = rw (← z) at (m xs f) in
         by_case (matched_within low window [] xs)
         (λ b. matched_split low window [] xs ∙ rw (here, b))
-        (λ b. absurd (let r = rw b at q in let y : ◌≡◌ {A = ℕ} 0 1 = cc in omega arith))
+        (λ b. absurd (let r = rw (kind-of xs f, b) at e in let y : ◌≡◌ {A = ℕ} 0 1 = cc in omega arith))
 
   pub matched_last : (low : ℕ) → low ≤ deep → deep - low < window → Matched low → (xs : List Token) → FirstWindow s deep xs → true ≡ matched_in [] xs
   matched_last low h l m xs f = let d = f.deep_is in sym (m xs f) ∙ matched_whole (low + window) [] xs (omega arith) (omega arith)
 
 -- The answer
 
-module _ (s : List ℕ) (kind : Kind) (k : kind ≡ kind_within 0 window (tokens s)) where
-  pub no_document_lem : kind ≡ NoDocument → NoDocument ≡ document_kind s
+module _ (s : List ℕ) (kind : Option Tally) (k : kind ≡ kind_within 0 window (tokens s)) where
+  pub no_document_lem : kind ≡ None → None ≡ document_kind s
   unfolding document_kind is_document document_nodes
   no_document_lem e = go (tokens s) (sym k ∙ e)
     where
-      go : (T : Tokens) → kind_within 0 window T ≡ NoDocument → NoDocument ≡ cond (good_tokens T) (Document (tally_of (nodes_of_tokens T))) NoDocument
+      go : (T : Tokens) → kind_within 0 window T ≡ None → None ≡ cond (good_tokens T) (Some (tally_of (nodes_of_tokens T))) None
       go (got xs) q =
           by_case (nested xs)
           (λ n. by_case (matched_in [] xs)
@@ -160,11 +157,11 @@ module _ (s : List ℕ) (kind : Kind) (k : kind ≡ kind_within 0 window (tokens
           (λ n. rw n)
       go bad q = refl
 
-  module _ (t : Tally) (e : kind ≡ Document t) where
+  module _ (t : Tally) (e : kind ≡ Some t) where
     pub first_window : (xs : List Token) × FirstWindow s t.deepest xs × (t ≡ tally_of (token_nodes 0 xs))
     first_window = go (tokens s) refl (sym k ∙ e)
       where
-        go : (T : Tokens) → tokens s ≡ T → kind_within 0 window T ≡ Document t → (xs : List Token) × FirstWindow s t.deepest xs × (t ≡ tally_of (token_nodes 0 xs))
+        go : (T : Tokens) → tokens s ≡ T → kind_within 0 window T ≡ Some t → (xs : List Token) × FirstWindow s t.deepest xs × (t ≡ tally_of (token_nodes 0 xs))
         go (got xs) r q =
             by_case (nested xs)
             (λ n. by_case (matched_within 0 window [] xs)
@@ -177,7 +174,7 @@ module _ (s : List ℕ) (kind : Kind) (k : kind ≡ kind_within 0 window (tokens
             (λ n. absurd (let q' = rw n at q in let z : ◌≡◌ {A = ℕ} 0 1 = cc in omega arith))
         go bad r q = absurd (let z : ◌≡◌ {A = ℕ} 0 1 = cc in omega arith)
 
-    pub document_is : (b : Bool) → ((xs : List Token) → FirstWindow s t.deepest xs → b ≡ matched_in [] xs) → document_kind s ≡ cond b (Document t) NoDocument
+    pub document_is : (b : Bool) → ((xs : List Token) → FirstWindow s t.deepest xs → b ≡ matched_in [] xs) → document_kind s ≡ cond b (Some t) None
     unfolding document_kind is_document document_nodes
     document_is b h = let w = first_window in let f = w.1 in rw (f.read, f.nests, ← h w.0 f, ← w.2)
 
@@ -187,13 +184,13 @@ pub record Told (s : List ℕ) (t : Tally) : Type 0 where
   pub document : is_document s ≡ true
   pub tally : t ≡ tally_of (document_nodes s)
 
-pub told_document : (s : List ℕ) (t : Tally) → Document t ≡ document_kind s → Told s t
+pub told_document : (s : List ℕ) (t : Tally) → Some t ≡ document_kind s → Told s t
 unfolding document_kind
 told_document s t e =
     by_case (is_document s)
     (λ b. let q = rw b at e in record { document = b; tally = cc })
     (λ b. absurd (let q = rw b at e in let z : ◌≡◌ {A = ℕ} 0 1 = cc in omega arith))
 
-pub told_no_document : (s : List ℕ) → NoDocument ≡ document_kind s → is_document s ≡ false
+pub told_no_document : (s : List ℕ) → None ≡ document_kind s → is_document s ≡ false
 unfolding document_kind
 told_no_document s e = by_case (is_document s) (λ b. absurd (let q = rw b at e in let z : ◌≡◌ {A = ℕ} 0 1 = cc in omega arith)) (λ b. b)

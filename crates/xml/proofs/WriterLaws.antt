@@ -1,8 +1,10 @@
 -- One token after the other, each with the records of its nodes, and the table in the end. Assumes nothing.
+use Rattle.std.specs.Prelude.{None}
 use Prim.Native.Nat.{ℕ, zero, suc, ◌+◌, ◌-◌, ◌*◌, ◌^◌, ◌≤◌, ◌<◌}
 use mathlib.Core.Path.{◌≡◌, refl, sym, ap, ◌∙◌}
 use mathlib.Core.Bool.{true}
 use mathlib.Core.List.{List, [], ◌∷◌, ◌++◌, map, map-append, append-nil, append_assoc}
+use mathlib.Core.Logic.{◌⊎◌, ⊎_elim}
 use native.Mathlib.Omega.{arith}
 use native.Mathlib.Nat.{le-max_left, le-max_right}
 use native.Mathlib.Numerals.{add-one}
@@ -17,13 +19,15 @@ use Rattle.rights.proofs.PlaceLaws.{zero_replicate}
 use Rattle.rights.proofs.RecordLaws.{pasted-pasted, pasted-none}
 use Rattle.rights.proofs.RecordOfLaws.{length_node}
 use Rattle.rights.proofs.TableLaws.{both}
+use Rattle.xml.proofs.LexerLaws.{lexed_is}
 use Rattle.xml.specs.How.Tokens.{Token, opens, closes, empty, text, Lexed, token, end, bad, lex, Tokens, got, with_token, on_lexed, tokens_from, tokens, token_nodes, good_tokens, nodes_of_tokens, is_document, document_nodes}
-use Rattle.xml.specs.How.Lexer.{between, Spot, LexedAt}
+use Rattle.xml.specs.How.Lexer.{name_in, Spot, LexedAt}
 use Rattle.xml.specs.How.Loading.{deepest, Writable}
 use Rattle.xml.specs.How.Writer.{own_nodes, depth_after, on_token, nodes_from, all_nodes, nodes_at, records_of, Counted, Roomy, Put, PutNext, PutAll}
+use Rattle.xml.specs.declared.lexer.Span.{Span}
+use Rattle.xml.specs.declared.lexer.Lexeme.{Lexeme}
 use Rattle.xml.specs.declared.lexer.Lexeme.TheVariants.{Opens, Closes, Empty, Label, End, Bad}
 use Rattle.xml.specs.declared.writer.Cursor.{Cursor}
-use Rattle.xml.specs.declared.writer.Next.TheVariants.{Over}
 
 -- One token
 
@@ -38,47 +42,47 @@ module _ {s table : List ℕ} {p : Cursor} (here : Roomy s table p) where
   none_left x e o zero = refl
   none_left x e o (suc f) = rw e (o (λ y n. own_nodes p.depth y ++ nodes_from f (depth_after p.depth y) (drop n (drop p.at s))))
 
-  pub put_end : LexedAt s p.at End → PutNext s table table p Over
+  put_end : LexedAt s p.at End → PutNext s table table p None
   put_end l = (refl, none_left end l.is (λ h. refl))
 
-  pub put_bad : LexedAt s p.at Bad → PutNext s table table p Over
+  put_bad : LexedAt s p.at Bad → PutNext s table table p None
   put_bad l = (refl, none_left bad l.is (λ h. refl))
 
-  module _ (a e t : ℕ) where
+  module _ (v : Span) where
     abbrev name : List ℕ
-    name = between s a e
+    name = name_in s v
 
     abbrev own : List Node
     own = node p.depth name ∷ []
 
     -- what putting its record asks
     abbrev Room : Type 0
-    Room = (4 + p.nodes * 32 + 32 ≤ length table) × (p.depth ≤ 11) × (a ≤ e) × (e ≤ a + 24) × (e ≤ length s)
+    Room = (4 + p.nodes * 32 + 32 ≤ length table) × (p.depth ≤ 11) × (v.start ≤ v.end) × (v.end ≤ v.start + 24) × (v.end ≤ length s)
 
-    room_for : (x : Token) → lex (drop p.at s) ≡ token x (t - p.at) → own_nodes p.depth x ≡ own → Spot s p.at a e t → Room
+    room_for : (x : Token) → lex (drop p.at s) ≡ token x (v.next - p.at) → own_nodes p.depth x ≡ own → Spot s p.at v.start v.end v.next → Room
     room_for x i o w =
-        let r = here.room (node p.depth name) (nodes_from here.fuel (depth_after p.depth x) (drop t s)) (read_token x t here.fuel (omega arith) i ∙ rw o) in
+        let r = here.room (node p.depth name) (nodes_from here.fuel (depth_after p.depth x) (drop v.next s)) (read_token x v.next here.fuel (omega arith) i ∙ rw o) in
         (r.0, r.1, omega arith, omega arith, omega arith)
 
-    pub room_opens : LexedAt s p.at (Opens a e t) → Room
+    pub room_opens : LexedAt s p.at (Opens v) → Room
     room_opens l = room_for (opens name) l.is refl l.on
 
-    pub room_empty : LexedAt s p.at (Empty a e t) → Room
+    room_empty : LexedAt s p.at (Empty v) → Room
     room_empty l = room_for (empty name) l.is refl l.on
 
-    pub room_label : LexedAt s p.at (Label a e t) → Room
+    room_label : LexedAt s p.at (Label v) → Room
     room_label l = room_for (text name) l.is refl l.on
 
-    put-own : (x : Token) → lex (drop p.at s) ≡ token x (t - p.at) → own_nodes p.depth x ≡ own → Spot s p.at a e t → (d : ℕ) → d ≡ depth_after p.depth x → d ≤ p.depth + 1
-        → (after : List ℕ) → after ≡ pasted table (4 + p.nodes * 32) (node_record p.depth name) → Put s table after p (record { at = t; depth = d; nodes = p.nodes + 1 })
+    put-own : (x : Token) → lex (drop p.at s) ≡ token x (v.next - p.at) → own_nodes p.depth x ≡ own → Spot s p.at v.start v.end v.next → (d : ℕ) → d ≡ depth_after p.depth x → d ≤ p.depth + 1
+        → (after : List ℕ) → after ≡ pasted table (4 + p.nodes * 32) (node_record p.depth name) → Put s table after p (record { at = v.next; depth = d; nodes = p.nodes + 1 })
     unfolding join
     put-own x i o w d z h after b =
-        let short : length name ≤ 24 = omega (arith, length-take (e - a) (drop a s)) in
+        let short : length name ≤ 24 = omega (arith, length-take (v.end - v.start) (drop v.start s)) in
         let one : records_of own ≡ node_record p.depth name = append-nil (node_record p.depth name) in
         let c = here.counted in
         record {
           own = own;
-          read = λ f. read_token x t f (omega arith) i ∙ rw (o, z);
+          read = λ f. read_token x v.next f (omega arith) i ∙ rw (o, z);
           count = refl;
           wide = ap length one ∙ length_node p.depth name short;
           bytes = b ∙ ap (pasted table (4 + p.nodes * 32)) (sym one);
@@ -86,32 +90,45 @@ module _ {s table : List ℕ} {p : Cursor} (here : Roomy s table p) where
           counted = record { within = w.within; depth = omega arith; nodes = omega arith };
         }
 
-    pub put_opens : LexedAt s p.at (Opens a e t) → (after : List ℕ) → after ≡ pasted table (4 + p.nodes * 32) (node_record p.depth name)
-        → Put s table after p (record { at = t; depth = p.depth + 1; nodes = p.nodes + 1 })
+    pub put_opens : LexedAt s p.at (Opens v) → (after : List ℕ) → after ≡ pasted table (4 + p.nodes * 32) (node_record p.depth name)
+        → Put s table after p (record { at = v.next; depth = p.depth + 1; nodes = p.nodes + 1 })
     put_opens l = put-own (opens name) l.is refl l.on (p.depth + 1) refl (omega arith)
 
-    pub put_empty : LexedAt s p.at (Empty a e t) → (after : List ℕ) → after ≡ pasted table (4 + p.nodes * 32) (node_record p.depth name)
-        → Put s table after p (record { at = t; depth = p.depth; nodes = p.nodes + 1 })
+    put_empty : LexedAt s p.at (Empty v) → (after : List ℕ) → after ≡ pasted table (4 + p.nodes * 32) (node_record p.depth name)
+        → Put s table after p (record { at = v.next; depth = p.depth; nodes = p.nodes + 1 })
     put_empty l = put-own (empty name) l.is refl l.on p.depth refl (omega arith)
 
-    pub put-label : LexedAt s p.at (Label a e t) → (after : List ℕ) → after ≡ pasted table (4 + p.nodes * 32) (node_record p.depth name)
-        → Put s table after p (record { at = t; depth = p.depth; nodes = p.nodes + 1 })
+    put-label : LexedAt s p.at (Label v) → (after : List ℕ) → after ≡ pasted table (4 + p.nodes * 32) (node_record p.depth name)
+        → Put s table after p (record { at = v.next; depth = p.depth; nodes = p.nodes + 1 })
     put-label l = put-own (text name) l.is refl l.on p.depth refl (omega arith)
 
-    pub put-closes : LexedAt s p.at (Closes a e t) → (d : ℕ) → d ≡ p.depth - 1 → Put s table table p (record { at = t; depth = d; nodes = p.nodes })
+    pub put-closes : LexedAt s p.at (Closes v) → (d : ℕ) → d ≡ p.depth - 1 → Put s table table p (record { at = v.next; depth = d; nodes = p.nodes })
     unfolding join
     put-closes l d z =
         let w = l.on in
         let c = here.counted in
         record {
           own = [];
-          read = λ f. rw z (read_token (closes name) t f (omega arith) l.is);
+          read = λ f. rw z (read_token (closes name) v.next f (omega arith) l.is);
           count = omega arith;
           wide = refl;
           bytes = pasted-none table (4 + p.nodes * 32);
           on = omega arith;
           counted = record { within = w.within; depth = omega arith; nodes = omega arith };
         }
+
+  -- the tokens that are alike
+  module _ (r : Lexeme) (l : LexedAt s p.at r) where
+    pub put_over : (r ≡ End) ⊎ (r ≡ Bad) → PutNext s table table p None
+    put_over = ⊎_elim (λ e. put_end (lexed_is l e)) (λ e. put_bad (lexed_is l e))
+
+    module _ (v : Span) (o : (r ≡ Empty v) ⊎ (r ≡ Label v)) where
+      pub room_leaf : Room v
+      room_leaf = ⊎_elim (λ e. room_empty v (lexed_is l e)) (λ e. room_label v (lexed_is l e)) o
+
+      pub put_leaf : (after : List ℕ) → after ≡ pasted table (4 + p.nodes * 32) (node_record p.depth (name v))
+          → Put s table after p (record { at = v.next; depth = p.depth; nodes = p.nodes + 1 })
+      put_leaf after b = ⊎_elim (λ e. put_empty v (lexed_is l e) after b) (λ e. put-label v (lexed_is l e) after b) o
 
 -- All tokens
 

@@ -6,49 +6,47 @@ ghost use Rattle.xml.specs.How.Tokens.{opening, closing, texting};
 ghost use Rattle.xml.specs.How.Lexer.{LexedAs, LexedAt};
 
 use forms::part::label_part_end;
-use rights::path::{Read, byte_is};
+use rights::path::{byte_is, run_end};
 
-// A token: where its name or text begins and ends, and the place after the token. `</a>` is Closes, `<a/>` is Empty.
+// Where a name or a text begins and ends, and the place after its token.
+#[derive(Clone, Copy)]
+pub(crate) struct Span {
+    pub start: usize,
+    pub end: usize,
+    pub next: usize,
+}
+
+// A token. `</a>` is Closes, `<a/>` is Empty.
 #[derive(Clone, Copy)]
 pub(crate) enum Lexeme {
-    Opens(usize, usize, usize),
-    Closes(usize, usize, usize),
-    Empty(usize, usize, usize),
-    Label(usize, usize, usize),
+    Opens(Span),
+    Closes(Span),
+    Empty(Span),
+    Label(Span),
     End,
     Bad,
 }
 
 // Whether a byte is a space, a tab or part of a line end.
+#[tactic(auto, unfolding(crate::specs::Document::blank_byte))]
 fn blank_byte(b: u8) -> bool
     ensures { result ≡ blank_byte b }
 {
-    if b == b' ' {
-        return true;
+    match b {
+        b' ' | b'\t' | b'\r' | b'\n' => true,
+        _ => false,
     }
-    if b == b'\t' {
-        return true;
-    }
-    if b == b'\r' {
-        return true;
-    }
-    b == b'\n'
 }
 
 // Whether a label that begins with this byte may be a name.
+#[tactic(auto, unfolding(crate::specs::Document::name_start, rights::specs::Bytes::digit_byte))]
 fn name_start(b: u8) -> bool
     ensures { result ≡ name_start b }
 {
-    if b'9' < b {
-        return true;
+    match b {
+        b'0'..=b'9' | b'-' | b'.' => false,
+        _ => true,
     }
-    if b == b'-' {
-        return false;
-    }
-    if b == b'.' {
-        return false;
-    }
-    b < b'0'
 }
 
 // The place after the blanks that stand at `at`.
@@ -56,14 +54,7 @@ fn blanks_end(s: &[u8], at: usize) -> usize
     requires { at ≤ length s.now }
     ensures { Ends blank_byte s.now at result }
 {
-    let mut i = at;
-    while i < s.len() {
-        if !blank_byte(s[i]) {
-            return i;
-        }
-        i += 1;
-    }
-    i
+    run_end(s, at, blank_byte)
 }
 
 // What begins with `</` at i.
@@ -71,13 +62,17 @@ fn closing_tag(xml: &[u8], i: usize) -> Lexeme
     requires { i + 2 ≤ length xml.now }
     ensures { LexedAs closing xml.now i result }
 {
-    let Read::At(e) = label_part_end(xml, i + 2) else {
+    let Some(e) = label_part_end(xml, i + 2) else {
         return Lexeme::Bad;
     };
-    if byte_is(xml, e, b'>') {
-        return Lexeme::Closes(i + 2, e, e + 1);
+    if !byte_is(xml, e, b'>') {
+        return Lexeme::Bad;
     }
-    Lexeme::Bad
+    Lexeme::Closes(Span {
+        start: i + 2,
+        end: e,
+        next: e + 1,
+    })
 }
 
 // What begins with `<` at i and not with `</`.
@@ -85,20 +80,25 @@ fn opening_tag(xml: &[u8], i: usize) -> Lexeme
     requires { i + 1 ≤ length xml.now }
     ensures { LexedAs opening xml.now i result }
 {
-    let Read::At(e) = label_part_end(xml, i + 1) else {
+    let Some(e) = label_part_end(xml, i + 1) else {
         return Lexeme::Bad;
     };
-    if name_start(xml[i + 1]) {
-        if byte_is(xml, e, b'>') {
-            return Lexeme::Opens(i + 1, e, e + 1);
-        }
-        if byte_is(xml, e, b'/') {
-            if byte_is(xml, e + 1, b'>') {
-                return Lexeme::Empty(i + 1, e, e + 2);
-            }
-            return Lexeme::Bad;
-        }
+    if !name_start(xml[i + 1]) {
         return Lexeme::Bad;
+    }
+    if byte_is(xml, e, b'>') {
+        return Lexeme::Opens(Span {
+            start: i + 1,
+            end: e,
+            next: e + 1,
+        });
+    }
+    if byte_is(xml, e, b'/') && byte_is(xml, e + 1, b'>') {
+        return Lexeme::Empty(Span {
+            start: i + 1,
+            end: e,
+            next: e + 2,
+        });
     }
     Lexeme::Bad
 }
@@ -108,14 +108,18 @@ fn label_text(xml: &[u8], i: usize) -> Lexeme
     requires { i ≤ length xml.now }
     ensures { LexedAs texting xml.now i result }
 {
-    let Read::At(e) = label_part_end(xml, i) else {
+    let Some(e) = label_part_end(xml, i) else {
         return Lexeme::Bad;
     };
     let t = blanks_end(xml, e);
-    if byte_is(xml, t, b'<') {
-        return Lexeme::Label(i, e, t);
+    if !byte_is(xml, t, b'<') {
+        return Lexeme::Bad;
     }
-    Lexeme::Bad
+    Lexeme::Label(Span {
+        start: i,
+        end: e,
+        next: t,
+    })
 }
 
 // The token at a place.

@@ -2,12 +2,12 @@
 ghost use Rattle.std.specs.Prelude.{◌≡◌, map, ◌+◌, ◌-◌, ◌*◌, ◌≤◌, length};
 ghost use Rattle.rights.specs.Held.{table_bytes, node_bytes};
 ghost use Rattle.rights.specs.Record.{pasted, node_record};
-ghost use Rattle.xml.specs.How.Lexer.{between};
+ghost use Rattle.xml.specs.How.Lexer.{name_in};
 ghost use Rattle.xml.specs.How.Tokens.{document_nodes};
 ghost use Rattle.xml.specs.How.Loading.{deepest, Writable};
 ghost use Rattle.xml.specs.How.Writer.{all_nodes, Roomy, PutNext, PutAll};
 
-use crate::lexer::{Lexeme, next_token};
+use crate::lexer::{Lexeme, Span, next_token};
 use rights::limits::{COUNT_BYTES, RECORD_BYTES};
 use rights::record::put_node;
 use rights::table::put_count;
@@ -20,84 +20,49 @@ pub(crate) struct Cursor {
     pub nodes: usize,
 }
 
-#[derive(Clone, Copy)]
-pub(crate) enum Next {
-    On(Cursor),
-    Over,
-}
-
-// Puts record n of a table: a node with the label from a up to e.
-fn put_record(table: &mut [u8], n: usize, level: usize, xml: &[u8], a: usize, e: usize)
-    requires { (4 + n * 32 + 32 ≤ length table.old) × (level ≤ 11) × (a ≤ e) × (e ≤ a + 24) × (e ≤ length xml.now) }
-    ensures { table.new ≡ pasted table.old (4 + n * 32) (node_record level (between xml.now a e)) }
+// Puts record n of a table: a node of a level with a label.
+fn put_record(table: &mut [u8], n: usize, level: usize, xml: &[u8], label: Span)
+    requires { (4 + n * 32 + 32 ≤ length table.old) × (level ≤ 11)
+        × (label.start ≤ label.end) × (label.end ≤ label.start + 24) × (label.end ≤ length xml.now) }
+    ensures { table.new ≡ pasted table.old (4 + n * 32) (node_record level (name_in xml.now label)) }
 {
+    // Kept: `as`, since `try_from` would answer an error that can't come: a level is at most 11.
     put_node(
         table,
         COUNT_BYTES + n * RECORD_BYTES,
         level as u8,
-        xml,
-        a,
-        e - a,
+        &xml[label.start..label.end],
     );
 }
 
-// How many elements are open after a closing tag.
-fn outer(depth: usize) -> usize
-    ensures { result ≡ depth - 1 }
-{
-    if depth == 0 {
-        return 0;
-    }
-    depth - 1
-}
-
-// One token.
-fn put_token(xml: &[u8], p: Cursor, table: &mut [u8]) -> Next
+// One token; none, where the pass is over.
+fn put_token(xml: &[u8], p: Cursor, table: &mut [u8]) -> Option<Cursor>
     requires { Roomy xml.now table.old p }
     ensures { PutNext xml.now table.old table.new p result }
 {
-    let at = p.at;
-    let depth = p.depth;
-    let n = p.nodes;
-    let seen = next_token(xml, at);
-    match seen {
-        Lexeme::Opens(a, e, next) => {
-            put_record(table, n, depth, xml, a, e);
-            return Next::On(Cursor {
-                at: next,
-                depth: depth + 1,
-                nodes: n + 1,
-            });
+    match next_token(xml, p.at) {
+        Lexeme::Opens(name) => {
+            put_record(table, p.nodes, p.depth, xml, name);
+            Some(Cursor {
+                at: name.next,
+                depth: p.depth + 1,
+                nodes: p.nodes + 1,
+            })
         }
-        Lexeme::Closes(_, _, next) => {
-            return Next::On(Cursor {
-                at: next,
-                depth: outer(depth),
-                nodes: n,
-            });
+        Lexeme::Closes(name) => Some(Cursor {
+            at: name.next,
+            depth: p.depth.saturating_sub(1),
+            nodes: p.nodes,
+        }),
+        Lexeme::Empty(label) | Lexeme::Label(label) => {
+            put_record(table, p.nodes, p.depth, xml, label);
+            Some(Cursor {
+                at: label.next,
+                depth: p.depth,
+                nodes: p.nodes + 1,
+            })
         }
-        Lexeme::Empty(a, e, next) => {
-            put_record(table, n, depth, xml, a, e);
-            return Next::On(Cursor {
-                at: next,
-                depth,
-                nodes: n + 1,
-            });
-        }
-        Lexeme::Label(a, e, next) => {
-            put_record(table, n, depth, xml, a, e);
-            return Next::On(Cursor {
-                at: next,
-                depth,
-                nodes: n + 1,
-            });
-        }
-        Lexeme::End => {
-            return Next::Over;
-        }
-        Lexeme::Bad => {
-            return Next::Over;
-        }
+        Lexeme::End | Lexeme::Bad => None,
     }
 }
 
@@ -111,17 +76,10 @@ fn put_nodes(xml: &[u8], table: &mut [u8]) -> usize
         depth: 0,
         nodes: 0,
     };
-    loop {
-        let next = put_token(xml, p, table);
-        match next {
-            Next::On(q) => {
-                p = q;
-            }
-            Next::Over => {
-                return p.nodes;
-            }
-        }
+    while let Some(q) = put_token(xml, p, table) {
+        p = q;
     }
+    p.nodes
 }
 
 // Writes a document into an empty table.

@@ -1,4 +1,6 @@
 -- What is put into an area that the caller lends.
+use denote.Ref.{MutBor}
+use denote.Param.Members.{Shared}
 use Rattle.std.specs.Prelude.{ℕ, ◌+◌, ◌*◌, ◌≤◌, ◌≡◌, cond, List, ◌++◌, leb, length, take, drop}
 
 -- The text p, put at byte `at`: r is the place after it, fit or not. Where it fits, the area holds it there and keeps its other bytes.
@@ -20,3 +22,7 @@ written text area = cond (leb (length text) (length area)) (text ++ drop (length
 pub record Answered (text before after : List ℕ) (r : ℕ) : Type 0 where
   pub size : r ≡ length text
   pub area : after ≡ written text before
+
+-- Whatever area it is called on, `put` puts this text at its start.
+abbrev pub PutsAlways : {F : Type 0} → Shared F (MutBor (List ℕ) × Unit {0}) (ℕ × (MutBor (List ℕ) × Unit {0})) → F → List ℕ → Type 0
+PutsAlways {F} g put text = (before after : MutBor (List ℕ)) (r : ℕ) → g.post put (before, tt) (r, (after, tt)) → Puts text 0 before.now after.now r

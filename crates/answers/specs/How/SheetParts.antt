@@ -1,5 +1,6 @@
 -- How the children of a node are found one after the other.
-use Rattle.std.specs.Prelude.{ℕ, suc, ◌-◌, ◌≤◌, ◌≡◌, cond, List, [], ◌∷◌, eqb, ltb, length}
+use Rattle.std.specs.Prelude.{ℕ, suc, ◌-◌, ◌≤◌, ◌<◌, ◌≡◌, Option, IfSome, cond, List, [], ◌∷◌, eqb, ltb, length}
+use Rattle.std.specs.Option.{unwrap_or}
 use Rattle.rights.specs.Nodes.{Nodes, level_at}
 use Rattle.rights.specs.XPath.{filter, stretch}
 
@@ -16,3 +17,11 @@ pub record First (t : Nodes) (l i r : ℕ) : Type 0 where
   pub is : siblings t l i ≡ onward t l r
   pub on : i ≤ length t → i ≤ r
   pub fits : r ≤ length t
+
+-- where a node that was looked for stands: one that is missing at the place after the last node
+abbrev pub place : Nodes → Option ℕ → ℕ
+place t o = unwrap_or o (length t)
+
+-- one that was found is a node of t
+abbrev pub Inside : Nodes → Option ℕ → Type 0
+Inside t o = IfSome o (λ i. i < length t)

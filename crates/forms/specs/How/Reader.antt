@@ -1,64 +1,80 @@
 -- Reading a line "from a place that only moves on" (document 01, "Lines").
-use Rattle.std.specs.Prelude.{ℕ, suc, ◌+◌, ◌-◌, ◌≤◌, ◌*◌, ◌^◌, ◌<◌, ◌≡◌, cond, true, false, leb, eqb, List, [], ◌∷◌, ◌++◌, length, get_or, set, take, drop}
-use Rattle.rights.specs.declared.path.Read.{Read}
-use Rattle.rights.specs.declared.path.Read.TheVariants.{At, Bad}
+use Rattle.std.specs.Prelude.{Option, Some, None, ℕ, suc, ◌+◌, ◌-◌, ◌≤◌, ◌*◌, ◌^◌, ◌<◌, ◌≡◌, cond, leb, eqb, List, [], ◌∷◌, ◌++◌, length, get_or, set, take, drop}
 use Rattle.rights.specs.Bytes.{byte_at}
 use Rattle.rights.specs.Labels.{label_byte}
 use Rattle.rights.specs.How.Reading.{Onward}
 use Rattle.rights.specs.Record.{pasted}
-use Rattle.forms.specs.declared.part.PartRead.{PartRead}
+use Rattle.forms.specs.declared.part.Part.{Part}
 use Rattle.forms.specs.declared.reader.Progress.{Progress}
+use Rattle.forms.specs.declared.reader.LineReader.{LineReader}
 use Rattle.forms.specs.declared.form.Form.{Form}
 use Rattle.forms.specs.Part.{run_end}
 use Rattle.forms.specs.Kind.{Kind, code_of, part_end}
 use Rattle.forms.specs.Layout.{stage_of, shape_of, word_at}
 use Rattle.forms.specs.Tree.{◌and_then◌, tree_end, tree_nodes, tail_end, tail_nodes, records_of}
 use Rattle.forms.specs.Form.{Places, place_in, are, none, ◌onTo◌, parts_of, closes_line, ends_in, form_at, read_form}
-use Rattle.forms.specs.How.Codes.{LaidOut, codes_of, end_by, says_by, area_by}
+use Rattle.forms.specs.How.Codes.{LaidOut, codes_of, stage_number, end_by, says_by, area_by}
 
 -- the place that reading came to, if it moved on
-abbrev pub moved_to : ℕ → ℕ → Read
-moved_to from to = cond (leb to from) Bad (At to)
+abbrev pub moved_to : ℕ → ℕ → Option ℕ
+moved_to from to = cond (leb to from) None (Some to)
 
 -- the place after a word that a table has as n; 0 says that it has none
-abbrev pub known_to : ℕ → ℕ → ℕ → Read
-known_to n from to = cond (eqb n 0) Bad (moved_to from to)
+abbrev pub known_to : ℕ → ℕ → ℕ → Option ℕ
+known_to n from to = cond (eqb n 0) None (moved_to from to)
+
+-- a part that ends at a place and says a number, if there is the place
+abbrev pub part_at : Option ℕ → ℕ → Option Part
+part_at None v = None
+part_at (Some e) v = Some (record { end = e; says = v })
+
+-- a word that a table has, or has not
+abbrev pub known_part : Option ℕ → ℕ → ℕ → Option Part
+known_part None from to = None
+known_part (Some v) from to = part_at (moved_to from to) v
+
+-- the place after a part
+abbrev pub end_of : Option Part → Option ℕ
+end_of None = None
+end_of (Some p) = Some p.end
+
+-- what a part says, if there is one
+abbrev pub Says : Option Part → ℕ → Type 0
+Says r v = (p : Part) → r ≡ Some p → p.says ≡ v
 
 -- What the reader of a tail promises, where n records stand already: what the definitions give at any number of parts that is enough
-pub record TailEnd (s : List ℕ) (at depth : ℕ) (r : Read) : Type 0 where
+pub record TailEnd (s : List ℕ) (at depth : ℕ) (r : Option ℕ) : Type 0 where
   pub is : (f : ℕ) → length s ≤ f → r ≡ tail_end f depth at s
-  pub on : (i : ℕ) → r ≡ At i → (at + 1 ≤ i) × (i ≤ at + length s)
+  pub on : (i : ℕ) → r ≡ Some i → (at + 1 ≤ i) × (i ≤ at + length s)
 
 pub record TailPut (s : List ℕ) (depth n : ℕ) (before after : List ℕ) (r : ℕ) : Type 0 where
   pub is : (f : ℕ) → length s ≤ f → r ≡ n + length (tail_nodes f depth s)
   pub out : (f : ℕ) → length s ≤ f → after ≡ pasted before (32 * n) (records_of (tail_nodes f depth s))
 
-pub record TailRead (s : List ℕ) (at depth n : ℕ) (before after : List ℕ) (r : PartRead) : Type 0 where
-  pub end : TailEnd s at depth r.end
-  pub put : TailPut s depth n before after r.says
+pub record TailRead (s : List ℕ) (at depth n : ℕ) (before after : List ℕ) (r : Option Part) : Type 0 where
+  pub end : TailEnd s at depth (end_of r)
+  pub nodes : ℕ
+  pub put : TailPut s depth n before after nodes
+  pub says : Says r nodes
 
 -- What the reader of a tree promises: the place after it, how many nodes were passed, and their records
-pub record TreeRead (s : List ℕ) (at : ℕ) (before after : List ℕ) (r : PartRead) : Type 0 where
-  pub end : Onward (tree_end s at) r.end (at + 1) (length s)
-  pub says : r.says ≡ length (tree_nodes s at)
+pub record TreeRead (s : List ℕ) (at : ℕ) (before after : List ℕ) (r : Option Part) : Type 0 where
+  pub end : Onward (tree_end s at) (end_of r) (at + 1) (length s)
+  pub says : Says r (length (tree_nodes s at))
   pub out : after ≡ pasted before 0 (records_of (tree_nodes s at))
 
 -- What the reader of a part promises, the kind by its number
-pub record PartPassed (k : ℕ) (s : List ℕ) (at : ℕ) (r : PartRead) : Type 0 where
-  pub end : Onward (end_by k s at) r.end (at + 1) (length s)
-  pub says : r.says ≡ says_by k s at
+pub record PartPassed (k : ℕ) (s : List ℕ) (at : ℕ) (r : Option Part) : Type 0 where
+  pub end : Onward (end_by k s at) (end_of r) (at + 1) (length s)
+  pub says : Says r (says_by k s at)
 
--- How a reader's progress changes: something is missing; part i was passed up to e; the line is over
-
-abbrev pub stopped_at : Progress → Progress
-stopped_at p = record { at = p.at; good = false; layout = p.layout; ends = p.ends; says = p.says }
+-- How a reader's progress changes: part i was passed up to e; the line is over
 
 abbrev pub held_to : Progress → ℕ → ℕ → ℕ → Progress
-held_to p i e v = record { at = e; good = p.good; layout = p.layout; ends = set p.ends (i + 1) e; says = set p.says i v }
+held_to p i e v = record { at = e; layout = p.layout; ends = set p.ends (i + 1) e; says = set p.says i v }
 
-abbrev pub shut_at : List ℕ → Progress → Progress
-shut_at s p =
-    cond (closes_line s p.at) (record { at = length s; good = p.good; layout = p.layout; ends = p.ends; says = p.says }) (stopped_at p)
+abbrev pub shut_at : List ℕ → Progress → Option Progress
+shut_at s p = cond (closes_line s p.at) (Some (record { at = length s; layout = p.layout; ends = p.ends; says = p.says })) None
 
 -- What the form's parts say, so far as they were passed: what stands in says is what the part of that number says
 abbrev pub Said : List ℕ → ℕ → Progress → Type 0
@@ -92,15 +108,19 @@ pub record Whole (s : List ℕ) (p : Progress) : Type 0 where
   pub four : length p.says ≡ 4
 
 -- so far as all was there; once something is missing, the line is no form
-pub record Came (s : List ℕ) (i : ℕ) (p : Progress) : Type 0 where
-  pub stops : p.good ≡ false → ends_in s ≡ none
-  pub reads : p.good ≡ true → Reading s i p
+abbrev pub Came : List ℕ → ℕ → Option Progress → Type 0
+Came s i None = ends_in s ≡ none
+Came s i (Some p) = Reading s i p
 
--- A reader before turn t of a line: before its first byte, after the word and t - 1 parts, after its last byte
-pub record Going (s : List ℕ) (t : ℕ) (p : Progress) : Type 0 where
-  pub begins : t ≡ 0 → p.at ≡ 0
-  pub came : (i : ℕ) → t ≡ suc i → i ≤ 4 → Came s i p
-  pub over : t ≡ 6 → (p.good ≡ false → ends_in s ≡ none) × (p.good ≡ true → Whole s p)
+-- What the reader of a line promises: its last place is the line's end
+abbrev pub Walks : List ℕ → Option Progress → Type 0
+Walks s None = ends_in s ≡ none
+Walks s (Some p) = Whole s p
+
+-- how far a reader came, if there is one
+abbrev pub taken : Option LineReader → Option Progress
+taken None = None
+taken (Some r) = Some r.progress
 
 -- the area once the parts of a shape were read from a place on: a tree's records are put while it is passed, also if what follows is missing
 unfoldable pub area_after : List Kind → List ℕ → ℕ → List ℕ → List ℕ
@@ -114,28 +134,20 @@ area_after (k ∷ ks) s at a =
 unfoldable pub area_in : List ℕ → List ℕ → List ℕ
 area_in s a = cond (eqb (byte_at s 0) 40) (run_end label_byte s 1 and_then (a, λ e. area_after (shape_of (word_at s 1)) s e a)) a
 
--- what the area is in the end, where i parts were passed and the area is a now; before turn t
-abbrev pub area_from : List ℕ → ℕ → Progress → List ℕ → List ℕ
-area_from s i p a = cond p.good (area_after (drop i (shape_of p.layout.word)) s p.at a) a
-
-abbrev pub area_left : List ℕ → ℕ → Progress → List ℕ → List ℕ
-area_left s t p a = cond (eqb t 0) (area_in s a) (area_from s (t - 1) p a)
+-- what the area is in the end, where i parts were passed and the area is a now
+abbrev pub area_from : List ℕ → ℕ → Option Progress → List ℕ → List ℕ
+area_from s i None a = a
+area_from s i (Some p) a = area_after (drop i (shape_of p.layout.word)) s p.at a
 
 -- `(` and the word were passed, or one of them is missing
-pub record Begun (s : List ℕ) (p : Progress) : Type 0 where
-  pub came : Came s 0 p
-  pub area : (a : List ℕ) → area_in s a ≡ area_from s 0 p a
+pub record Begun (s : List ℕ) (r : Option Progress) : Type 0 where
+  pub came : Came s 0 r
+  pub area : (a : List ℕ) → area_in s a ≡ area_from s 0 r a
 
--- part i: the reader's place never falls, and what the area is in the end stays the same
-pub record Moves (s : List ℕ) (i : ℕ) (p : Progress) (a : List ℕ) (q : Progress) (b : List ℕ) : Type 0 where
-  pub on : p.at ≤ q.at
-  pub area : area_from s i p a ≡ area_from s (suc i) q b
-
--- What a reader promises that takes turn t
-pub record Takes (s : List ℕ) (t : ℕ) (p : Progress) (a : List ℕ) (q : Progress) (b : List ℕ) : Type 0 where
-  pub going : Going s (t + 1) q
-  pub on : p.at ≤ q.at
-  pub area : area_left s t p a ≡ area_left s (t + 1) q b
+-- What a reader promises that takes part i: its place never falls, and what the area is in the end stays the same
+pub record Moves (s : List ℕ) (i : ℕ) (p : Progress) (a : List ℕ) (r : Option Progress) (b : List ℕ) : Type 0 where
+  pub on : (q : Progress) → r ≡ Some q → p.at ≤ q.at
+  pub area : area_from s i (Some p) a ≡ area_from s (suc i) r b
 
 -- the places of a line's parts; none if it is no form
 abbrev pub listed : Places → List ℕ
@@ -149,7 +161,7 @@ Ends es = (length es ≡ 5) × ((i : ℕ) → place_in es i + 1 < 2 ^ 64)
 -- What the reader of a line hands on: the form's word and stage, the places of its parts, and what each of them says
 pub record FormRead (s : List ℕ) (f : Form) : Type 0 where
   pub form : read_form s ≡ form_at f.word s (place_in f.ends)
-  pub stage : f.stage ≡ stage_of f.word
+  pub stage : stage_number f.stage ≡ stage_of f.word
   pub places : (j : ℕ) → place_in f.ends j ≡ place_in (listed (ends_in s)) j
   pub says : (j : ℕ) → j < 4 → get_or f.says j 0 ≡ says_by (get_or (codes_of (shape_of f.word)) j 0) s (place_in f.ends j + 1)
   pub ends : Ends f.ends

@@ -1,8 +1,6 @@
 -- How a label is found among the words of a policy: the words sorted, each once, and a label's number its word's place among them. proofs/VocabularyLaws.antt shows that
 -- a label has a word's number exactly if it is that word.
-use Rattle.std.specs.Prelude.{ℕ, zero, suc, ◌+◌, ◌≤◌, ◌<◌, Bool, true, false, cond, ◌||◌, ◌≡◌, List, [], ◌∷◌, ltb, length, get_or}
-use Rattle.rights.specs.declared.vocabulary.Spot.{Spot}
-use Rattle.rights.specs.declared.vocabulary.Spot.TheVariants.{Found, Missing}
+use Rattle.std.specs.Prelude.{ℕ, zero, suc, ◌+◌, ◌≤◌, ◌<◌, Bool, true, false, cond, ◌||◌, ◌≡◌, List, [], ◌∷◌, ltb, length, get_or, Result, Ok, Err}
 use Rattle.rights.specs.Labels.{same_label, folded_label}
 use Rattle.rights.specs.Table.{rec_at, label}
 use Rattle.rights.specs.Policy.{Rule, some, uses, policy_word}
@@ -41,9 +39,9 @@ pub record Words (p ws : List ℕ) (n : ℕ) : Type 0 where
   pub sorted : (i j : ℕ) → i < j → j < n → label_order (listed_word p ws i) (listed_word p ws j) ≡ 0
 
 -- where a label stands among n sorted words: at one that it is, or between those before it and those behind it
-abbrev pub Stands : (ℕ → List ℕ) → ℕ → List ℕ → Spot → Type 0
-Stands f n x (Found i) = (i < n) × (label_order (f i) x ≡ 1)
-Stands f n x (Missing i) =
+abbrev pub Stands : (ℕ → List ℕ) → ℕ → List ℕ → Result ℕ ℕ → Type 0
+Stands f n x (Ok i) = (i < n) × (label_order (f i) x ≡ 1)
+Stands f n x (Err i) =
     (i ≤ n) × ((j : ℕ) → j < i → label_order (f j) x ≡ 0) × ((j : ℕ) → i ≤ j → j < n → label_order (f j) x ≡ 2)
 
 -- one place more among n, at place i; those behind it move up
@@ -56,11 +54,6 @@ pub record Inserted (ws ws' : List ℕ) (n i at : ℕ) : Type 0 where
 -- a label is among n words
 abbrev pub is_listed : List ℕ → List ℕ → ℕ → List ℕ → Bool
 is_listed p ws n x = ltb 0 (listed_number p ws n x)
-
--- words after those labels were added that f passes
-pub record Added (p ws : List ℕ) (n : ℕ) (ws' : List ℕ) (n' : ℕ) (f : List ℕ → Bool) : Type 0 where
-  pub words : Words p ws' n'
-  pub holds : (x : List ℕ) → is_listed p ws' n' x ≡ is_listed p ws n x || f x
 
 -- the label is named by some rule's path
 abbrev pub named : List ℕ → List ℕ → Bool

@@ -7,7 +7,7 @@ pub returns-then-buffer-used : goal.returns-then-buffer-used
 returns-then-buffer-used c =
     let a = c.args in
     ended_long a.state.now a.table.now a.buffer.now a.used (length a.area.now) c.if-buffer-used.true
-    (prints_refusal 1 a.state.now a.table.now a.area.now _ _ c.answer_refused.ensures (search rules) (search rules))
+    (prints_refusal 1 a.state.now a.table.now a.area.now _ _ (rw c.from.ensures at c.answer_refused.ensures) (search rules) (search rules))
 
 pub returns : goal.returns
 returns c =

@@ -1,6 +1,6 @@
 use mathlib.Core.Path.{refl}
-use mathlib.Core.Logic.{⊎_elim}
 use borrow.Author.Rules.{rules}
+use Rattle.std.proofs.lemmas.Result.{err_from_is_err_and}
 use Rattle.timetable.proofs.ByteLaws.{read_none, read_more, read_ended, read_all, read_shut, run_new}
 use Rattle.timetable.proofs.StreamLaws.{bytes_none, bytes_more, bytes_last, bytes_limit, lines_room}
 use Rattle.timetable.proofs.read_lines.Goals as goal
@@ -21,24 +21,33 @@ loop-left-init g c =
 pub returns-then-t-eq0 : goal.returns-then-t-eq0
 returns-then-t-eq0 g c =
     let x = c.loop-left in
-    let e = c.read_turn-t.ensures.run in let none = c.if-t-eq0.true in
+    let e = c.in_ok-t.ensures.run in let none = c.if-t-eq0.true in
     record {
-      run = ⊎_elim (λ w. read_shut x.invariant.6 _ _ w.0) (λ w. read_ended x.invariant.6 _ _ none w _) e.3;
-      bytes = lines_room x.invariant.5 (bytes_last x.invariant.7 c.read_turn-t.ensures.bytes none c.loop-left-test.true);
+      run = read_ended x.invariant.6 _ _ none e.3 _;
+      bytes = lines_room x.invariant.5 (bytes_last x.invariant.7 c.in_ok-t.ensures.bytes none c.loop-left-test.true);
     }
+
+pub returns-in_err-t : goal.returns-in_err-t
+returns-in_err-t g c =
+    let x = c.loop-left in
+    rw (err_from_is_err_and c.from_residual.result c.from_residual.ensures.1).1
+    (record {
+      run = read_shut x.invariant.6 _ _ refl;
+      bytes = lines_room x.invariant.5 (bytes_last x.invariant.7 c.in_err-t.ensures.bytes refl c.loop-left-test.true);
+    })
 
 pub loop-left-preserved : goal.loop-left-preserved
 loop-left-preserved g c =
     let x = c.loop-left in
-    let e = c.read_turn-t.ensures.run in let more = c.if-t-eq0.false in (
+    let e = c.in_ok-t.ensures.run in let more = c.if-t-eq0.false in (
       e.0,
       search rules,
       search rules,
       search rules,
       search rules,
       search rules,
-      ⊎_elim (λ w. absurd (more w.1)) (λ w. read_more x.invariant.6 _ _ e.1 e.2 w) e.3,
-      bytes_more x.invariant.7 c.read_turn-t.ensures.bytes more,
+      read_more x.invariant.6 _ _ e.1 e.2 e.3,
+      bytes_more x.invariant.7 c.in_ok-t.ensures.bytes more,
     )
 
 pub returns : goal.returns

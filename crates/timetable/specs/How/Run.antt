@@ -1,5 +1,5 @@
 -- The program between two bytes of its input, and what each of its functions makes of that.
-use Rattle.std.specs.Prelude.{ℕ, ◌≤◌, ◌<◌, ◌≡◌, Bool, true, false, cond, ◌⊎◌, List, [], ◌∷◌, ◌++◌, leb, ltb, eqb, length, get_or, take}
+use Rattle.std.specs.Prelude.{ℕ, ◌≤◌, ◌<◌, ◌≡◌, cond, ◌⊎◌, List, [], ◌∷◌, ◌++◌, leb, ltb, eqb, length, get_or, take}
 use Rattle.answers.specs.How.AnswerArea.{Puts}
 use Rattle.lines.specs.Outcome.{Outcome, refusal}
 use Rattle.lines.specs.Refusal.{bad_line}
@@ -84,15 +84,11 @@ unfoldable pub handed : Run → List ℕ → List ℕ
 handed m [] = []
 handed m (b ∷ bs) = byte_hands m b ++ handed (byte_taken m b) bs
 
--- The program after a chunk, m' being what it is then: all of it is taken; or, where `open'` is false, it stops at a byte that handed something over.
+-- The program in a chunk of which not all is taken, m' being what it is then: it stops at a byte that handed something over.
 pub record Stops (m : Run) (chunk : List ℕ) (m' : Run) : Type 0 where
   pub at : ℕ
   pub is : m' ≡ byte_taken (chunk_taken m (take at chunk)) (get_or chunk at 0)
   pub hands : byte_hands (chunk_taken m (take at chunk)) (get_or chunk at 0) ≡ [] → ⊥
-
-pub record TakesChunk (m : Run) (chunk : List ℕ) (m' : Run) (open' : Bool) : Type 0 where
-  pub whole : open' ≡ true → m' ≡ chunk_taken m chunk
-  pub stops : open' ≡ false → Stops m chunk m'
 
 -- a list of reads
 unfoldable pub chunks_taken : Run → List (List ℕ) → Run

@@ -1,6 +1,6 @@
 -- A pass over the records of a table, in the middle of its work: what the functions that carry a change out promise of the bytes. No reader of the
 -- public promises needs these definitions.
-use Rattle.std.specs.Prelude.{◌≡◌, List, [], ◌∷◌, ◌++◌, Bool, true, false, ℕ, zero, suc, ◌+◌, ◌-◌, ◌*◌, ◌≤◌, ◌<◌, length, get_or, take, drop, leb}
+use Rattle.std.specs.Prelude.{Option, None, Some, ◌≡◌, List, [], ◌∷◌, ◌++◌, Bool, true, false, ℕ, zero, suc, ◌+◌, ◌-◌, ◌*◌, ◌≤◌, ◌<◌, length, get_or, take, drop, leb}
 use Rattle.rights.specs.Table.{level}
 use Rattle.rights.specs.Record.{pasted}
 use Rattle.views.specs.Change.{drop_below, put_behind, remove, insert_behind, insert_in_front, chunks, raise}
@@ -14,6 +14,11 @@ overwritten k x r = pasted r k x
 -- The bytes from `from` to `end` moved up by `by`; the bytes that they leave stay.
 abbrev pub shifted : List ℕ → ℕ → ℕ → ℕ → List ℕ
 shifted t from end by = take (from + by) t ++ (take (end - from) (drop from t) ++ drop (end + by) t)
+
+-- The level deeper than which records go: 12, deeper than every record, where nothing is being left out.
+abbrev pub cut_level : Option ℕ → ℕ
+cut_level None = 12
+cut_level (Some l) = l
 
 -- The records that stay, as a table in the middle of its removals has them: w that are moved, and what stays of those from i on, where those deeper
 -- than `cut` at the front still go.

@@ -3,6 +3,7 @@ use Rattle.std.specs.Prelude.{ℕ, ◌+◌, ◌-◌, ◌≤◌, ◌<◌, ◌≡�
 use Rattle.rights.specs.Labels.{label_byte}
 use Rattle.rights.specs.PathReader.{run_at}
 use Rattle.xml.specs.How.Tokens.{opens, closes, empty, text, Lexed, token, end, bad, lex}
+use Rattle.xml.specs.declared.lexer.Span.{Span}
 use Rattle.xml.specs.declared.lexer.Lexeme.{Lexeme}
 use Rattle.xml.specs.declared.lexer.Lexeme.TheVariants.{Opens, Closes, Empty, Label, End, Bad}
 
@@ -10,12 +11,16 @@ use Rattle.xml.specs.declared.lexer.Lexeme.TheVariants.{Opens, Closes, Empty, La
 abbrev pub between : List ℕ → ℕ → ℕ → List ℕ
 between s a e = take (e - a) (drop a s)
 
+-- the name or text of a token
+abbrev pub name_in : List ℕ → Span → List ℕ
+name_in s v = between s v.start v.end
+
 -- the answer as what stands at `at`
 abbrev pub said : List ℕ → ℕ → Lexeme → Lexed
-said s at (Opens a e t) = token (opens (between s a e)) (t - at)
-said s at (Closes a e t) = token (closes (between s a e)) (t - at)
-said s at (Empty a e t) = token (empty (between s a e)) (t - at)
-said s at (Label a e t) = token (text (between s a e)) (t - at)
+said s at (Opens v) = token (opens (name_in s v)) (v.next - at)
+said s at (Closes v) = token (closes (name_in s v)) (v.next - at)
+said s at (Empty v) = token (empty (name_in s v)) (v.next - at)
+said s at (Label v) = token (text (name_in s v)) (v.next - at)
 said s at End = end
 said s at Bad = bad
 
@@ -29,10 +34,10 @@ pub record Spot (s : List ℕ) (i a e t : ℕ) : Type 0 where
   pub within : t ≤ length s
 
 abbrev pub Placed : List ℕ → ℕ → Lexeme → Type 0
-Placed s i (Opens a e t) = Spot s i a e t
-Placed s i (Closes a e t) = Spot s i a e t
-Placed s i (Empty a e t) = Spot s i a e t
-Placed s i (Label a e t) = Spot s i a e t
+Placed s i (Opens v) = Spot s i v.start v.end v.next
+Placed s i (Closes v) = Spot s i v.start v.end v.next
+Placed s i (Empty v) = Spot s i v.start v.end v.next
+Placed s i (Label v) = Spot s i v.start v.end v.next
 Placed s i End = Unit {0}
 Placed s i Bad = Unit {0}
 

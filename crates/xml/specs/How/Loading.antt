@@ -1,13 +1,11 @@
 -- What is told of a document before it is loaded, and when it may be written: what the two functions promise and ask that a caller sees.
-use Rattle.std.specs.Prelude.{ℕ, ◌+◌, ◌*◌, ◌≤◌, max, ◌≡◌, Bool, true, cond, List, [], ◌∷◌, length, drop}
+use Rattle.std.specs.Prelude.{Option, Some, None, ℕ, ◌+◌, ◌*◌, ◌≤◌, max, ◌≡◌, Bool, true, cond, List, [], ◌∷◌, length, drop}
 use Rattle.rights.specs.Bytes.{all, is_zero}
 use Rattle.rights.specs.Labels.{same_label, restricted}
 use Rattle.rights.specs.Limits.{records_max}
 use Rattle.rights.specs.Nodes.{Node, level_of, label_of}
 use Rattle.rights.specs.Policy.{some}
 use Rattle.xml.specs.How.Tokens.{is_document, document_nodes}
-use Rattle.xml.specs.declared.document.Kind.{Kind}
-use Rattle.xml.specs.declared.document.Kind.TheVariants.{NoDocument, Document}
 use Rattle.xml.specs.declared.document.Tally.{Tally}
 
 -- the level of the deepest node
@@ -24,8 +22,8 @@ abbrev pub tally_of : List Node → Tally
 tally_of xs = record { nodes = length xs; deepest = deepest xs; restricted = some is_restricted xs }
 
 -- the answer on any bytes
-unfoldable pub document_kind : List ℕ → Kind
-document_kind s = cond (is_document s) (Document (tally_of (document_nodes s))) NoDocument
+unfoldable pub document_kind : List ℕ → Option Tally
+document_kind s = cond (is_document s) (Some (tally_of (document_nodes s))) None
 
 -- A document that may be written into the bytes of a table: its levels run to 11, all its nodes have room, and every byte after the count is zero.
 pub record Writable (s table : List ℕ) : Type 0 where

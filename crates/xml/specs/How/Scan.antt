@@ -1,16 +1,14 @@
 -- One pass over the tokens of a document: whether they nest, what its nodes are like, and whether the closing tags of a window of levels match.
-use Rattle.std.specs.Prelude.{ℕ, zero, suc, ◌+◌, ◌-◌, ◌≤◌, ◌<◌, max, ◌≡◌, Bool, true, false, cond, ◌&&◌, ◌||◌, List, [], ◌∷◌, map, eqb, leb, ltb, length, get_or, set, take, drop}
+use Rattle.std.specs.Prelude.{Option, Some, None, ℕ, zero, suc, ◌+◌, ◌-◌, ◌≤◌, ◌<◌, max, ◌≡◌, Bool, true, false, cond, ◌&&◌, ◌||◌, List, [], ◌∷◌, map, eqb, leb, ltb, length, get_or, set, take, drop}
 use Rattle.rights.specs.Labels.{label_byte}
 use Rattle.rights.specs.Nodes.{Node, node, level_of}
 use Rattle.rights.specs.PathReader.{run_at}
 use Rattle.xml.specs.How.Tokens.{Token, opens, closes, empty, text, Tokens, got, bad, tokens_from, tokens, nested, same_bytes, token_nodes}
 use Rattle.xml.specs.How.Loading.{deepest, is_restricted}
-use Rattle.xml.specs.declared.document.Kind.{Kind}
-use Rattle.xml.specs.declared.document.Kind.TheVariants.{NoDocument, Document}
 use Rattle.xml.specs.declared.document.Tally.{Tally}
 use Rattle.xml.specs.declared.document.Pass.{Pass}
-use Rattle.xml.specs.declared.document.Step.{Step}
-use Rattle.xml.specs.declared.document.Step.TheVariants.{On, Done}
+use Rattle.std.specs.declared.ops.ControlFlow.{ControlFlow}
+use Rattle.std.specs.declared.ops.ControlFlow.TheVariants.{Continue, Break}
 
 -- The nodes are told one by one.
 abbrev pub tallied : Tally → Node → Tally
@@ -41,9 +39,9 @@ abbrev pub window : ℕ
 window = 16384
 
 -- what a pass tells that compares the closing tags of a window
-abbrev pub kind_within : ℕ → ℕ → Tokens → Kind
-kind_within low w (got xs) = cond (nested xs && matched_within low w [] xs) (Document (tally_all no_nodes (token_nodes 0 xs))) NoDocument
-kind_within low w bad = NoDocument
+abbrev pub kind_within : ℕ → ℕ → Tokens → Option Tally
+kind_within low w (got xs) = cond (nested xs && matched_within low w [] xs) (Some (tally_all no_nodes (token_nodes 0 xs))) None
+kind_within low w bad = None
 
 -- The names of the open elements of the window, by their levels: an element of level l opens, and a tag closes one of level l.
 abbrev pub opened : ℕ → List (List ℕ) → ℕ → List ℕ → List (List ℕ)
@@ -53,17 +51,17 @@ abbrev pub closes_it : ℕ → List (List ℕ) → ℕ → List ℕ → Bool
 closes_it low names l n = cond (in_window low (length names) l) (same_bytes (get_or names (l - low) []) n) true
 
 -- what is told in the end, where d elements are open
-unfoldable pub told : ℕ → List (List ℕ) → ℕ → Tally → List Token → Kind
-told low names d t [] = cond (eqb d 0) (Document t) NoDocument
-told low names zero t (x ∷ xs) = NoDocument
+unfoldable pub told : ℕ → List (List ℕ) → ℕ → Tally → List Token → Option Tally
+told low names d t [] = cond (eqb d 0) (Some t) None
+told low names zero t (x ∷ xs) = None
 told low names (suc d) t (opens n ∷ xs) = told low (opened low names (suc d) n) (suc (suc d)) (tallied t (node (suc d) n)) xs
-told low names (suc d) t (closes n ∷ xs) = cond (closes_it low names d n) (told low names d t xs) NoDocument
+told low names (suc d) t (closes n ∷ xs) = cond (closes_it low names d n) (told low names d t xs) None
 told low names (suc d) t (empty n ∷ xs) = told low names (suc d) (tallied t (node (suc d) n)) xs
 told low names (suc d) t (text l ∷ xs) = told low names (suc d) (tallied t (node (suc d) l)) xs
 
-abbrev pub told_by : ℕ → List (List ℕ) → ℕ → Tally → Tokens → Kind
+abbrev pub told_by : ℕ → List (List ℕ) → ℕ → Tally → Tokens → Option Tally
 told_by low names d t (got xs) = told low names d t xs
-told_by low names d t bad = NoDocument
+told_by low names d t bad = None
 
 -- the label at a place
 abbrev pub name_at : List ℕ → ℕ → List ℕ
@@ -73,17 +71,13 @@ name_at s p = take (run_at label_byte s p) (drop p s)
 abbrev pub placed : ℕ → List ℕ → ℕ → ℕ → List ℕ
 placed low places l p = cond (in_window low (length places) l) (set places (l - low) p) places
 
--- an element without content, or a text, where d elements are open
-abbrev pub leaf_step : ℕ → Tally → ℕ → Step
-leaf_step d t next = cond (eqb d 0) (Done NoDocument) (On (record { at = next; depth = d; tally = t }))
-
 -- The same by the code's state: the window's names by their places. At most f tokens are read.
-abbrev pub told_at : List ℕ → ℕ → List ℕ → ℕ → Pass → Kind
+abbrev pub told_at : List ℕ → ℕ → List ℕ → ℕ → Pass → Option Tally
 told_at s low places f p = told_by low (map (name_at s) places) p.depth p.tally (tokens_from f (drop p.at s))
 
-abbrev pub told_after : List ℕ → ℕ → List ℕ → ℕ → Step → Kind
-told_after s low places f (On p) = told_at s low places f p
-told_after s low places f (Done k) = k
+abbrev pub told_after : List ℕ → ℕ → List ℕ → ℕ → ControlFlow (Option Tally) Pass → Option Tally
+told_after s low places f (Continue p) = told_at s low places f p
+told_after s low places f (Break k) = k
 
 -- a pass that has come to a place: what was counted lies before it
 pub record Ready (s : List ℕ) (places : List ℕ) (p : Pass) : Type 0 where
@@ -92,12 +86,12 @@ pub record Ready (s : List ℕ) (places : List ℕ) (p : Pass) : Type 0 where
   pub nodes : p.tally.nodes ≤ p.at
   pub before : (k : ℕ) → get_or places k 0 < p.at
 
-abbrev pub Onwards : List ℕ → List ℕ → Pass → Step → Type 0
-Onwards s places p (On q) = (p.at < q.at) × Ready s places q
-Onwards s places p (Done k) = Unit {0}
+abbrev pub Onwards : List ℕ → List ℕ → Pass → ControlFlow (Option Tally) Pass → Type 0
+Onwards s places p (Continue q) = (p.at < q.at) × Ready s places q
+Onwards s places p (Break k) = Unit {0}
 
 -- what one step of a pass promises
-pub record Steps (s : List ℕ) (low : ℕ) (before after : List ℕ) (p : Pass) (r : Step) : Type 0 where
+pub record Steps (s : List ℕ) (low : ℕ) (before after : List ℕ) (p : Pass) (r : ControlFlow (Option Tally) Pass) : Type 0 where
   pub is : (f : ℕ) → told_at s low before (suc f) p ≡ told_after s low after f r
   pub on : Onwards s after p r
 

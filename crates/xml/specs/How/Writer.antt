@@ -1,12 +1,10 @@
 -- One pass over the tokens of a document that puts a record for each node.
-use Rattle.std.specs.Prelude.{ℕ, zero, suc, ◌+◌, ◌-◌, ◌*◌, ◌≤◌, ◌<◌, ◌≡◌, List, [], ◌∷◌, ◌++◌, map, length, drop}
+use Rattle.std.specs.Prelude.{Option, Some, None, ℕ, zero, suc, ◌+◌, ◌-◌, ◌*◌, ◌≤◌, ◌<◌, ◌≡◌, List, [], ◌∷◌, ◌++◌, map, length, drop}
 use Rattle.rights.specs.Held.{join, node_bytes}
 use Rattle.rights.specs.Nodes.{Node, node, level_of}
 use Rattle.rights.specs.Record.{pasted}
 use Rattle.xml.specs.How.Tokens.{Token, opens, closes, empty, text, Lexed, token, end, bad, lex}
 use Rattle.xml.specs.declared.writer.Cursor.{Cursor}
-use Rattle.xml.specs.declared.writer.Next.{Next}
-use Rattle.xml.specs.declared.writer.Next.TheVariants.{On, Over}
 
 -- the node of a token where d elements are open, and how many are open after it
 abbrev pub own_nodes : ℕ → Token → List Node
@@ -62,9 +60,9 @@ pub record Put (s before after : List ℕ) (p q : Cursor) : Type 0 where
   pub on : p.at < q.at
   pub counted : Counted s q
 
-abbrev pub PutNext : List ℕ → List ℕ → List ℕ → Cursor → Next → Type 0
-PutNext s before after p (On q) = Put s before after p q
-PutNext s before after p Over = (after ≡ before) × ((f : ℕ) → nodes_at s f p ≡ [])
+abbrev pub PutNext : List ℕ → List ℕ → List ℕ → Cursor → Option Cursor → Type 0
+PutNext s before after p (Some q) = Put s before after p q
+PutNext s before after p None = (after ≡ before) × ((f : ℕ) → nodes_at s f p ≡ [])
 
 -- All records are put.
 pub record PutAll (s before after : List ℕ) (n : ℕ) : Type 0 where

@@ -12,4 +12,4 @@ returns c =
     let four = c.put_label-d.ensures in
     let five = c.put_bytes.ensures in
     let p = c.requires in
-    (rw (← c.level_at-level.ensures.0) (puts_more one (puts_more two.0 (puts_more three (puts_more four.0 five)))), omega (arith, one.next, two.1, three.next, four.1, five.next))
+    (rw (← c.level-level.ensures.0) (puts_more one (puts_more two.0 (puts_more three (puts_more four.0 five)))), omega (arith, one.next, two.1, three.next, four.1, five.next))

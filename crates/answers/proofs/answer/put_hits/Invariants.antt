@@ -2,14 +2,15 @@
 use Rattle.rights.specs.Marks.{marks_of, keep}
 use Rattle.answers.proofs.AnswerLaws.{Toward}
 use Rattle.answers.specs.Answer.{hit_lines}
-use Rattle.rights.specs.How.Numbers.{view_of}
+use Rattle.rights.specs.How.Seen.{nodes_in}
 use lib.ListN.{length, drop}
 use mathlib.Core.Path.{◌≡◌}
-use Prim.Native.Nat.{◌≤◌, ◌-◌, ◌*◌}
+use Prim.Native.Nat.{◌≤◌, ◌*◌}
 use Rattle.answers.proofs.answer.put_hits.Given as goal
 
 abbrev pub invariant-loop-i : goal.invariant-loop-i
-invariant-loop-i l = (l.i ≤ length l.shown) × (l.at ≤ 52 * l.i) × (length l.area ≡ length l.initial.area) × (Toward (hit_lines (keep (marks_of l.marks) (view_of l.table l.shown))) (hit_lines (keep (marks_of (drop l.i l.marks)) (drop l.i (view_of l.table l.shown)))) 0 l.initial.area l.area l.at)
-
-abbrev pub decreases-loop-i : goal.decreases-loop-i
-decreases-loop-i l = length l.shown - l.i
+invariant-loop-i l = record {
+  end : l.at ≤ 52 * l.i;
+  same : length l.area ≡ length l.initial.area;
+  put : Toward (hit_lines (keep (marks_of l.marks) (nodes_in l.shown))) (hit_lines (keep (marks_of (drop l.i l.marks)) (drop l.i (nodes_in l.shown)))) 0 l.initial.area l.area l.at;
+}

@@ -10,4 +10,4 @@ returns c =
     let one = c.put_opening-a.ensures in
     let two = c.put_label-b.ensures in
     let three = c.put_closing.ensures in
-    (rw (← c.level_at-level.ensures.0, ← c.next_level-next.ensures) (puts_more one.0 (puts_more two.0 three.0)), omega (arith, one.1, two.1, three.1))
+    (rw (← c.level-level.ensures.0, ← c.next_level-next.ensures) (puts_more one.0 (puts_more two.0 three.0)), omega (arith, one.1, two.1, three.1))

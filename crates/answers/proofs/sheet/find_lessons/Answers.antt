@@ -1,16 +1,16 @@
-use Rattle.rights.specs.How.Numbers.{view_of}
+use borrow.Author.Rules.{rules}
+use Rattle.std.proofs.Common.{None}
+use Rattle.std.proofs.lemmas.Simd.{map-map}
+use Rattle.rights.specs.How.Seen.{nodes_in}
 use Rattle.answers.specs.Sheet.{lesson}
-use Rattle.answers.proofs.SheetParts.{map_five}
+use Rattle.answers.specs.How.SheetParts.{place}
+use Rattle.answers.proofs.SheetParts.{map_alike}
 use Rattle.answers.proofs.sheet.find_lessons.Goals as goal
 
-pub returns : goal.returns
-returns c =
+pub returns-clause-found : goal.returns-clause-found
+returns-clause-found c =
     let a = c.args in
-    rw (
-      c.find_lesson-a.ensures,
-      c.find_lesson-b.ensures,
-      c.find_lesson-c.ensures,
-      c.find_lesson-d.ensures,
-      c.find_lesson-e.ensures,
-    )
-    (map_five (lesson a.room.now (view_of a.table.now a.shown.now) a.n) a.days.now c.requires.2)
+    let t = nodes_in a.shown.now in
+    rw (map-map (lesson a.room.now t a.n) (place t) a.days)
+    (map_alike (place t) (λ o. lesson a.room.now t a.n (place t o)) c.map.result a.days None None (search rules)
+    (λ i h. let q = c.map.ensures.items.at i None None (search rules) in search rules))

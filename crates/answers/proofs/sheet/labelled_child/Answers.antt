@@ -1,68 +1,57 @@
 use mathlib.Core.Path.{sym, ap, ◌∙◌}
 use native.Mathlib.Omega.{arith}
-use borrow.Author.Rules.{rules}
 use Rattle.rights.specs.XPath.{at, children, filter}
-use Rattle.rights.specs.How.Numbers.{view_of}
+use Rattle.rights.specs.How.Seen.{nodes_in}
 use Rattle.rights.proofs.PassLaws.{view-length}
 use Rattle.answers.specs.Sheet.{carries, labelled}
-use Rattle.answers.proofs.SheetParts.{children-none, children_from, passed_on, first_that, none_that}
+use Rattle.answers.proofs.SheetParts.{children_from, passed_on, first_that, none_that}
 use Rattle.answers.proofs.sheet.labelled_child.Goals as goal
 
-pub returns-then-shown-i : goal.returns-then-shown-i
-unfolding labelled filter
-returns-then-shown-i c =
+pub loop-next-init : goal.loop-next-init
+loop-next-init c =
     let a = c.args in
-    let t = view_of a.table.now a.shown.now in
-    let n = view-length a.table.now a.shown.now in
-    (rw (children-none t a.i (omega arith)) (sym n), search rules)
+    let t = nodes_in a.shown.now in
+    let f = c.child_from-next.ensures in
+    (f.inside, ap (filter (carries a.room.now t)) (children_from t a.i _ (omega (arith, c.level-l.ensures.0)) ∙ f.first.is))
 
-pub loop-j-init : goal.loop-j-init
-loop-j-init c =
-    let a = c.args in
-    let t = view_of a.table.now a.shown.now in
-    let n = view-length a.table.now a.shown.now in
-    let e = c.level_at-l.ensures.0 in
-    let f = c.child_from-j.ensures in
-    (omega (arith, f.fits), ap (filter (carries a.room.now t)) (children_from t a.i _ (omega (arith, e)) ∙ f.is))
+pub is_labelled-requires : goal.is_labelled-requires
+is_labelled-requires c =
+    let n = view-length c.args.shown.now.table.now c.args.shown.now.numbers.now in
+    let h = rw c.in-Some.is at c.loop-next.invariant.0 in
+    omega (arith, h)
 
-pub returns-then-is_labelled : goal.returns-then-is_labelled
+pub returns-then-is_labelled-clause-first : goal.returns-then-is_labelled-clause-first
 unfolding labelled
-returns-then-is_labelled c =
+returns-then-is_labelled-clause-first c =
     let a = c.args in
-    let t = view_of a.table.now a.shown.now in
-    let n = view-length a.table.now a.shown.now in
-    let l = c.loop-j in
-    (first_that (carries a.room.now t) t _ l.j (children t (at a.i)) l.invariant.1 (omega arith) (sym c.is_labelled.ensures ∙ c.if-is_labelled.true), l.invariant.0)
+    let t = nodes_in a.shown.now in
+    let h = rw c.in-Some.is at c.loop-next.invariant in
+    first_that (carries a.room.now t) t _ c.in-Some.j (children t (at a.i)) h.1 h.0 (sym c.is_labelled.ensures ∙ c.if-is_labelled.true)
 
 pub overflow_add-j : goal.overflow_add-j
 overflow_add-j c =
-    omega (arith, c.requires.few)
+    let n = view-length c.args.shown.now.table.now c.args.shown.now.numbers.now in
+    let h = rw c.in-Some.is at c.loop-next.invariant.0 in
+    omega (arith, h, c.args.shown.now.fits.few)
 
-pub loop-j-smaller : goal.loop-j-smaller
-loop-j-smaller c =
+pub loop-next-smaller : goal.loop-next-smaller
+loop-next-smaller c =
+    let h = rw c.in-Some.is at c.loop-next.invariant.0 in
+    let f = c.child_from-next-in-Some.ensures.first in
+    rw c.in-Some.is (omega (arith, h, f.on (omega (arith, h))))
+
+pub loop-next-preserved : goal.loop-next-preserved
+loop-next-preserved c =
     let a = c.args in
-    let n = view-length a.table.now a.shown.now in
-    let f = c.child_from-j-in-loop-j.ensures in
-    let h = f.on (omega arith) in
-    omega arith
+    let t = nodes_in a.shown.now in
+    let h = rw c.in-Some.is at c.loop-next.invariant in
+    let f = c.child_from-next-in-Some.ensures in
+    (f.inside, passed_on (carries a.room.now t) t _ c.in-Some.j (children t (at a.i)) h.1 _ h.0 (sym c.is_labelled.ensures ∙ c.if-is_labelled.false) f.first)
 
-pub loop-j-preserved : goal.loop-j-preserved
-loop-j-preserved c =
-    let a = c.args in
-    let t = view_of a.table.now a.shown.now in
-    let n = view-length a.table.now a.shown.now in
-    let l = c.loop-j in
-    let f = c.child_from-j-in-loop-j.ensures in (
-      omega (arith, f.fits),
-      passed_on (carries a.room.now t) t _ l.j (children t (at a.i)) l.invariant.1 _ (omega arith)
-          (sym c.is_labelled.ensures ∙ c.if-is_labelled.false) f,
-    )
-
-pub returns : goal.returns
+pub returns-clause-first : goal.returns-clause-first
 unfolding labelled
-returns c =
+returns-clause-first c =
     let a = c.args in
-    let t = view_of a.table.now a.shown.now in
-    let n = view-length a.table.now a.shown.now in
-    let l = c.loop-j in
-    (sym n ∙ none_that (carries a.room.now t) t _ l.j (children t (at a.i)) l.invariant.1 (omega arith), search rules)
+    let t = nodes_in a.shown.now in
+    let h = rw c.in_default.is at c.loop-next.invariant in
+    none_that (carries a.room.now t) t _ _ (children t (at a.i)) h.1 (omega arith)

@@ -1,17 +1,17 @@
--- Of the children those that carry the label are those among node j and its later siblings.
-use Prim.Native.Nat.{◌-◌, ◌≤◌}
+-- Of the children those that carry the label are those among the next one and its later siblings.
+use Prim.Native.Nat.{◌-◌}
 use mathlib.Core.Path.{◌≡◌}
 use lib.ListN.{length}
 use Rattle.rights.specs.XPath.{at, children, filter}
-use Rattle.rights.specs.How.Numbers.{view_of}
+use Rattle.rights.specs.How.Seen.{nodes_in}
 use Rattle.answers.specs.Sheet.{carries}
-use Rattle.answers.specs.How.SheetParts.{onward}
+use Rattle.answers.specs.How.SheetParts.{onward, place, Inside}
 use Rattle.answers.proofs.sheet.labelled_child.Given as goal
 
-abbrev pub invariant-loop-j : goal.invariant-loop-j
-invariant-loop-j l = (l.j ≤ length l.shown)
-    × (filter (carries l.room (view_of l.table l.shown)) (children (view_of l.table l.shown) (at l.i))
-    ≡ filter (carries l.room (view_of l.table l.shown)) (onward (view_of l.table l.shown) l.l l.j))
+abbrev pub invariant-loop-next : goal.invariant-loop-next
+invariant-loop-next l = Inside (nodes_in l.shown) l.next
+    × (filter (carries l.room (nodes_in l.shown)) (children (nodes_in l.shown) (at l.i))
+    ≡ filter (carries l.room (nodes_in l.shown)) (onward (nodes_in l.shown) l.l (place (nodes_in l.shown) l.next)))
 
-abbrev pub decreases-loop-j : goal.decreases-loop-j
-decreases-loop-j l = length l.shown - l.j
+abbrev pub decreases-loop-next : goal.decreases-loop-next
+decreases-loop-next l = length (nodes_in l.shown) - place (nodes_in l.shown) l.next

@@ -1,7 +1,7 @@
 -- Number is that of the digits before i, and those from i on finish it; at most three digits were passed, so it is small.
 use Prim.Native.Nat.{◌+◌, ◌-◌, ◌≤◌, ◌<◌}
 use mathlib.Core.Path.{◌≡◌}
-use lib.ListN.{length, take, drop}
+use lib.ListN.{take, drop}
 use Rattle.rights.specs.Bytes.{digit_byte}
 use Rattle.rights.specs.PathReader.{run_at, number_of}
 use Rattle.rights.proofs.PassLaws.{tens}
@@ -9,8 +9,5 @@ use Rattle.forms.specs.Part.{day_digits}
 use Rattle.forms.proofs.kind.pass_day.Given as goal
 
 abbrev pub invariant-loop-i : goal.invariant-loop-i
-invariant-loop-i l = (l.at ≤ l.i) × (l.i ≤ l.at + day_digits) × (l.i ≤ length l.s) × (l.i + run_at digit_byte l.s l.i ≡ l.at + run_at digit_byte l.s l.at)
-    × (number_of 0 (take (run_at digit_byte l.s l.at) (drop l.at l.s)) ≡ number_of l.number (take (run_at digit_byte l.s l.i) (drop l.i l.s))) × (l.number < tens (l.i - l.at))
-
-abbrev pub decreases-loop-i : goal.decreases-loop-i
-decreases-loop-i l = length l.s - l.i
+invariant-loop-i l = (l.i ≤ l.at + day_digits) × (l.i + run_at digit_byte l.s l.i ≡ l.at + run_at digit_byte l.s l.at)
+    × (number_of 0 (take (run_at digit_byte l.s l.at) (drop l.at l.s)) ≡ number_of l.says (take (run_at digit_byte l.s l.i) (drop l.i l.s))) × (l.says < tens (l.i - l.at))

@@ -1,58 +1,32 @@
 -- Kind by kind.
-use Prim.Native.Nat.{ℕ}
 use mathlib.Core.Path.{refl}
-use borrow.Author.Tests.{ne_eqb}
-use Rattle.rights.proofs.PathLaws.{bad_onward}
 use Rattle.forms.specs.How.Codes.{end_by, says_by, area_by}
-use Rattle.forms.proofs.PartLaws.{silent_passed}
-use native.Mathlib.Omega.{arith}
+use Rattle.forms.proofs.PartLaws.{passed_as}
 use Rattle.forms.proofs.kind.pass_part.Goals as goal
 
-pub returns-in-1 : goal.returns-in-1
+pub returns-in-Label : goal.returns-in-Label
 unfolding end_by says_by area_by
-returns-in-1 c =
-    let z = c.in-1.is in
-    (rw z (silent_passed 1 c.args.s.now c.args.at _ _ c.silent.ensures c.label_part_end.ensures refl), rw z)
+returns-in-Label c = let z = c.in-Label.is in (rw z (passed_as 1 c.args.s.now c.args.at _ _ 0 c.silent.ensures c.label_part_end.ensures refl), rw z)
 
-pub returns-in-2 : goal.returns-in-2
+pub returns-in-Path : goal.returns-in-Path
 unfolding end_by says_by area_by
-returns-in-2 c =
-    let z = c.in-2.is in
-    (rw z (silent_passed 2 c.args.s.now c.args.at _ _ c.silent-in-2.ensures c.path_part_end.ensures refl), rw z)
+returns-in-Path c = let z = c.in-Path.is in (rw z (passed_as 2 c.args.s.now c.args.at _ _ 0 c.silent-in-Path.ensures c.path_part_end.ensures refl), rw z)
 
-pub returns-in-3 : goal.returns-in-3
+pub returns-in-Tree : goal.returns-in-Tree
 unfolding end_by says_by area_by
-returns-in-3 c =
-    let z = c.in-3.is in
+returns-in-Tree c =
+    let z = c.in-Tree.is in
     let x = c.read_tree.ensures in
     (rw z (record { end = x.end; says = x.says }), rw z x.out)
 
-pub returns-in-4 : goal.returns-in-4
+pub returns-in-Sign : goal.returns-in-Sign
 unfolding area_by
-returns-in-4 c =
-    let z = c.in-4.is in
-    (rw z c.pass_sign.ensures, rw z)
+returns-in-Sign c = let z = c.in-Sign.is in (rw z c.pass_sign.ensures, rw z)
 
-pub returns-in-5 : goal.returns-in-5
+pub returns-in-Right : goal.returns-in-Right
 unfolding area_by
-returns-in-5 c =
-    let z = c.in-5.is in
-    (rw z c.pass_right.ensures, rw z)
+returns-in-Right c = let z = c.in-Right.is in (rw z c.pass_right.ensures, rw z)
 
-pub returns-in-6 : goal.returns-in-6
+pub returns-in-Day : goal.returns-in-Day
 unfolding area_by
-returns-in-6 c =
-    let z = c.in-6.is in
-    (rw z c.pass_day.ensures, rw z)
-
-pub returns-in_default : goal.returns-in_default
-unfolding end_by says_by area_by
-returns-in_default c =
-    let k : ℕ = c.args.k in
-    let three = ne_eqb k 3 (λ e. omega arith) in
-    let four = ne_eqb k 4 (λ e. omega arith) in
-    let five = ne_eqb k 5 (λ e. omega arith) in
-    let six = ne_eqb k 6 (λ e. omega arith) in (
-      silent_passed k c.args.s.now c.args.at _ _ c.silent-in_default.ensures (bad_onward _ _ (rw (ne_eqb k 1 (λ e. omega arith), ne_eqb k 2 (λ e. omega arith), three, four, five, six))) (rw (three, four, five, six)),
-      rw three,
-    )
+returns-in-Day c = let z = c.in-Day.is in (rw z c.pass_day.ensures, rw z)

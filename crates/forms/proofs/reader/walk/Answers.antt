@@ -1,28 +1,28 @@
--- Each turn goes on from the one before it, on the line that the reader holds.
-use Rattle.std.proofs.Common.{◌≡◌, ◌+◌, ℕ, List, length, refl, subst, ◌∙◌, Bor}
-use Rattle.forms.specs.How.Reader.{Takes}
-use Rattle.forms.specs.declared.reader.Progress.{Progress}
-use Rattle.forms.proofs.ReaderLaws.{Walked, walk_starts, walk_on, walk_ends}
+-- Each part is taken on the line that the reader holds.
+use mathlib.Core.Path.{◌≡◌, refl, ap, ◌∙◌}
+use Rattle.std.proofs.Common.{ℕ, List, Bor}
+use native.Mathlib.Omega.{arith}
+use Rattle.forms.proofs.ReaderLaws.{walk_starts, walk_on, walk_stops, walk_ends}
 use Rattle.forms.proofs.reader.walk.Goals as goal
 
-turn : (line held : Bor (List ℕ)) (t : ℕ) (a : List ℕ) (p : Progress) (b : List ℕ) (q : Progress) (c : List ℕ) → held ≡ line → Walked line.now a t p b
-    → Takes held.now t p b q c → length c ≡ length b → Walked line.now a (t + 1) q c
-turn line held t a p b q c e w h l = walk_on w (subst (λ (x : Bor (List ℕ)). Takes x.now t p b q c) e h) l
+pub loop-i-init : goal.loop-i-init
+loop-i-init c = (refl, walk_starts _ _ _ c.in_ok-progress.ensures)
+
+pub take-requires : goal.take-requires
+take-requires c = let e = c.loop-i.invariant.0 in let w = c.loop-i.invariant.1 in rw e (w.reading, omega arith, omega (arith, c.requires, w.size))
+
+pub returns-in_err-r : goal.returns-in_err-r
+returns-in_err-r c =
+    let e = c.loop-i.invariant.0 in
+    rw c.from_residual-in_err-r.ensures (walk_stops c.loop-i.invariant.1 _ (rw e at c.in_err-r.ensures.moves))
+
+pub loop-i-preserved : goal.loop-i-preserved
+loop-i-preserved c =
+    let e = c.loop-i.invariant.0 in
+    (ap (λ (l : Bor (List ℕ)). l.now) (c.in_ok-r.ensures.line _ refl) ∙ e, walk_on c.loop-i.invariant.1 _ _ (rw e at c.in_ok-r.ensures.moves) c.take.auto.tree)
 
 pub returns : goal.returns
 returns c =
-    let line = c.args.line in
-    let a = c.args.tree.now in
-    let w = walk_starts line.now a c.args.from c.requires.0 in
-    let w1 = turn line line 0 a c.args.from a c.take-r.result.progress c.take-r.new.tree refl w c.take-r.ensures.1 c.take-r.auto.tree in
-    let e1 : c.take-r.result.line ≡ line = c.take-r.ensures.0 in
-    let w2 = turn line c.take-r.result.line 1 a c.take-r.result.progress c.take-r.new.tree c.take-r-2.result.progress c.take-r-2.new.tree e1 w1 c.take-r-2.ensures.1 c.take-r-2.auto.tree in
-    let e2 : c.take-r-2.result.line ≡ line = c.take-r-2.ensures.0 ∙ e1 in
-    let w3 = turn line c.take-r-2.result.line 2 a c.take-r-2.result.progress c.take-r-2.new.tree c.take-r-3.result.progress c.take-r-3.new.tree e2 w2 c.take-r-3.ensures.1 c.take-r-3.auto.tree in
-    let e3 : c.take-r-3.result.line ≡ line = c.take-r-3.ensures.0 ∙ e2 in
-    let w4 = turn line c.take-r-3.result.line 3 a c.take-r-3.result.progress c.take-r-3.new.tree c.take-r-4.result.progress c.take-r-4.new.tree e3 w3 c.take-r-4.ensures.1 c.take-r-4.auto.tree in
-    let e4 : c.take-r-4.result.line ≡ line = c.take-r-4.ensures.0 ∙ e3 in
-    let w5 = turn line c.take-r-4.result.line 4 a c.take-r-4.result.progress c.take-r-4.new.tree c.take-r-5.result.progress c.take-r-5.new.tree e4 w4 c.take-r-5.ensures.1 c.take-r-5.auto.tree in
-    let e5 : c.take-r-5.result.line ≡ line = c.take-r-5.ensures.0 ∙ e4 in
-    let w6 = turn line c.take-r-5.result.line 5 a c.take-r-5.result.progress c.take-r-5.new.tree c.take-r-6.result.progress c.take-r-6.new.tree e5 w5 c.take-r-6.ensures.1 c.take-r-6.auto.tree in
-    walk_ends w6
+    let e = c.loop-i.invariant.0 in
+    let four : c.loop-i.i ≡ 4 = omega arith in
+    walk_ends _ _ _ _ (rw four at c.loop-i.invariant.1) _ (rw e at c.pass_close.ensures)

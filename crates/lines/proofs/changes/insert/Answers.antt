@@ -8,24 +8,25 @@ use Rattle.lines.specs.UserView.{done_in}
 use Rattle.lines.specs.Work.{tree_checks, insert_checks, insert_at, change_at, count_text}
 use Rattle.lines.proofs.ChangeLaws.{done_reach, done_cover, insert_parts}
 use Rattle.lines.proofs.OutcomeLaws.{made_at}
-use Rattle.lines.proofs.RefusalLaws.{passed, first_front, performs_refused, performed-guarded}
+use Rattle.lines.proofs.RefusalLaws.{passed_ok, front_err, performs_refused, performed-guarded}
 use Rattle.lines.proofs.StateLaws.{store_held}
 use Rattle.lines.proofs.changes.insert.Goals as goal
 
-pub tree_refusal-down-requires : goal.tree_refusal-down-requires
-tree_refusal-down-requires c =
+pub tree_refusal-requires : goal.tree_refusal-requires
+tree_refusal-requires c =
     (omega (arith, (store_held _ _ c.requires.0).size), c.requires.1)
 
-pub returns-then-down-ne0 : goal.returns-then-down-ne0
-returns-then-down-ne0 c =
+pub returns-in_err-tree_refusal : goal.returns-in_err-tree_refusal
+returns-in_err-tree_refusal c =
     let a = c.args in
     performs_refused _ _ _
-    (first_front (tree_checks a.state.now a.path.now a.m a.tree.now) (insert_checks a.place (done_in (change_at a.place) a.state.now a.table.now a.path.now) a.m a.tree.now a.table.now) _ c.tree_refusal-down.ensures c.if-down-ne0.true) c.if-down-ne0.true
+    (front_err c.in_err-tree_refusal.was (tree_checks a.state.now a.path.now a.m a.tree.now) c.tree_refusal.ensures (insert_checks a.place (done_in (change_at a.place) a.state.now a.table.now a.path.now) a.m a.tree.now a.table.now))
+    c.in_err-tree_refusal.was c.from_residual.result c.from_residual.ensures.1
 
 pub mark_change-k-requires : goal.mark_change-k-requires
 mark_change-k-requires c =
     let a = c.args in
-    let p = passed (tree_checks a.state.now a.path.now a.m a.tree.now) _ refl c.tree_refusal-down.ensures c.if-down-ne0.false in
+    let p = passed_ok (tree_checks a.state.now a.path.now a.m a.tree.now) refl c.tree_refusal.ensures c.in_ok-tree_refusal.was in
     (c.requires.0, (p.0, (p.1.0, tt)), refl {a = 16384})
 
 pub count_of-n-requires : goal.count_of-n-requires
@@ -52,6 +53,6 @@ returns c =
     let h = a.path.now in
     let x = a.tree.now in
     let o = change_at a.place in
-    made_at (performed-guarded (tree_checks s h a.m x) (insert_at a.place (done_in o s t h) a.m x (count_text o s t h) (stage s) t) (length a.area.now) s t (passed (tree_checks s h a.m x) _ refl c.tree_refusal-down.ensures c.if-down-ne0.false)
+    made_at (performed-guarded (tree_checks s h a.m x) (insert_at a.place (done_in o s t h) a.m x (count_text o s t h) (stage s) t) (length a.area.now) s t (passed_ok (tree_checks s h a.m x) refl c.tree_refusal.ensures c.in_ok-tree_refusal.was)
     ∙ ap (λ w. performed w (length a.area.now) s t) (insert_parts _ s t h (replicate 16384 0) _ _ _ c.mark_change-k.ensures c.count_of-n.ensures a.place c.change_at.ensures a.m x))
     c.insert_done.ensures

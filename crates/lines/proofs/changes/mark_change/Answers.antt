@@ -7,6 +7,7 @@ use Rattle.rights.proofs.TableLaws.{table_long}
 use Rattle.lines.proofs.StateLaws.{store_held}
 use Rattle.lines.proofs.UserViewLaws.{shown_long, marks_long_enough, all_held}
 use Rattle.lines.proofs.ChangeLaws.{selected-count, rights-reach, done_asks, done_records}
+use Rattle.rights.proofs.MarkLaws.{count_front}
 use Rattle.lines.proofs.changes.mark_change.Goals as goal
 
 -- an area before anything is written there
@@ -46,16 +47,11 @@ mark_done-requires c =
     let a = c.args in
     done_asks a.state.now a.table.now a.path.now c.requires.0 empty empty empty _ _ _ _ c.select_user-k.ensures.0 ((all_held c.args.state.now c.args.table.now c.requires.0 _ _ c.select_user-k.ensures.1)) _ c.count_of-n.ensures a.done.now c.requires.2
 
-pub count_marks-requires : goal.count_marks-requires
-count_marks-requires c =
-    let r = c.select_user-k.ensures.0 in
-    marks_long_enough c.args.state.now c.args.table.now c.args.path.now _ _ _ c.requires.0 r.size r.picked
-
 pub returns : goal.returns
 returns c =
     let a = c.args in
     let r = c.select_user-k.ensures.0 in
     record {
-      size = selected-count a.state.now a.table.now a.path.now c.requires.0 empty empty empty _ _ _ _ r ((all_held c.args.state.now c.args.table.now c.requires.0 _ _ c.select_user-k.ensures.1)) _ c.count_marks.ensures.0;
+      size = selected-count a.state.now a.table.now a.path.now c.requires.0 empty empty empty _ _ _ _ r ((all_held c.args.state.now c.args.table.now c.requires.0 _ _ c.select_user-k.ensures.1)) _ (count_front _ _ c.count_marks.result (marks_long_enough c.args.state.now c.args.table.now c.args.path.now _ _ _ c.requires.0 r.size r.picked) c.count_marks.ensures).0;
       marks = done_records a.state.now a.table.now a.path.now c.requires.0 empty empty empty _ _ _ _ r ((all_held c.args.state.now c.args.table.now c.requires.0 _ _ c.select_user-k.ensures.1)) _ c.count_of-n.ensures a.change a.done.now _ c.mark_done.ensures;
     }

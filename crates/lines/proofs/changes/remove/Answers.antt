@@ -6,27 +6,27 @@ use lib.ListN.{replicate}
 use Rattle.rights.proofs.TableLaws.{table_long}
 use Rattle.lines.specs.Work.{on_view}
 use Rattle.lines.proofs.ChangeLaws.{done_reach, done_cover, removed_table}
-use Rattle.lines.proofs.RefusalLaws.{passed, performs_refused, performs_short, performs_done}
+use Rattle.lines.proofs.RefusalLaws.{passed_ok, performs_refused, performs_short, performs_done}
 use Rattle.lines.proofs.StateLaws.{store_held}
 use Rattle.lines.proofs.changes.remove.Goals as goal
 
-pub path_refusal-down-requires : goal.path_refusal-down-requires
-path_refusal-down-requires c = omega (arith, (store_held _ _ c.requires).size)
+pub path_refusal-requires : goal.path_refusal-requires
+path_refusal-requires c = omega (arith, (store_held _ _ c.requires).size)
 
-pub returns-then-down-ne0 : goal.returns-then-down-ne0
-returns-then-down-ne0 c = performs_refused _ _ _ c.path_refusal-down.ensures c.if-down-ne0.true
+pub returns-in_err-path_refusal : goal.returns-in_err-path_refusal
+returns-in_err-path_refusal c = performs_refused _ _ _ c.path_refusal.ensures c.in_err-path_refusal.was c.from_residual.result c.from_residual.ensures.1
 
 pub answer_marked-need-requires : goal.answer_marked-need-requires
 answer_marked-need-requires c =
     let a = c.args in
-    let p = passed (on_view a.path.now a.state.now) _ refl c.path_refusal-down.ensures c.if-down-ne0.false in
+    let p = passed_ok (on_view a.path.now a.state.now) refl c.path_refusal.ensures c.in_ok-path_refusal.was in
     (c.requires, p, refl {a = 16384})
 
-pub returns-then-short-ne0 : goal.returns-then-short-ne0
-returns-then-short-ne0 c =
+pub returns-in_err-area_refusal : goal.returns-in_err-area_refusal
+returns-in_err-area_refusal c =
     let a = c.args in
-    let p = passed (on_view a.path.now a.state.now) _ refl c.path_refusal-down.ensures c.if-down-ne0.false in
-    performs_short _ _ _ p c.answer_marked-need.ensures.1 c.area_refusal-short.ensures c.if-short-ne0.true
+    let p = passed_ok (on_view a.path.now a.state.now) refl c.path_refusal.ensures c.in_ok-path_refusal.was in
+    performs_short _ _ _ p c.answer_marked-need.ensures.1 c.area_refusal.ensures c.in_err-area_refusal.was c.from_residual-in_err-area_refusal.result c.from_residual-in_err-area_refusal.ensures.1
 
 pub count_of-n-requires : goal.count_of-n-requires
 count_of-n-requires c =
@@ -47,6 +47,6 @@ pub returns : goal.returns
 returns c =
     let a = c.args in
     let r = c.answer_marked-need.ensures in
-    let p = passed (on_view a.path.now a.state.now) _ refl c.path_refusal-down.ensures c.if-down-ne0.false in
-    performs_done _ _ _ p r.1 c.area_refusal-short.ensures c.if-short-ne0.false refl
+    let p = passed_ok (on_view a.path.now a.state.now) refl c.path_refusal.ensures c.in_ok-path_refusal.was in
+    performs_done _ _ _ p r.1 c.area_refusal.ensures c.in_ok-area_refusal.was refl
     (removed_table change.Remove a.state.now a.table.now a.path.now (replicate {A = ℕ} 16384 0) _ _ r.0 c.count_of-n.ensures _ c.remove_marked.ensures)

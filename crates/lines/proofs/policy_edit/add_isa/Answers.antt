@@ -16,7 +16,7 @@ overflow_cast-policy c =
 pub bounds-policy-a : goal.bounds-policy-a
 bounds-policy-a c =
     let g = policy_sound c.args.policy.now c.requires.0 in
-    omega (arith, g.size, c.wide.ensures)
+    omega (arith, g.size, c.from.ensures)
 
 pub overflow_cast-policy-2 : goal.overflow_cast-policy-2
 overflow_cast-policy-2 c =
@@ -26,7 +26,7 @@ overflow_cast-policy-2 c =
 pub bounds-policy-a-2 : goal.bounds-policy-a-2
 bounds-policy-a-2 c =
     let g = policy_sound c.args.policy.now c.requires.0 in
-    simp length-set (omega (arith, g.size, c.wide.ensures))
+    simp length-set (omega (arith, g.size, c.from.ensures))
 
 pub bounds-policy-1-2 : goal.bounds-policy-1-2
 bounds-policy-1-2 c =
@@ -37,4 +37,4 @@ pub returns : goal.returns
 returns c =
     let g = policy_sound c.args.policy.now c.requires.0 in
     let a = c.args in
-    isa_written a.policy.now a.n a.r c.wide.result c.wide.ensures (omega (arith, g.size, c.wide.ensures))
+    isa_written a.policy.now a.n a.r c.from.result c.from.ensures (omega (arith, g.size, c.from.ensures))

@@ -13,7 +13,7 @@ bounds-policy-2 c =
 pub put_steps-n-requires : goal.put_steps-n-requires
 put_steps-n-requires c =
     let g = policy_sound c.args.policy.now c.requires.0 in
-    (c.requires.3, omega (arith, g.size, c.wide.ensures, c.requires.1))
+    (c.requires.3, omega (arith, g.size, c.from.ensures, c.requires.1))
 
 pub overflow_cast-who : goal.overflow_cast-who
 overflow_cast-who c =
@@ -26,7 +26,7 @@ overflow_cast-n c =
 pub put_head-requires : goal.put_head-requires
 put_head-requires c =
     let g = policy_sound c.args.policy.now c.requires.0 in
-    omega (arith, g.size, c.wide.ensures, c.requires.1)
+    omega (arith, g.size, c.from.ensures, c.requires.1)
 
 pub bounds-policy-2-2 : goal.bounds-policy-2-2
 bounds-policy-2-2 c =
@@ -36,7 +36,7 @@ pub returns : goal.returns
 returns c =
     let a = c.args in
     let g = policy_sound c.args.policy.now c.requires.0 in
-    let w = c.wide in
+    let w = c.from in
     let t = c.put_steps-n in
     let h = c.put_head in
     rule_written a.policy.now t.new.policy h.new.policy a.accept a.bit a.who w.result t.result (steps_in a.path.now) w.ensures t.ensures.0 (omega (arith, g.size, w.ensures, c.requires.1)) t.ensures.1 h.ensures

@@ -1,6 +1,5 @@
 -- The record is put, then the count is raised.
 use native.Mathlib.Omega.{arith}
-use lib.ListN.{take, drop}
 use Rattle.lines.proofs.EditBytes.{subject_written}
 use Rattle.rights.proofs.SoundLaws.{policy_sound}
 use Rattle.lines.proofs.policy_edit.add_subject.Goals as goal
@@ -12,7 +11,7 @@ bounds-policy-0 c =
 pub put_name-requires : goal.put_name-requires
 put_name-requires c =
     let g = policy_sound c.args.policy.now c.requires.0 in
-    (omega (arith, g.size, c.wide.ensures), c.requires.2, c.requires.3)
+    (omega (arith, g.size, c.from.ensures), c.requires.2)
 
 pub bounds-policy-0-2 : goal.bounds-policy-0-2
 bounds-policy-0-2 c =
@@ -22,4 +21,4 @@ pub returns : goal.returns
 returns c =
     let a = c.args in
     let r = c.put_name in
-    subject_written a.policy.now r.new.out (take a.n (drop a.at a.s.now)) c.wide.result c.wide.ensures r.ensures
+    subject_written a.policy.now r.new.out a.name.now c.from.result c.from.ensures r.ensures

@@ -19,25 +19,25 @@ returns-then-byte_is c =
     let s = c.args.s.now in
     let l = c.loop-at in
     let read = c.read_step in
-    let e = c.in-Step.end in
-    sym (look_open s l.at l.invariant read.result read.ensures _ _ e c.in-Step.is (stands s e 91 c.byte_is.result c.byte_is.ensures c.if-byte_is.true))
+    let e = c.in-Some.step.end in
+    sym (look_open s l.at l.invariant read.result read.ensures _ _ e c.in-Some.is (stands s e 91 c.byte_is.result c.byte_is.ensures c.if-byte_is.true))
 
-pub returns-else-byte_is-2 : goal.returns-else-byte_is-2
-returns-else-byte_is-2 c =
+pub returns-then-not-byte_is : goal.returns-then-not-byte_is
+returns-then-not-byte_is c =
     let s = c.args.s.now in
     let l = c.loop-at in
     let read = c.read_step in
-    let e = c.in-Step.end in
+    let e = c.in-Some.step.end in
     let o = stands_not s e 91 c.byte_is.result c.byte_is.ensures c.if-byte_is.false in
-    sym (look_done s l.at l.invariant read.result read.ensures _ _ e c.in-Step.is o (stands_not s e 47 c.byte_is-in-loop-at.result c.byte_is-in-loop-at.ensures c.if-byte_is-2.false))
+    sym (look_done s l.at l.invariant read.result read.ensures _ _ e c.in-Some.is o (stands_not s e 47 c.byte_is-in-loop-at.result c.byte_is-in-loop-at.ensures c.if-not-byte_is.true))
 
 pub overflow_add-at : goal.overflow_add-at
 overflow_add-at c =
     let s = c.args.s.now in
     let l = c.loop-at in
     let read = c.read_step in
-    let e = c.in-Step.end in
-    let w = within s e 47 (omega arith) (stands s e 47 c.byte_is-in-loop-at.result c.byte_is-in-loop-at.ensures c.if-byte_is-2.true) in
+    let e = c.in-Some.step.end in
+    let w = within s e 47 (omega arith) (stands s e 47 c.byte_is-in-loop-at.result c.byte_is-in-loop-at.ensures c.if-not-byte_is.false) in
     omega (arith, w)
 
 pub loop-at-smaller : goal.loop-at-smaller
@@ -45,8 +45,8 @@ loop-at-smaller c =
     let s = c.args.s.now in
     let l = c.loop-at in
     let read = c.read_step in
-    let e = c.in-Step.end in
-    let on = step_on s l.at read.result read.ensures _ _ e c.in-Step.is in
+    let e = c.in-Some.step.end in
+    let on = step_on s l.at read.result read.ensures _ _ e c.in-Some.is in
     omega (arith, on.0, on.1, on.2, c.loop-at-test.true)
 
 pub loop-at-preserved : goal.loop-at-preserved
@@ -54,9 +54,9 @@ loop-at-preserved c =
     let s = c.args.s.now in
     let l = c.loop-at in
     let read = c.read_step in
-    let e = c.in-Step.end in
+    let e = c.in-Some.step.end in
     let o = stands_not s e 91 c.byte_is.result c.byte_is.ensures c.if-byte_is.false in
-    look_on s l.at l.invariant read.result read.ensures _ _ e c.in-Step.is o (stands s e 47 c.byte_is-in-loop-at.result c.byte_is-in-loop-at.ensures c.if-byte_is-2.true)
+    look_on s l.at l.invariant read.result read.ensures _ _ e c.in-Some.is o (stands s e 47 c.byte_is-in-loop-at.result c.byte_is-in-loop-at.ensures c.if-not-byte_is.false)
 
 pub returns : goal.returns
 returns c =

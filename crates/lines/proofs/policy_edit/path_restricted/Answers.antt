@@ -14,26 +14,26 @@ returns-in_default c =
     let read = c.read_step in
     seek_none c.args.s.now l.i l.invariant.1 c.loop-i-test.true read.result read.ensures c.in_default.is
 
-pub overflow_sub-e : goal.overflow_sub-e
-overflow_sub-e c =
+pub slice_bounds-is_restricted-start : goal.slice_bounds-is_restricted-start
+slice_bounds-is_restricted-start c =
     let s = c.args.s.now in
     let l = c.loop-i in
     let t = c.loop-i-test.true in
     let read = c.read_step in
-    let k = c.in-Step.k in
-    let e = c.in-Step.e in
-    let on = step_on s (l.i + 1) read.result read.ensures c.in-Step.field-0 k e c.in-Step.is in
+    let k = c.in-Some.step.at in
+    let e = c.in-Some.step.end in
+    let on = step_on s (l.i + 1) read.result read.ensures c.in-Some.step.axis k e c.in-Some.is in
     omega (arith, on.1)
 
-pub is_restricted-requires : goal.is_restricted-requires
-is_restricted-requires c =
+pub slice_bounds-is_restricted-end : goal.slice_bounds-is_restricted-end
+slice_bounds-is_restricted-end c =
     let s = c.args.s.now in
     let l = c.loop-i in
     let t = c.loop-i-test.true in
     let read = c.read_step in
-    let k = c.in-Step.k in
-    let e = c.in-Step.e in
-    let on = step_on s (l.i + 1) read.result read.ensures c.in-Step.field-0 k e c.in-Step.is in
+    let k = c.in-Some.step.at in
+    let e = c.in-Some.step.end in
+    let on = step_on s (l.i + 1) read.result read.ensures c.in-Some.step.axis k e c.in-Some.is in
     omega (arith, on.1, on.2)
 
 pub returns-then-is_restricted : goal.returns-then-is_restricted
@@ -42,10 +42,10 @@ returns-then-is_restricted c =
     let l = c.loop-i in
     let t = c.loop-i-test.true in
     let read = c.read_step in
-    let k = c.in-Step.k in
-    let e = c.in-Step.e in
-    let on = step_on s (l.i + 1) read.result read.ensures c.in-Step.field-0 k e c.in-Step.is in
-    sym (seek_found s l.i l.invariant.1 t read.result read.ensures c.in-Step.field-0 k e c.in-Step.is (sym c.is_restricted.ensures ∙ c.if-is_restricted.true))
+    let k = c.in-Some.step.at in
+    let e = c.in-Some.step.end in
+    let on = step_on s (l.i + 1) read.result read.ensures c.in-Some.step.axis k e c.in-Some.is in
+    sym (seek_found s l.i l.invariant.1 t read.result read.ensures c.in-Some.step.axis k e c.in-Some.is (sym c.is_restricted.ensures ∙ c.if-is_restricted.true))
 
 pub loop-i-smaller : goal.loop-i-smaller
 loop-i-smaller c =
@@ -53,9 +53,9 @@ loop-i-smaller c =
     let l = c.loop-i in
     let t = c.loop-i-test.true in
     let read = c.read_step in
-    let k = c.in-Step.k in
-    let e = c.in-Step.e in
-    let on = step_on s (l.i + 1) read.result read.ensures c.in-Step.field-0 k e c.in-Step.is in
+    let k = c.in-Some.step.at in
+    let e = c.in-Some.step.end in
+    let on = step_on s (l.i + 1) read.result read.ensures c.in-Some.step.axis k e c.in-Some.is in
     omega (arith, on.0, on.1, on.2)
 
 pub loop-i-preserved : goal.loop-i-preserved
@@ -64,10 +64,10 @@ loop-i-preserved c =
     let l = c.loop-i in
     let t = c.loop-i-test.true in
     let read = c.read_step in
-    let k = c.in-Step.k in
-    let e = c.in-Step.e in
-    let on = step_on s (l.i + 1) read.result read.ensures c.in-Step.field-0 k e c.in-Step.is in
-    (on.2, seek_more s l.i l.invariant.1 t read.result read.ensures c.in-Step.field-0 k e c.in-Step.is (sym c.is_restricted.ensures ∙ c.if-is_restricted.false))
+    let k = c.in-Some.step.at in
+    let e = c.in-Some.step.end in
+    let on = step_on s (l.i + 1) read.result read.ensures c.in-Some.step.axis k e c.in-Some.is in
+    (on.2, seek_more s l.i l.invariant.1 t read.result read.ensures c.in-Some.step.axis k e c.in-Some.is (sym c.is_restricted.ensures ∙ c.if-is_restricted.false))
 
 pub returns : goal.returns
 returns c =

@@ -1,6 +1,7 @@
-use Prim.Native.Nat.{◌+◌}
+use Prim.Native.Nat.{◌+◌, ◌-◌}
 use mathlib.Core.Path.{refl}
 use native.Mathlib.Omega.{arith}
+use lib.ListN.{drop, length-take}
 use Rattle.rights.proofs.PathLaws.{step_on}
 use Rattle.lines.proofs.StoredPaths.{put_first, put-none, put-asks, put_more, put_end}
 use Rattle.lines.proofs.policy_edit.put_steps.Goals as goal
@@ -28,16 +29,15 @@ pub overflow_add-at : goal.overflow_add-at
 overflow_add-at c =
     omega (arith, c.loop-i.invariant.2.room, c.requires.1)
 
-pub overflow_sub-e : goal.overflow_sub-e
-overflow_sub-e c =
+pub slice_bounds-put_name-start : goal.slice_bounds-put_name-start
+slice_bounds-put_name-start c =
     let a = c.args in
-    let pre = c.requires in
     let l = c.loop-i in
     let t = c.loop-i-test.true in
     let read = c.read_step in
-    let k = c.in-Step.k in
-    let e = c.in-Step.e in
-    let on = step_on a.path.now (l.i + 1) read.result read.ensures c.in-Step.axis k e c.in-Step.is in
+    let k = c.in-Some.step.at in
+    let e = c.in-Some.step.end in
+    let on = step_on a.path.now (l.i + 1) read.result read.ensures c.in-Some.step.axis k e c.in-Some.is in
     omega (arith, on.1)
 
 pub put_name-requires : goal.put_name-requires
@@ -47,11 +47,11 @@ put_name-requires c =
     let l = c.loop-i in
     let t = c.loop-i-test.true in
     let read = c.read_step in
-    let k = c.in-Step.k in
-    let e = c.in-Step.e in
-    let on = step_on a.path.now (l.i + 1) read.result read.ensures c.in-Step.axis k e c.in-Step.is in
-    let w = put-asks a.policy.now a.at a.path.now l.policy l.n l.i l.invariant.2 pre.0 t read.result read.ensures c.in-Step.axis k e c.in-Step.is in
-    (omega (arith, w.0, pre.1, l.invariant.1), w.1, omega (arith, on.1, on.2))
+    let k = c.in-Some.step.at in
+    let e = c.in-Some.step.end in
+    let on = step_on a.path.now (l.i + 1) read.result read.ensures c.in-Some.step.axis k e c.in-Some.is in
+    let w = put-asks a.policy.now a.at a.path.now l.policy l.n l.i l.invariant.2 pre.0 t read.result read.ensures c.in-Some.step.axis k e c.in-Some.is in
+    (omega (arith, w.0, pre.1, l.invariant.1), omega (arith, w.1, length-take (e - k) (drop k a.path.now)))
 
 pub overflow_add-n : goal.overflow_add-n
 overflow_add-n c =
@@ -64,9 +64,9 @@ loop-i-smaller c =
     let l = c.loop-i in
     let t = c.loop-i-test.true in
     let read = c.read_step in
-    let k = c.in-Step.k in
-    let e = c.in-Step.e in
-    let on = step_on a.path.now (l.i + 1) read.result read.ensures c.in-Step.axis k e c.in-Step.is in
+    let k = c.in-Some.step.at in
+    let e = c.in-Some.step.end in
+    let on = step_on a.path.now (l.i + 1) read.result read.ensures c.in-Some.step.axis k e c.in-Some.is in
     omega (arith, on.0, on.1, on.2)
 
 pub loop-i-preserved : goal.loop-i-preserved
@@ -76,12 +76,12 @@ loop-i-preserved c =
     let l = c.loop-i in
     let t = c.loop-i-test.true in
     let read = c.read_step in
-    let k = c.in-Step.k in
-    let e = c.in-Step.e in
-    let on = step_on a.path.now (l.i + 1) read.result read.ensures c.in-Step.axis k e c.in-Step.is in
+    let k = c.in-Some.step.at in
+    let e = c.in-Some.step.end in
+    let on = step_on a.path.now (l.i + 1) read.result read.ensures c.in-Some.step.axis k e c.in-Some.is in
     let r = c.put_name in
     let b = c.axis_byte-first in
-    (on.2, omega (arith, l.invariant.1), put_more a.policy.now a.at a.path.now l.policy l.n l.i l.invariant.2 pre.0 t read.result read.ensures c.in-Step.axis k e c.in-Step.is r.new.out b.result pre.1 b.ensures r.ensures)
+    (on.2, omega (arith, l.invariant.1), put_more a.policy.now a.at a.path.now l.policy l.n l.i l.invariant.2 pre.0 t read.result read.ensures c.in-Some.step.axis k e c.in-Some.is r.new.out b.result pre.1 b.ensures r.ensures)
 
 pub shape_of-policy : goal.shape_of-policy
 shape_of-policy c = c.loop-i.invariant.1

@@ -1,21 +1,21 @@
 use mathlib.Core.Path.{refl}
 use native.Mathlib.Omega.{arith}
 use Rattle.lines.specs.Work.{on_view}
-use Rattle.lines.proofs.RefusalLaws.{passed, performs_refused, performs_short, performs_done}
+use Rattle.lines.proofs.RefusalLaws.{passed_ok, performs_refused, performs_short, performs_done}
 use Rattle.lines.proofs.StateLaws.{store_held}
 use Rattle.lines.proofs.UserViewLaws.{shown_fits, shown_long, shown-view, marks_are, marks_long_enough, marks_cover}
 use Rattle.lines.proofs.queries.ask_path.Goals as goal
 
-pub path_refusal-down-requires : goal.path_refusal-down-requires
-path_refusal-down-requires c = omega (arith, (store_held _ _ c.requires).size)
+pub path_refusal-requires : goal.path_refusal-requires
+path_refusal-requires c = omega (arith, (store_held _ _ c.requires).size)
 
-pub returns-then-down-ne0 : goal.returns-then-down-ne0
-returns-then-down-ne0 c = performs_refused _ _ _ c.path_refusal-down.ensures c.if-down-ne0.true
+pub returns-in_err-path_refusal : goal.returns-in_err-path_refusal
+returns-in_err-path_refusal c = performs_refused _ _ _ c.path_refusal.ensures c.in_err-path_refusal.was c.from_residual.result c.from_residual.ensures.1
 
 pub select_user-k-requires : goal.select_user-k-requires
 select_user-k-requires c =
     let a = c.args in
-    (c.requires, (passed (on_view a.path.now a.state.now) _ refl c.path_refusal-down.ensures c.if-down-ne0.false), record { reading = refl; seeing = refl }, refl {a = 16384}, refl {a = 16384}, refl {a = 16384})
+    (c.requires, (passed_ok (on_view a.path.now a.state.now) refl c.path_refusal.ensures c.in_ok-path_refusal.was), record { reading = refl; seeing = refl }, refl {a = 16384}, refl {a = 16384}, refl {a = 16384})
 
 pub slice_bounds-answer_ask-end : goal.slice_bounds-answer_ask-end
 slice_bounds-answer_ask-end c =
@@ -36,13 +36,13 @@ answer_ask-need-requires c =
     let r = c.select_user-k.ensures.0 in
     (shown_fits a.state.now a.table.now g _ _ _ r.size r.numbers, marks_cover a.state.now a.table.now a.path.now _ _ _ _ _ g r.size r.numbers r.picked)
 
-pub returns-then-short-ne0 : goal.returns-then-short-ne0
-returns-then-short-ne0 c =
+pub returns-in_err-area_refusal : goal.returns-in_err-area_refusal
+returns-in_err-area_refusal c =
     let a = c.args in
     let g = c.requires in
     let s = a.state.now in
     let r = c.select_user-k.ensures.0 in
-    performs_short _ _ _ (passed (on_view a.path.now s) _ refl c.path_refusal-down.ensures c.if-down-ne0.false) (rw ((shown-view s a.table.now g _ _ _ r.size r.numbers), (marks_are s a.table.now a.path.now _ _ _ g r.size r.picked)) at c.answer_ask-need.ensures) c.area_refusal-short.ensures c.if-short-ne0.true
+    performs_short _ _ _ (passed_ok (on_view a.path.now s) refl c.path_refusal.ensures c.in_ok-path_refusal.was) (rw ((shown-view s a.table.now g _ _ _ r.size r.numbers), (marks_are s a.table.now a.path.now _ _ _ g r.size r.picked)) at c.answer_ask-need.ensures) c.area_refusal.ensures c.in_err-area_refusal.was c.from_residual-in_err-area_refusal.result c.from_residual-in_err-area_refusal.ensures.1
 
 pub returns : goal.returns
 returns c =
@@ -50,4 +50,4 @@ returns c =
     let g = c.requires in
     let s = a.state.now in
     let r = c.select_user-k.ensures.0 in
-    performs_done _ _ _ (passed (on_view a.path.now s) _ refl c.path_refusal-down.ensures c.if-down-ne0.false) (rw ((shown-view s a.table.now g _ _ _ r.size r.numbers), (marks_are s a.table.now a.path.now _ _ _ g r.size r.picked)) at c.answer_ask-need.ensures) c.area_refusal-short.ensures c.if-short-ne0.false refl refl
+    performs_done _ _ _ (passed_ok (on_view a.path.now s) refl c.path_refusal.ensures c.in_ok-path_refusal.was) (rw ((shown-view s a.table.now g _ _ _ r.size r.numbers), (marks_are s a.table.now a.path.now _ _ _ g r.size r.picked)) at c.answer_ask-need.ensures) c.area_refusal.ensures c.in_ok-area_refusal.was refl refl

@@ -10,11 +10,17 @@ slice_bounds-select-count c = omega (arith, (store_held _ _ c.requires.0).size)
 pub slice_bounds-select-start : goal.slice_bounds-select-start
 slice_bounds-select-start c = omega (arith, (store_held _ _ c.requires.0).size)
 
-pub slice_bounds-select-end-3 : goal.slice_bounds-select-end-3
-slice_bounds-select-end-3 c =
+pub slice_bounds-nodes-end : goal.slice_bounds-nodes-end
+slice_bounds-nodes-end c =
     let a = c.args in
     let r = c.show_user-seen.ensures in
     shown_long a.state.now a.table.now c.requires.0 _ _ _ r.1 r.2
+
+pub invariant_of-nodes : goal.invariant_of-nodes
+invariant_of-nodes c =
+    let a = c.args in
+    let r = c.show_user-seen.ensures in
+    record { fits = shown_fits a.state.now a.table.now c.requires.0 _ _ _ r.1 r.2 }
 
 pub select-requires : goal.select-requires
 select-requires c =
@@ -23,7 +29,7 @@ select-requires c =
     let r = c.show_user-seen.ensures in
     let f = shown_fits a.state.now a.table.now g.0 _ _ _ r.1 r.2 in
     let own = own-asks a.state.now a.table.now g.0 _ _ r.0 in
-    (own.0, own.1, f, path_read (path_of a.path.now) g.1.0, omega (arith, f.few, g.5))
+    (own.0, own.1, path_read (path_of a.path.now) g.1.0, omega (arith, f.few, g.5))
 
 pub returns : goal.returns
 returns c =

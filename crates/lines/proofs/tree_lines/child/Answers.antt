@@ -7,27 +7,27 @@ use Rattle.views.specs.Change.{changed}
 use Rattle.views.specs.declared.insert.Place.TheVariants.{Append}
 use Rattle.lines.specs.Refusal.{first_refusal}
 use Rattle.lines.specs.Work.{label_check, insert_checks, root_alone}
-use Rattle.lines.proofs.RefusalLaws.{passed, performs_refused, performs_short, performs_done}
+use Rattle.lines.proofs.RefusalLaws.{passed_ok, performs_refused, performs_short, performs_done}
 use Rattle.lines.proofs.StateLaws.{store_held, stage-put}
 use Rattle.lines.proofs.TreeLineLaws.{root_placed, root_deep, root_fits, root_checks_lem}
 use Rattle.lines.proofs.tree_lines.child.Goals as goal
 
-pub child_refusal-down-requires : goal.child_refusal-down-requires
-child_refusal-down-requires c =
+pub child_refusal-requires : goal.child_refusal-requires
+child_refusal-requires c =
     let g = c.requires in
     let h = (store_held _ _ g.0).table in
     (h, table_few _ h, g.1, g.2)
 
-pub returns-then-down-ne0 : goal.returns-then-down-ne0
-returns-then-down-ne0 c =
+pub returns-in_err-child_refusal : goal.returns-in_err-child_refusal
+returns-in_err-child_refusal c =
     let a = c.args in
-    performs_refused _ _ _ (c.child_refusal-down.ensures ∙ ap (λ cs. first_refusal (label_check a.m a.tree.now ∷ cs)) (root_checks_lem a.m a.tree.now a.table.now)) c.if-down-ne0.true
+    performs_refused _ _ _ (c.child_refusal.ensures ∙ ap (λ cs. first_refusal (label_check a.m a.tree.now ∷ cs)) (root_checks_lem a.m a.tree.now a.table.now)) c.in_err-child_refusal.was c.from_residual.result c.from_residual.ensures.1
 
-pub returns-then-short-ne0 : goal.returns-then-short-ne0
-returns-then-short-ne0 c =
+pub returns-in_err-area_refusal : goal.returns-in_err-area_refusal
+returns-in_err-area_refusal c =
     let a = c.args in
     let x = a.tree.now in
-    performs_short _ _ _ (passed (label_check a.m x ∷ insert_checks Append root_alone a.m x a.table.now) _ refl (c.child_refusal-down.ensures ∙ ap (λ cs. first_refusal (label_check a.m x ∷ cs)) (root_checks_lem a.m x a.table.now)) c.if-down-ne0.false) c.answer_ok-need.ensures c.area_refusal-short.ensures c.if-short-ne0.true
+    performs_short _ _ _ (passed_ok (label_check a.m x ∷ insert_checks Append root_alone a.m x a.table.now) refl (c.child_refusal.ensures ∙ ap (λ cs. first_refusal (label_check a.m x ∷ cs)) (root_checks_lem a.m x a.table.now)) c.in_ok-child_refusal.was) c.answer_ok-need.ensures c.area_refusal.ensures c.in_err-area_refusal.was c.from_residual-in_err-area_refusal.result c.from_residual-in_err-area_refusal.ensures.1
 
 pub insert_marked-requires : goal.insert_marked-requires
 insert_marked-requires c =
@@ -35,7 +35,7 @@ insert_marked-requires c =
     let g = c.requires in
     let t = a.table.now in
     let x = a.tree.now in
-    let p = passed (label_check a.m x ∷ insert_checks Append root_alone a.m x t) _ refl (c.child_refusal-down.ensures ∙ ap (λ cs. first_refusal (label_check a.m x ∷ cs)) (root_checks_lem a.m x t)) c.if-down-ne0.false in
+    let p = passed_ok (label_check a.m x ∷ insert_checks Append root_alone a.m x t) refl (c.child_refusal.ensures ∙ ap (λ cs. first_refusal (label_check a.m x ∷ cs)) (root_checks_lem a.m x t)) c.in_ok-child_refusal.was in
     let h = (store_held a.state.now t g.0).table in record {
       t_value = (h, table_few t h, g.1);
       t_value_2 = (
@@ -53,6 +53,6 @@ returns c =
     let a = c.args in
     let t = a.table.now in
     let x = a.tree.now in
-    performs_done _ _ _ (passed (label_check a.m x ∷ insert_checks Append root_alone a.m x t) _ refl (c.child_refusal-down.ensures ∙ ap (λ cs. first_refusal (label_check a.m x ∷ cs)) (root_checks_lem a.m x t)) c.if-down-ne0.false) c.answer_ok-need.ensures c.area_refusal-short.ensures c.if-short-ne0.false
-    (stage-put a.state.now 3 (omega (arith, (store_held a.state.now t c.requires.0).size)))
+    performs_done _ _ _ (passed_ok (label_check a.m x ∷ insert_checks Append root_alone a.m x t) refl (c.child_refusal.ensures ∙ ap (λ cs. first_refusal (label_check a.m x ∷ cs)) (root_checks_lem a.m x t)) c.in_ok-child_refusal.was) c.answer_ok-need.ensures c.area_refusal.ensures c.in_ok-area_refusal.was
+    (rw c.from.ensures (stage-put a.state.now 3 (omega (arith, (store_held a.state.now t c.requires.0).size))))
     (c.insert_marked.ensures ∙ ap (changed t) (root_placed a.m x t))

@@ -1,17 +1,13 @@
--- The first i sets have the right set or cleared, and the rest is as it was.
-use Prim.Native.Nat.{ℕ, ◌-◌, ◌≤◌, ◌<◌}
+-- The sets so far have the right set or cleared, and the rest is as it was.
+use Prim.Native.Nat.{ℕ, ◌<◌}
 use mathlib.Core.Path.{◌≡◌}
 use lib.ListN.{length, drop, get_or}
 use Rattle.rights.specs.Rights.{ruled_set}
 use Rattle.rights.proofs.EachLaws.{Done}
 use Rattle.rights.proofs.groups.rule_all.Given as goal
 
-abbrev pub invariant-loop-i : goal.invariant-loop-i
-invariant-loop-i l = (l.i ≤ l.n)
-    × (length l.out ≡ length l.initial.out)
-    × (drop l.i l.out ≡ drop l.i l.initial.out)
-    × Done (λ (q x : ℕ). ruled_set x l.right l.accept) l.initial.out l.out l.i
-    × ((q : ℕ) → q < l.i → get_or l.initial.out q 0 < 256)
-
-abbrev pub decreases-loop-i : goal.decreases-loop-i
-decreases-loop-i l = l.n - l.i
+abbrev pub invariant-loop-x : goal.invariant-loop-x
+invariant-loop-x l = (length l.x-items ≡ length l.fn.out)
+    × (drop l.x-index l.x-items ≡ drop l.x-index l.fn.out)
+    × Done (λ (q x : ℕ). ruled_set x l.right l.accept) l.fn.out l.x-items l.x-index
+    × ((q : ℕ) → q < l.x-index → get_or l.fn.out q 0 < 256)

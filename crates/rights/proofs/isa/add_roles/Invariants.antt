@@ -1,11 +1,7 @@
 -- The isa lines before j have given k their roles.
 use mathlib.Core.Path.{◌≡◌}
 use Rattle.rights.specs.How.Roles.{lines_given}
-use Prim.Native.Nat.{◌≤◌, ◌-◌}
 use Rattle.rights.proofs.isa.add_roles.Given as goal
 
 abbrev pub invariant-loop-j : goal.invariant-loop-j
-invariant-loop-j l = (l.j ≤ l.count) × (l.out ≡ lines_given l.policy l.k l.j l.initial.out)
-
-abbrev pub decreases-loop-j : goal.decreases-loop-j
-decreases-loop-j l = l.count - l.j
+invariant-loop-j l = l.out ≡ lines_given l.policy l.k l.j l.initial.out

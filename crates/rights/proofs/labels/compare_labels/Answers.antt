@@ -1,37 +1,31 @@
-use mathlib.Core.Path.{◌≡◌, sym, ◌∙◌}
+use mathlib.Core.Path.{sym, ◌∙◌}
 use native.Mathlib.Omega.{arith}
-use Rattle.rights.proofs.LabelLaws.{rest-none, rest_stop, rest_next, longer, shorter, level_with}
+use native.Mathlib.Numerals.{add-one}
+use Rattle.rights.proofs.LabelLaws.{order_stop, order_level, order_next, rest-none, rest_stop, rest_next}
 use Rattle.rights.proofs.labels.compare_labels.Goals as goal
 
-pub returns-then-m-n : goal.returns-then-m-n
-returns-then-m-n c = let a = c.args in sym (longer a.a.now a.b.now a.i a.j a.m a.n (omega arith) (omega arith) (omega arith))
+pub returns-then-is_ne : goal.returns-then-is_ne
+returns-then-is_ne c = order_stop _ _ _ _ _ c.cmp-lengths.ensures (rw c.is_ne.ensures at c.if-is_ne.true)
 
-pub returns-then-n-m : goal.returns-then-n-m
-returns-then-n-m c = let a = c.args in sym (shorter a.a.now a.b.now a.i a.j a.m a.n (omega arith) (omega arith) (omega arith))
+pub loop-i-init : goal.loop-i-init
+loop-i-init c =
+    let e = order_level _ _ _ c.cmp-lengths.ensures (rw c.is_ne.ensures at c.if-is_ne.false) in
+    (e, order_next _ _ _ _ e)
 
-pub loop-k-init : goal.loop-k-init
-loop-k-init c =
+pub returns-then-is_ne-2 : goal.returns-then-is_ne-2
+returns-then-is_ne-2 c =
     let a = c.args in
-    let e : a.m ≡ a.n = omega arith in
-    (omega arith, e, level_with a.a.now a.b.now a.i a.j a.m a.n (omega arith) (omega arith) e)
+    let l = c.loop-i in
+    sym (l.invariant.1 ∙ rest_stop a.a.now a.b.now l.i _ (omega arith) (omega arith) c.byte_order-bytes.ensures (rw c.is_ne-in-loop-i.ensures at c.if-is_ne-2.true))
 
-pub returns-then-o-ne-EQUAL : goal.returns-then-o-ne-EQUAL
-returns-then-o-ne-EQUAL c =
-    let l = c.loop-k in
+pub loop-i-preserved : goal.loop-i-preserved
+loop-i-preserved c =
     let a = c.args in
-    sym (l.invariant.2 ∙ rest_stop a.a.now a.b.now a.i a.j a.n l.k _ (omega arith) (omega arith) (omega arith) c.byte_order-o.ensures c.if-o-ne-EQUAL.true)
-
-pub loop-k-preserved : goal.loop-k-preserved
-loop-k-preserved c =
-    let l = c.loop-k in
-    let a = c.args in (
-      omega arith,
-      l.invariant.1,
-      l.invariant.2 ∙ rest_next a.a.now a.b.now a.i a.j a.n l.k _ (omega arith) (omega arith) (omega arith) c.byte_order-o.ensures c.if-o-ne-EQUAL.false,
-    )
+    let l = c.loop-i in
+    (l.invariant.0, l.invariant.1 ∙ rest_next a.a.now a.b.now l.i _ (omega arith) (omega arith) c.byte_order-bytes.ensures (rw c.is_ne-in-loop-i.ensures at c.if-is_ne-2.false) ∙ rw (add-one l.i))
 
 pub returns : goal.returns
 returns c =
     let a = c.args in
-    let l = c.loop-k in
-    sym (l.invariant.2 ∙ rest-none a.a.now a.b.now a.i a.j a.n l.k (omega arith))
+    let l = c.loop-i in
+    sym (l.invariant.1 ∙ rest-none a.a.now a.b.now l.i (omega arith) (omega arith))

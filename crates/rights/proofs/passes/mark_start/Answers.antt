@@ -1,20 +1,20 @@
-use mathlib.Core.Path.{refl}
+use mathlib.Core.Path.{◌≡◌, refl, sym, ap, ◌∙◌}
 use native.Mathlib.Omega.{arith}
-use lib.ListN.{length-set}
+use Rattle.rights.specs.How.Selection.{from_document}
+use Rattle.rights.specs.Marks.{bit}
 use Rattle.rights.proofs.PassLaws as laws
 use Rattle.rights.proofs.passes.mark_start.Goals as goal
+use Rattle.rights.proofs.passes.mark_start.Goals.{then-deep, else-deep}
 
 pub loop-i-init : goal.loop-i-init
-loop-i-init c = (refl, omega arith, laws.marked_none _ _, λ k h. refl)
+loop-i-init c = laws.marked_none _ _
 
 pub loop-i-preserved : goal.loop-i-preserved
-loop-i-preserved c = (simp length-set c.loop-i.invariant.0, omega arith, laws.marked_more c.loop-i.marks _ c.loop-i.i c.start_of.result (omega arith) c.loop-i.invariant.2 c.start_of.ensures, laws.kept_more c.args.marks.now c.loop-i.marks c.loop-i.i _ c.loop-i.invariant.3)
-
-pub shape_of-marks : goal.shape_of-marks
-shape_of-marks c = c.loop-i.invariant.0
+loop-i-preserved c =
+    let deep = sym c.is_descendant-deep.ensures in
+    let on : c.if-deep.from ≡ from_document c.args.axis c.loop-i.i =
+    elim c.if-deep.branch [ then-deep w ↦ w.from-is ∙ rw (deep ∙ w.if-deep.true) w.if-deep.true | else-deep w ↦ w.from-is ∙ rw (deep ∙ w.if-deep.false) refl ] in
+    laws.marked_more c.loop-i.marks _ c.loop-i.i c.from.result (omega arith) c.loop-i.invariant (c.from.ensures ∙ laws.byte_bit _ ∙ ap bit on)
 
 pub returns : goal.returns
-returns c =
-    let a = c.args in
-    let l = c.loop-i in
-    record { marked = laws.marked_all _ _ _ _ (omega arith) l.invariant.2; marks_unchanged = laws.kept-rest a.marks.now l.marks l.i a.n (omega arith) l.invariant.0 l.invariant.3 }
+returns c = laws.marked_all _ _ _ _ (omega arith) c.loop-i.invariant

@@ -1,65 +1,48 @@
-use Prim.Native.Nat.{ℕ}
-use mathlib.Core.Path.{refl, ◌∙◌}
+use Prim.Native.Nat.{ℕ, ◌+◌}
+use mathlib.Core.Path.{◌≡◌, refl, sym, ap, ◌∙◌}
 use mathlib.Core.List.{List}
+use mathlib.Core.Bool.{Bool, false, ◌&&◌, ◌||◌}
 use native.Mathlib.Omega.{arith}
-use lib.ListN.{length, get_or, length-set}
-use Rattle.rights.specs.Path.{Axis}
+use borrow.Author.Tests.{eq-eqb, ne_eqb}
+use lib.ListN.{length, get_or}
+use lib.Dec.{eqb}
+use Rattle.rights.specs.Path.{Axis, is_descendant}
 use Rattle.rights.specs.Nodes.{Nodes}
-use Rattle.rights.specs.How.Numbers.{view_of}
+use Rattle.rights.specs.How.Seen.{nodes_in}
+use Rattle.rights.specs.Marks.{bit}
 use Rattle.rights.proofs.PassLaws as laws
 use Rattle.rights.proofs.passes.mark_under.Goals as goal
+use Rattle.rights.proofs.passes.mark_under.Goals.{then-marks-i-eq1, else-marks-i-eq1+then-deep, else-marks-i-eq1+else-deep}
 
 pub loop-i-init : goal.loop-i-init
-loop-i-init c = (refl, omega arith, refl, omega arith, (λ k h. refl), (λ f p l h. laws.nothing_above _ _ f l l (omega arith)), (λ f p l h. laws.nothing_above _ _ f l 0 (omega arith)), λ f p. laws.marked_none _ _)
-
-pub level_at-level-requires : goal.level_at-level-requires
-level_at-level-requires c =
-    (c.requires.0, omega arith)
-
-pub fill-requires : goal.fill-requires
-fill-requires c = (omega arith, c.loop-i.invariant.2)
-
-pub bounds-flags-level : goal.bounds-flags-level
-bounds-flags-level c = omega (arith, c.fill.ensures.size)
-
-pub bounds-flags-level-in-loop-i : goal.bounds-flags-level-in-loop-i
-bounds-flags-level-in-loop-i c = omega (arith, c.fill.ensures.size)
+loop-i-init c = (refl, (λ k h. refl), (λ f p l h. laws.nothing_above _ _ f l h), λ f p. laws.marked_none _ _)
 
 pub loop-i-preserved : goal.loop-i-preserved
 loop-i-preserved c =
-    let table : List ℕ = c.args.table.now in
-    let shown : List ℕ = c.args.shown.now in
-    let t : Nodes = view_of table shown in
-    let N : ℕ = length shown in
+    let t : Nodes = nodes_in c.args.shown.now in
+    let N : ℕ = length c.args.shown.now.numbers.now in
     let a : List ℕ = c.args.marks.now in
     let m : List ℕ = c.loop-i.marks in
     let i : ℕ = c.loop-i.i in
-    let top : ℕ = c.loop-i.top in
     let inv = c.loop-i.invariant in
-    let level : ℕ = c.level_at-level.result in
-    let le = c.level_at-level.ensures.0 in
-    let ll = c.level_at-level.ensures.1 in
-    let g : List ℕ = c.loop-i.flags in
+    let level : ℕ = c.level-level.result in
+    let le = c.level-level.ensures in
+    let g : List Bool = c.loop-i.flags in
     let axis : Axis = c.args.axis in
-    let filled = c.fill.ensures in
-    let size = filled.size in
-    let next : ℕ = c.passed_on-next.result in
-    let passed = c.passed_on-next.ensures in (
-      simp length-set inv.0,
-      omega arith,
-      simp length-set (size ∙ inv.2),
-      omega arith,
-      laws.kept_more a m i _ inv.4,
-      (λ f p. laws.above_upto t f i level le g _ axis top filled (inv.5 f p) (inv.6 f p) next (passed ∙ rw (laws.mark_on a f N i (get_or m i 0) p (omega arith) (inv.4 i (omega arith))) refl) (omega (arith, size, inv.2, ll))),
-      (λ f p. laws.above-deeper t f i level le g _ axis top filled (inv.5 f p) (inv.6 f p) next (passed ∙ rw (laws.mark_on a f N i (get_or m i 0) p (omega arith) (inv.4 i (omega arith))) refl) (omega (arith, size, inv.2, ll))),
-      λ f p. laws.marked_more m _ i c.flag_mark.result (omega arith) (inv.7 f p) (c.flag_mark.ensures ∙ laws.above_bits t axis f i level _ le (laws.above_filled t f i level le g _ axis top filled (inv.5 f p) (inv.6 f p) level (omega arith))),
+    let deep = sym c.is_descendant-deep.ensures in
+    let v : Bool = c.if-marks-i-eq1.below in
+    let next : v ≡ (eqb (get_or m i 0) 1 || (is_descendant axis && get_or g level false)) =
+    elim c.if-marks-i-eq1.branch [
+      | then-marks-i-eq1 w ↦ w.below-is ∙ rw (eq-eqb (get_or m i 0) 1 w.if-marks-i-eq1.true) refl
+      | else-marks-i-eq1+then-deep w ↦ w.below-is ∙ rw (ne_eqb (get_or m i 0) 1 w.if-marks-i-eq1.false, deep ∙ w.if-deep.true) refl
+      | else-marks-i-eq1+else-deep w ↦ w.below-is ∙ rw (ne_eqb (get_or m i 0) 1 w.if-marks-i-eq1.false, deep ∙ w.if-deep.false) w.if-deep.false
+    ] in
+    let down = laws.filled false v g (level + 1) (level + 17) (omega arith) (omega arith) c.fill.new.self c.fill.ensures.after in (
+      down.size ∙ inv.0,
+      laws.kept_more a m i _ inv.1,
+      (λ f p. laws.above_more t f i level le.0 axis g _ v down (inv.2 f p) (omega arith) (next ∙ rw (laws.mark_on a f N i (get_or m i 0) p (omega arith) (inv.1 i (omega arith))) refl)),
+      λ f p. laws.marked_more m _ i c.from.result (omega arith) (inv.3 f p) (c.from.ensures ∙ laws.byte_bit _ ∙ ap bit (inv.2 f p level (omega arith) ∙ rw le.0 refl)),
     )
 
-pub shape_of-marks : goal.shape_of-marks
-shape_of-marks c = c.loop-i.invariant.0
-
 pub returns : goal.returns
-returns c =
-    let a = c.args in
-    let l = c.loop-i in
-    record { by_index = (λ f p. laws.marked_all _ _ _ _ (omega arith) (l.invariant.7 f p)); marks_unchanged = laws.kept-rest a.marks.now l.marks l.i (length a.shown.now) (omega arith) l.invariant.0 l.invariant.4 }
+returns c = λ f p. laws.marked_all _ _ _ _ (omega arith) (c.loop-i.invariant.3 f p)

@@ -1,41 +1,33 @@
-use Rattle.rights.specs.Table.{rec_at}
-use lib.ListN.{take, drop}
-use mathlib.Core.Path.{sym, ◌∙◌, ap}
+use mathlib.Core.Bool.{true}
+use mathlib.Core.Path.{refl, sym, ap, ◌∙◌}
+use native.Mathlib.Omega.{arith}
 use Rattle.rights.specs.Labels.{same_label}
-use Rattle.rights.proofs.TextLaws.{text_first, text_eq}
+use Rattle.rights.specs.Table.{rec_at}
+use Rattle.rights.proofs.TextLaws.{text_first}
 use Rattle.rights.proofs.PolicyWords.{uses_any, uses-own, uses_no_own, uses-label}
 use Rattle.rights.proofs.policy.step_uses.Goals as goal
 
-pub returns-then-first-eq42 : goal.returns-then-first-eq42
-returns-then-first-eq42 c =
+pub returns-in-42 : goal.returns-in-42
+returns-in-42 c =
     let a = c.args in
-    let g = c.requires.0 in
-    let x = take a.n (drop a.at a.s.now) in
-    let r = rec_at a.policy.now a.step in
-    sym (uses_any x r a.own (text_first _ _ g ∙ c.if-first-eq42.true))
+    sym (uses_any a.label.now (rec_at a.policy.now a.step) a.own (text_first _ _ c.requires ∙ c.in-42.is))
 
-pub returns-then-first-eq36 : goal.returns-then-first-eq36
-returns-then-first-eq36 c =
+pub returns-in-36 : goal.returns-in-36
+returns-in-36 c =
     let a = c.args in
-    let g = c.requires.0 in
-    let x = take a.n (drop a.at a.s.now) in
-    let r = rec_at a.policy.now a.step in
-    sym (uses-own x r a.own (λ e. c.if-first-eq42.false (sym (text_first _ _ g) ∙ e)) (text_first _ _ g ∙ c.if-first-eq36.true))
+    let t = text_first _ _ c.requires ∙ c.in-36.is in
+    sym (uses-own a.label.now (rec_at a.policy.now a.step) a.own (λ e. omega (arith, e, t)) t)
 
-pub returns-then-own : goal.returns-then-own
-returns-then-own c =
+pub returns-then-not-own : goal.returns-then-not-own
+returns-then-not-own c =
     let a = c.args in
-    let g = c.requires.0 in
-    let x = take a.n (drop a.at a.s.now) in
-    let r = rec_at a.policy.now a.step in
-    sym (uses_no_own x r a.own (λ e. c.if-first-eq42.false (sym (text_first _ _ g) ∙ e)) (λ e. c.if-first-eq36.false (sym (text_first _ _ g) ∙ e)) c.if-own.true)
-
-pub returns : goal.returns
-returns c =
-    let a = c.args in
-    let g = c.requires.0 in
-    let x = take a.n (drop a.at a.s.now) in
-    let r = rec_at a.policy.now a.step in
+    let t = text_first _ _ c.requires in
     c.same_label.ensures
-    ∙ ap (same_label x) (text_eq _ _ g _ c.wide-m.ensures)
-    ∙ sym (uses-label x r a.own (λ e. c.if-first-eq42.false (sym (text_first _ _ g) ∙ e)) (λ e. c.if-first-eq36.false (sym (text_first _ _ g) ∙ e)) c.if-own.false)
+    ∙ ap (same_label a.label.now) c.label_in.ensures
+    ∙ sym (uses-label a.label.now (rec_at a.policy.now a.step) a.own (λ e. omega (arith, e, t)) (λ e. omega (arith, e, t)) c.if-not-own.true)
+
+pub returns-else-not-own : goal.returns-else-not-own
+returns-else-not-own c =
+    let a = c.args in
+    let t = text_first _ _ c.requires in
+    rw c.if-not-own.false (sym (uses_no_own a.label.now (rec_at a.policy.now a.step) true (λ e. omega (arith, e, t)) (λ e. omega (arith, e, t)) refl))

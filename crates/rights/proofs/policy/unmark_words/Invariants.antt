@@ -1,5 +1,5 @@
 -- The marks of the records before i are those of labels that are no policy words, and from i on the marks are as they were.
-use Prim.Native.Nat.{ℕ, ◌-◌, ◌≤◌}
+use Prim.Native.Nat.{ℕ}
 use mathlib.Core.Bool.{not, ◌&&◌}
 use mathlib.Core.List.{List}
 use mathlib.Core.Path.{◌≡◌}
@@ -17,7 +17,4 @@ abbrev pub unmarked : List ℕ → List ℕ → ℕ → ℕ → ℕ
 unmarked policy table q x = bit (not (eqb x 0) && not (policy_word (policy_of policy) (label (record_at table q))))
 
 abbrev pub invariant-loop-i : goal.invariant-loop-i
-invariant-loop-i l = (l.i ≤ l.n) × (length l.marks ≡ length l.initial.marks) × (drop l.i l.marks ≡ drop l.i l.initial.marks) × Done (unmarked l.policy l.table) l.initial.marks l.marks l.i
-
-abbrev pub decreases-loop-i : goal.decreases-loop-i
-decreases-loop-i l = l.n - l.i
+invariant-loop-i l = (length l.marks ≡ length l.initial.marks) × (drop l.i l.marks ≡ drop l.i l.initial.marks) × Done (unmarked l.policy l.table) l.initial.marks l.marks l.i

@@ -1,25 +1,20 @@
-use borrow.Author.Tests.{eq-eqb, ne_eqb}
+use Rattle.std.proofs.Common.{arith}
+use Rattle.std.proofs.lemmas.Grind.{common_steps}
 use Rattle.rights.specs.PolicyCheck.{bit_ok}
 use Rattle.rights.proofs.policy_check.bit_ok.Goals as goal
 
-pub returns-then-b-eq1 : goal.returns-then-b-eq1
+pub returns-in_default : goal.returns-in_default
 unfolding bit_ok
-returns-then-b-eq1 c = rw (eq-eqb _ _ c.if-b-eq1.true)
+returns-in_default c = grind (arith, common_steps)
 
-pub returns-then-b-eq2 : goal.returns-then-b-eq2
+pub returns-in_default-2 : goal.returns-in_default-2
 unfolding bit_ok
-returns-then-b-eq2 c = rw (ne_eqb _ _ c.if-b-eq1.false, eq-eqb _ _ c.if-b-eq2.true)
+returns-in_default-2 c = grind (arith, common_steps)
 
-pub returns-then-b-eq4 : goal.returns-then-b-eq4
+pub returns-in-1 : goal.returns-in-1
 unfolding bit_ok
-returns-then-b-eq4 c = rw (ne_eqb _ _ c.if-b-eq1.false, ne_eqb _ _ c.if-b-eq2.false, eq-eqb _ _ c.if-b-eq4.true)
+returns-in-1 c = grind (arith, common_steps)
 
-pub returns-then-b-eq8 : goal.returns-then-b-eq8
+pub returns-in-1-2 : goal.returns-in-1-2
 unfolding bit_ok
-returns-then-b-eq8 c =
-    rw (ne_eqb _ _ c.if-b-eq1.false, ne_eqb _ _ c.if-b-eq2.false, ne_eqb _ _ c.if-b-eq4.false, eq-eqb _ _ c.if-b-eq8.true)
-
-pub returns : goal.returns
-unfolding bit_ok
-returns c =
-    rw (ne_eqb _ _ c.if-b-eq1.false, ne_eqb _ _ c.if-b-eq2.false, ne_eqb _ _ c.if-b-eq4.false, ne_eqb _ _ c.if-b-eq8.false)
+returns-in-1-2 c = grind (arith, common_steps)

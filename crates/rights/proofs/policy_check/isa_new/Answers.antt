@@ -1,28 +1,8 @@
-use mathlib.Core.Path.{◌≡◌, refl, sym, ◌∙◌, ap}
-use native.Mathlib.Omega.{arith}
-use Rattle.rights.specs.Bytes.{every}
-use Rattle.rights.proofs.EveryLaws.{every_more, every_stop}
-use Rattle.rights.proofs.policy_check.isa_new.Invariants.{differs}
+use Rattle.std.proofs.Common.{ℕ, not, rules}
+use Rattle.rights.specs.PolicyCheck.{same_isa}
+use Rattle.rights.proofs.EveryLaws.{every-told}
 use Rattle.rights.proofs.policy_check.isa_new.Goals as goal
-
-pub loop-j-init : goal.loop-j-init
-unfolding every
-loop-j-init c = (omega arith, refl)
-
-pub returns-then-not-isas_differ : goal.returns-then-not-isas_differ
-returns-then-not-isas_differ c =
-    let a = c.args in
-    let l = c.loop-j in
-    sym (every_stop (differs a.policy.now a.k) a.k l.j c.loop-j-test.true (sym c.isas_differ.ensures ∙ c.if-not-isas_differ.true))
-
-pub loop-j-preserved : goal.loop-j-preserved
-loop-j-preserved c =
-    let a = c.args in
-    let l = c.loop-j in
-    (omega arith, every_more (differs a.policy.now a.k) l.j l.invariant.1 (sym c.isas_differ.ensures ∙ c.if-not-isas_differ.false))
 
 pub returns : goal.returns
 returns c =
-    let a = c.args in
-    let e : c.loop-j.j ≡ a.k = omega arith in
-    sym (ap (every (differs a.policy.now a.k)) (sym e) ∙ c.loop-j.invariant.1)
+    every-told (λ (j : ℕ). not (same_isa c.args.policy.now j c.args.k)) c.args.k _ c.all.ensures.ran (λ x b q k. search rules)

@@ -1,34 +1,33 @@
-use mathlib.Core.Path.{refl, sym, ◌∙◌}
-use native.Mathlib.Omega.{arith}
-use Rattle.rights.specs.Bytes.{every}
+use Rattle.std.proofs.Common.{ℕ, ◌≡◌, ◌+◌, ◌-◌, ◌*◌, ◌≤◌, sym, ◌∙◌, rules, arith}
+use borrow.Author.Tests.{leb-true}
 use Rattle.rights.specs.PolicyBytes.{rule_count}
 use Rattle.rights.specs.PolicyCheck.{rule_ok, rules_ok}
-use Rattle.rights.proofs.EveryLaws.{every_more, part_many, part_stop, part_rest}
+use Rattle.rights.proofs.EveryLaws.{every-told, part_many, part_none, part_rest}
+use Rattle.rights.proofs.policy_check.rules_ok.Goals.{then-n-le-RULES_MAX, else-n-le-RULES_MAX}
 use Rattle.rights.proofs.policy_check.rules_ok.Goals as goal
 
-pub returns-then-n-gt-RULES_MAX : goal.returns-then-n-gt-RULES_MAX
+pub returns-then-all : goal.returns-then-all
 unfolding rules_ok
-returns-then-n-gt-RULES_MAX c =
+returns-then-all c =
     let p = c.args.policy.now in
-    sym (part_many (rule_ok p) (rule_count p) 128 _ (omega (arith, c.wide-n.ensures)))
+    let n : ℕ = rule_count p in
+    let e : 68872 - (2312 + n * 520) ≡ (128 - n) * 520 = omega arith in
+    elim c.if-n-le-RULES_MAX.branch [
+      | then-n-le-RULES_MAX w ↦
+          let each = every-told (rule_ok p) c.from-n.result w.all.result w.all.ensures.ran (λ x b q k. search rules) in
+          rw (c.from-n.ensures, e) at c.all_zero.ensures
+          ∙ sym (part_rest (rule_ok p) n 128 _ c.from-n.result c.from-n.ensures (omega arith) (sym each ∙ sym w.value-is ∙ c.if-all.true))
+      | else-n-le-RULES_MAX w ↦ absurd (let few : c.from-n.result ≤ 128 = leb-true _ _ (sym w.value-is ∙ c.if-all.true) in omega arith)
+    ]
 
-pub loop-k-init : goal.loop-k-init
-unfolding every
-loop-k-init c = (omega arith, refl)
-
-pub returns-then-not-rule_ok : goal.returns-then-not-rule_ok
+pub returns-else-all : goal.returns-else-all
 unfolding rules_ok
-returns-then-not-rule_ok c =
+returns-else-all c =
     let p = c.args.policy.now in
-    sym (part_stop (rule_ok p) (rule_count p) 128 _ c.loop-k.k (omega (arith, c.wide-n.ensures)) (sym c.rule_ok.ensures ∙ c.if-not-rule_ok.true))
-
-pub loop-k-preserved : goal.loop-k-preserved
-loop-k-preserved c =
-    (omega arith, every_more (rule_ok c.args.policy.now) c.loop-k.k c.loop-k.invariant.1 (sym c.rule_ok.ensures ∙ c.if-not-rule_ok.false))
-
-pub returns : goal.returns
-unfolding rules_ok
-returns c =
-    let p = c.args.policy.now in
-    let w = c.wide-n.ensures in
-    rw w at c.zeros_at.ensures ∙ sym (part_rest (rule_ok p) (rule_count p) 128 _ c.loop-k.k (omega (arith, w)) (omega (arith, w)) c.loop-k.invariant.1)
+    let n : ℕ = rule_count p in
+    elim c.if-n-le-RULES_MAX.branch [
+      | then-n-le-RULES_MAX w ↦
+          let each = every-told (rule_ok p) c.from-n.result w.all.result w.all.ensures.ran (λ x b q k. search rules) in
+          c.if-all.false ∙ sym (part_none (rule_ok p) n 128 _ (sym (rw c.from-n.ensures at each) ∙ sym w.value-is ∙ c.if-all.false))
+      | else-n-le-RULES_MAX w ↦ c.if-all.false ∙ sym (part_many (rule_ok p) n 128 _ (omega arith))
+    ]

@@ -6,13 +6,12 @@ use Rattle.rights.specs.Table.{records, count}
 use Rattle.rights.specs.Rights.{chains}
 use Rattle.rights.proofs.RightsLaws.{rule_bit}
 use Rattle.rights.proofs.FiveRights.{asked-all}
-use Rattle.rights.proofs.OwnNames.{own_part}
 use Rattle.rights.proofs.rights.rights_on.Goals as goal
 
 pub asked_on-requires : goal.asked_on-requires
 asked_on-requires c =
     let g = c.requires in
-    (g.0, c.roles_of-roles.ensures, own_part c.own_subjects-m.ensures.0, g.2, g.3)
+    (g.0, c.roles_of-roles.ensures, c.own_subjects-m.ensures.0.own, g.2, g.3)
 
 pub returns : goal.returns
 returns c =

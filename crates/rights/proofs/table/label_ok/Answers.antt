@@ -4,7 +4,7 @@ use mathlib.Core.Path.{◌≡◌, refl, sym, ◌∙◌}
 use mathlib.Core.List.{List}
 use native.Mathlib.Omega.{arith}
 use borrow.Author.Count.{below_more}
-use borrow.Author.Tests.{ne_eqb, eq-eqb, ltb-true, ltb-false}
+use borrow.Author.Tests.{ne_eqb, ltb-true, ltb-false}
 use lib.Bits.{bit_or}
 use lib.Dec.{eqb, ltb}
 use lib.ListN.{length, take, drop}
@@ -50,34 +50,30 @@ module _ (s : List ℕ) (n faults i : ℕ) (h : length s ≡ 24) (l : n ≤ 24) 
       swap false y z = refl
 
 pub loop-i-init : goal.loop-i-init
-loop-i-init c = (omega arith, refl, (λ e k h. absurd (omega arith)), (λ f. refl))
+loop-i-init c = ((λ e k h. absurd (omega arith)), (λ f. refl))
 
 pub loop-i-preserved : goal.loop-i-preserved
 loop-i-preserved c =
-    let a = c.args in
-    let at = c.loop-i in
-    let s = a.field.now in
-    let x : c.faults_of-faults.result ≡ faults_at s a.n at.i = c.faults_of-faults.ensures ∙ rw at.invariant.1 in
-    let y : c.faults_of-faults-in-loop-i.result ≡ faults_at s a.n (at.i + 8) = c.faults_of-faults-in-loop-i.ensures ∙ rw at.invariant.1 in (
-      omega arith,
-      omega arith,
-      tells_more s a.n at.faults at.i _ _ x y at.invariant.2,
-      told_more s a.n at.faults at.i _ _ x y (omega arith) at.invariant.3,
+    let s = c.args.field.now in
+    let n : ℕ = c.args.n in
+    let at = c.loop-i in (
+      tells_more s n at.faults at.i _ _ c.faults_of-faults.ensures c.faults_of-faults-in-loop-i.ensures at.invariant.0,
+      told_more s n at.faults at.i _ _ c.faults_of-faults.ensures c.faults_of-faults-in-loop-i.ensures (omega arith) at.invariant.1,
     )
 
-pub returns-then-faults-ne0 : goal.returns-then-faults-ne0
-returns-then-faults-ne0 c =
-    let a = c.args in
-    let at = c.loop-i in
-    rw (told_with a.field.now a.n at.faults at.i (omega arith) (omega arith) (omega arith) at.invariant.2 at.invariant.3, ne_eqb at.faults 0 c.if-faults-ne0.true)
-
-pub returns : goal.returns
-returns c =
+pub returns-then-faults-eq0 : goal.returns-then-faults-eq0
+returns-then-faults-eq0 c =
     let a = c.args in
     let at = c.loop-i in
     rw (
-      told_with a.field.now a.n at.faults at.i (omega arith) (omega arith) (omega arith) at.invariant.2 at.invariant.3,
-      eq-eqb at.faults 0 c.if-faults-ne0.false,
+      told_with a.field.now a.n at.faults at.i (omega arith) (omega arith) (omega arith) at.invariant.0 at.invariant.1,
+      c.if-faults-eq0.true,
       c.is_restricted.ensures,
-      c.wide.ensures,
+      c.from.ensures,
     )
+
+pub returns-else-faults-eq0 : goal.returns-else-faults-eq0
+returns-else-faults-eq0 c =
+    let a = c.args in
+    let at = c.loop-i in
+    rw (told_with a.field.now a.n at.faults at.i (omega arith) (omega arith) (omega arith) at.invariant.0 at.invariant.1, ne_eqb at.faults 0 c.if-faults-eq0.false)

@@ -1,5 +1,5 @@
 -- No fault is gathered exactly if there is none at the places before i and at those 8 behind them.
-use Prim.Native.Nat.{ℕ, ◌+◌, ◌-◌, ◌<◌, ◌≤◌}
+use Prim.Native.Nat.{ℕ, ◌+◌, ◌<◌}
 use mathlib.Core.Bool.{true}
 use mathlib.Core.Path.{◌≡◌}
 use mathlib.Core.List.{List}
@@ -16,7 +16,4 @@ abbrev pub Told : List ℕ → ℕ → ℕ → Type 0
 Told s n faults = ((k : ℕ) → k < length s → FaultlessAt s n k) → eqb faults 0 ≡ true
 
 abbrev pub invariant-loop-i : goal.invariant-loop-i
-invariant-loop-i l = (l.i ≤ 16) × (l.place ≡ l.i) × Tells l.field l.n l.faults l.i × Told l.field l.n l.faults
-
-abbrev pub decreases-loop-i : goal.decreases-loop-i
-decreases-loop-i l = 16 - l.i
+invariant-loop-i l = Tells l.field l.n l.faults l.i × Told l.field l.n l.faults

@@ -10,5 +10,5 @@ overflow_add-ends c = record { fits = c.requires.1.1 c.args.i }
 pub returns : goal.returns
 returns c =
     let a = c.args in
-    rw (c.smaller-at.ensures.0, c.smaller-end.ensures.0, add-one a.i)
+    rw (c.min-at.ensures, c.min-end.ensures, add-one a.i)
     (part_clipped a.line.now (place_in a.ends.now a.i + 1) (place_in a.ends.now (suc a.i)))

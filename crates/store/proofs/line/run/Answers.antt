@@ -10,7 +10,7 @@ use Rattle.lines.specs.Effect.{performed}
 use Rattle.lines.specs.Refusal.{checked}
 use Rattle.lines.specs.State.{stage}
 use Rattle.store.specs.Line.{in_stage}
-use Rattle.store.proofs.LineLaws.{read_as, fits_as, says_as, tree_as, refused, label_short, tree_asks, tree_taken, tree_holds, root_stage}
+use Rattle.store.proofs.LineLaws.{accept_bit, read_as, fits_as, says_as, tree_as, refused, label_short, tree_asks, tree_taken, tree_holds, root_stage}
 use Rattle.store.proofs.line.run.Goals as goal
 
 pub declare-requires : goal.declare-requires
@@ -111,7 +111,7 @@ pub returns-in-Rule : goal.returns-in-Rule
 unfolding says_by
 returns-in-Rule c =
     let told = c.in-Rule.is in
-    rw (read_as c.requires.2 told, ← (says_as c.requires.2 told 0 (omega arith)), ← (says_as c.requires.2 told 1 (omega arith)), ← c.accept_byte.ensures, ← c.part_of-in-Rule.ensures, ← c.part_of-in-Rule-2.ensures) c.rule.ensures
+    rw (read_as c.requires.2 told, ← (says_as c.requires.2 told 0 (omega arith)), ← (says_as c.requires.2 told 1 (omega arith)), ← accept_bit _ c.from.ensures, ← c.part_of-in-Rule.ensures, ← c.part_of-in-Rule-2.ensures) c.rule.ensures
 
 pub returns-in-Root : goal.returns-in-Root
 returns-in-Root c =

@@ -7,24 +7,24 @@ use Rattle.lines.specs.State.{with_stage}
 use Rattle.store.proofs.LoadCallLaws.{tally_refused, document_fits, area_refused, document_taken}
 use Rattle.store.proofs.load.take_document.Goals as goal
 
-pub tally_refusal-down-requires : goal.tally_refusal-down-requires
-tally_refusal-down-requires c = table_long _ (store_held _ _ c.requires.0).table
+pub tally_refusal-requires : goal.tally_refusal-requires
+tally_refusal-requires c = table_long _ (store_held _ _ c.requires.0).table
 
-pub returns-then-down-ne0 : goal.returns-then-down-ne0
-returns-then-down-ne0 c =
+pub returns-in_err-tally_refusal : goal.returns-in_err-tally_refusal
+returns-in_err-tally_refusal c =
     let g = c.requires in
-    tally_refused _ _ _ g.0 g.1 g.2 g.3 c.tally_refusal-down.ensures c.if-down-ne0.true
+    tally_refused _ _ _ g.0 g.1 g.2 g.3 c.tally_refusal.ensures c.in_err-tally_refusal.was c.from_residual.result c.from_residual.ensures.1
 
-pub returns-then-short-ne0 : goal.returns-then-short-ne0
-returns-then-short-ne0 c =
+pub returns-in_err-area_refusal : goal.returns-in_err-area_refusal
+returns-in_err-area_refusal c =
     let g = c.requires in
-    area_refused _ _ _ g.0 g.1 g.2 g.3 c.tally_refusal-down.ensures c.if-down-ne0.false
-    c.answer_ok-need.ensures c.area_refusal-short.ensures c.if-short-ne0.true
+    area_refused _ _ _ g.0 g.1 g.2 g.3 c.tally_refusal.ensures c.in_ok-tally_refusal.was
+    c.answer_ok-need.ensures c.area_refusal.ensures c.in_err-area_refusal.was c.from_residual-in_err-area_refusal.result c.from_residual-in_err-area_refusal.ensures.1
 
 pub write_document-requires : goal.write_document-requires
 write_document-requires c =
     let g = c.requires in
-    document_fits _ _ _ g.0 g.1 g.2 g.3 c.tally_refusal-down.ensures c.if-down-ne0.false
+    document_fits _ _ _ g.0 g.1 g.2 g.3 c.tally_refusal.ensures c.in_ok-tally_refusal.was
 
 pub bounds-state-0 : goal.bounds-state-0
 bounds-state-0 c =
@@ -34,6 +34,6 @@ pub returns : goal.returns
 returns c =
     let g = c.requires in
     let s = c.args.state.now in
-    document_taken _ _ _ g.0 g.1 g.2 g.3 c.tally_refusal-down.ensures c.if-down-ne0.false
-    c.answer_ok-need.ensures c.area_refusal-short.ensures c.if-short-ne0.false
-    (stage-put s _ (omega (arith, (store_held _ _ g.0).size)) ∙ ap (λ k. with_stage k s) c.nodes_stage.ensures) c.write_document.ensures
+    document_taken _ _ _ g.0 g.1 g.2 g.3 c.tally_refusal.ensures c.in_ok-tally_refusal.was
+    c.answer_ok-need.ensures c.area_refusal.ensures c.in_ok-area_refusal.was
+    (stage-put s _ (omega (arith, (store_held _ _ g.0).size)) ∙ ap (λ k. with_stage k s) (c.from.ensures ∙ c.nodes_stage.ensures)) c.write_document.ensures

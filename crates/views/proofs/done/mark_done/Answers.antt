@@ -2,7 +2,6 @@ use mathlib.Core.Bool.{Bool}
 use mathlib.Core.List.{List, ◌++◌, map}
 use mathlib.Core.Path.{◌∙◌, sym, ap}
 use native.Mathlib.Omega.{arith}
-use borrow.Author.Rules.{rules}
 use lib.ListN.{drop}
 use Rattle.rights.specs.Marks.{bit, marks_of}
 use Rattle.rights.specs.Policy.{policy_word}
@@ -11,12 +10,6 @@ use Rattle.rights.specs.Table.{count}
 use Rattle.views.specs.How.Numbers.{shown_by_numbers, by_numbers}
 use Rattle.views.proofs.DonePassLaws.{labels_unasked, words_unmarked}
 use Rattle.views.proofs.done.mark_done.Goals as goal
-
-pub mark_by_rights-requires : goal.mark_by_rights-requires
-mark_by_rights-requires c = search rules
-
-pub unmark_words-requires : goal.unmark_words-requires
-unmark_words-requires c = search rules
 
 pub returns-then-asks_word : goal.returns-then-asks_word
 returns-then-asks_word c =

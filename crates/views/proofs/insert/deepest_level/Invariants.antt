@@ -7,6 +7,3 @@ use Rattle.views.proofs.insert.deepest_level.Given as goal
 
 abbrev pub invariant-loop-j : goal.invariant-loop-j
 invariant-loop-j l = (l.j ≤ l.m) × (l.deep < 256) × (l.deep ≡ deepest (chunks (l.m - l.j) (drop (l.j * 32) l.tree)))
-
-abbrev pub decreases-loop-j : goal.decreases-loop-j
-decreases-loop-j l = l.j

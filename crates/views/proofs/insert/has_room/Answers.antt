@@ -1,6 +1,7 @@
 use native.Mathlib.Omega.{arith}
 use Rattle.views.proofs.TableLaws.{facts}
 use Rattle.views.proofs.DepthLaws.{held_fits, product_fits, room_is}
+use Rattle.rights.proofs.MarkLaws.{count_front}
 use Rattle.views.proofs.insert.has_room.Goals as goal
 
 pub count_of-n-requires : goal.count_of-n-requires
@@ -14,16 +15,19 @@ pub overflow_mul-result : goal.overflow_mul-result
 overflow_mul-result c =
     let a = c.args in
     let k = c.count_marks-k in
-    record { fits = product_fits c.count_of-n.result c.capacity_of-c.result k.result a.m a.t.now a.marks.now c.requires.0 c.count_of-n.ensures c.capacity_of-c.ensures k.ensures.0 k.ensures.1 c.requires.2 }
+    let q = count_front c.count_of-n.result a.marks.now k.result (omega (arith, c.count_of-n.ensures, c.requires.1)) k.ensures in
+    record { fits = product_fits c.count_of-n.result c.capacity_of-c.result k.result a.m a.t.now a.marks.now c.requires.0 c.count_of-n.ensures c.capacity_of-c.ensures q.0 q.1 c.requires.2 }
 
 pub overflow_sub-result : goal.overflow_sub-result
 overflow_sub-result c =
     let a = c.args in
     let k = c.count_marks-k in
-    held_fits c.count_of-n.result c.capacity_of-c.result k.result a.m a.t.now a.marks.now c.requires.0 c.count_of-n.ensures c.capacity_of-c.ensures k.ensures.0 k.ensures.1 c.requires.2
+    let q = count_front c.count_of-n.result a.marks.now k.result (omega (arith, c.count_of-n.ensures, c.requires.1)) k.ensures in
+    held_fits c.count_of-n.result c.capacity_of-c.result k.result a.m a.t.now a.marks.now c.requires.0 c.count_of-n.ensures c.capacity_of-c.ensures q.0 q.1 c.requires.2
 
 pub returns : goal.returns
 returns c =
     let a = c.args in
     let k = c.count_marks-k in
-    room_is c.count_of-n.result c.capacity_of-c.result k.result a.m a.t.now a.marks.now c.requires.0 c.count_of-n.ensures c.capacity_of-c.ensures k.ensures.0 k.ensures.1 c.requires.2
+    let q = count_front c.count_of-n.result a.marks.now k.result (omega (arith, c.count_of-n.ensures, c.requires.1)) k.ensures in
+    room_is c.count_of-n.result c.capacity_of-c.result k.result a.m a.t.now a.marks.now c.requires.0 c.count_of-n.ensures c.capacity_of-c.ensures q.0 q.1 c.requires.2

@@ -1,5 +1,5 @@
 use Prim.Native.Nat.{◌+◌, ◌*◌}
-use mathlib.Core.Path.{◌≡◌, refl, ◌∙◌}
+use mathlib.Core.Path.{refl, ◌∙◌}
 use Rattle.views.proofs.CopyLaws.{drop_more}
 use Rattle.views.proofs.RecordBytes.{tree_none, tree_more}
 use native.Mathlib.Omega.{arith}
@@ -9,11 +9,7 @@ use Rattle.views.proofs.insert.put_tree.Goals as goal
 pub loop-j-init : goal.loop-j-init
 loop-j-init c =
     let a = c.args in
-    (search rules, refl, tree_none a.w a.k a.t.now a.tree.now, refl)
-
-pub put_raised-requires : goal.put_raised-requires
-put_raised-requires c =
-    (search rules, search rules, c.requires.2 c.loop-j.j (omega arith))
+    (refl, tree_none a.w a.k a.t.now a.tree.now, refl)
 
 pub loop-j-preserved : goal.loop-j-preserved
 loop-j-preserved c =
@@ -21,14 +17,7 @@ loop-j-preserved c =
     let l = c.loop-j in
     let p = c.put_raised in (
       search rules,
-      search rules,
-      tree_more a.w a.k l.j a.t.now l.t p.new.t a.tree.now (omega arith) l.invariant.2 p.ensures.0,
+      tree_more a.w a.k l.j a.t.now l.t p.new.t a.tree.now (omega arith) l.invariant.1 p.ensures.0,
       drop_more (4 + (a.w + l.j) * 32 + 32) 0 p.new.t a.t.now (4 + (a.w + (l.j + 1)) * 32) (omega arith)
-          (p.ensures.1 ∙ drop_more (4 + (a.w + l.j) * 32) 32 l.t a.t.now (4 + (a.w + l.j) * 32 + 32) (omega arith) l.invariant.3),
+          (p.ensures.1 ∙ drop_more (4 + (a.w + l.j) * 32) 32 l.t a.t.now (4 + (a.w + l.j) * 32 + 32) (omega arith) l.invariant.2),
     )
-
-pub returns : goal.returns
-returns c =
-    let l = c.loop-j in
-    let e : l.j ≡ c.args.m = omega arith in
-    (rw e at l.invariant.2, rw e at l.invariant.3)

@@ -20,12 +20,12 @@ last-at t at =
     let g : at + 28 + 1 ≡ at + 29 = omega arith in
     rw (e, g, byte_at t at 28 (omega arith), byte_at t at 29 (omega arith))
 
-pub returns-then-day-day_at : goal.returns-then-day-day_at
-returns-then-day-day_at c =
+pub returns-then-day_at-day : goal.returns-then-day_at-day
+returns-then-day_at-day c =
     let a = c.args in
-    rw (first_at a.table.now a.at, ← c.day_at.ensures, lt-leb _ _ c.if-day-day_at.true) refl
+    rw (first_at a.table.now a.at, last-at a.table.now a.at, ← c.day_at.ensures, le-leb _ _ c.if-day_at-day.true, ← c.day_at-then-day_at-day.ensures) refl
 
-pub returns : goal.returns
-returns c =
+pub returns-else-day_at-day : goal.returns-else-day_at-day
+returns-else-day_at-day c =
     let a = c.args in
-    rw (first_at a.table.now a.at, last-at a.table.now a.at, ← c.day_at.ensures, ← c.day_at-2.ensures, le-leb _ _ c.if-day-day_at.false) refl
+    rw (first_at a.table.now a.at, ← c.day_at.ensures, lt-leb _ _ c.if-day_at-day.false) refl

@@ -6,11 +6,11 @@ use Rattle.views.proofs.shown.is_granted.Goals as goal
 pub holds_right-requires : goal.holds_right-requires
 holds_right-requires c = bit_right read
 
+pub holds_right-requires-else-holds_right : goal.holds_right-requires-else-holds_right
+holds_right-requires-else-holds_right c = bit_right position
+
 pub returns-then-holds_right : goal.returns-then-holds_right
 returns-then-holds_right c = rw (← c.holds_right.ensures read refl, c.if-holds_right.true) refl
 
-pub holds_right-requires-2 : goal.holds_right-requires-2
-holds_right-requires-2 c = bit_right position
-
-pub returns : goal.returns
-returns c = rw (← c.holds_right.ensures read refl, c.if-holds_right.false) (c.holds_right-2.ensures position refl)
+pub returns-else-holds_right : goal.returns-else-holds_right
+returns-else-holds_right c = rw (← c.holds_right.ensures read refl, c.if-holds_right.false) (c.holds_right-else-holds_right.ensures position refl)

@@ -1,7 +1,6 @@
 use Rattle.views.proofs.StoredLaws.{show_gives}
 use Rattle.views.proofs.TableLaws.{facts}
 use native.Mathlib.Omega.{arith}
-use borrow.Author.Rules.{rules}
 use Rattle.views.proofs.shown.show.Goals as goal
 
 pub count_of-n-requires : goal.count_of-n-requires
@@ -12,9 +11,6 @@ show_first-requires c =
     let g = facts _ c.requires.0 in
     let e = c.count_of-n.ensures in
     (omega arith, omega arith, omega arith, omega arith)
-
-pub shape_of-shown : goal.shape_of-shown
-shape_of-shown c = search rules
 
 pub returns : goal.returns
 returns c =

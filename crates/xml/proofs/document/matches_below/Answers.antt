@@ -1,25 +1,19 @@
-use Prim.Native.Nat.{ℕ, ◌+◌}
-use mathlib.Core.Path.{refl}
+use Prim.Native.Nat.{ℕ, ◌+◌, ◌*◌}
 use native.Mathlib.Omega.{arith}
 use Rattle.xml.specs.How.Scan.{window}
 use Rattle.xml.proofs.WindowLaws.{matched_first, matched_next, matched_none, matched_last}
 use Rattle.xml.proofs.document.matches_below.Goals as goal
 
-pub loop-low-init : goal.loop-low-init
-loop-low-init c = (omega arith, matched_first c.args.xml.now c.args.deepest)
+pub loop-k-init : goal.loop-k-init
+loop-k-init c = matched_first c.args.xml.now c.args.deepest
 
-pub loop-low-preserved : goal.loop-low-preserved
-loop-low-preserved c =
-    let args = c.args in
-    let low : ℕ = c.loop-low.low in
-    (omega arith, matched_next args.xml.now args.deepest (low + window) c.scan-kind.result c.scan-kind.ensures low refl c.loop-low.invariant.1 _ c.in-Document.is)
+pub loop-k-preserved : goal.loop-k-preserved
+loop-k-preserved c =
+    let k : ℕ = c.loop-k.k in
+    matched_next c.args.xml.now c.args.deepest ((k + 1) * window) _ c.scan.ensures (k * window) (omega arith) c.loop-k.invariant c.if-is_none.ensures
 
-pub returns-in_default : goal.returns-in_default
-returns-in_default c =
-    let args = c.args in
-    matched_none args.xml.now args.deepest (c.loop-low.low + window) c.scan-kind.result c.scan-kind.ensures c.in_default.is
+pub returns-then-is_none : goal.returns-then-is_none
+returns-then-is_none c = matched_none c.args.xml.now c.args.deepest ((c.loop-k.k + 1) * window) _ c.scan.ensures c.if-is_none.ensures
 
 pub returns : goal.returns
-returns c =
-    let args = c.args in
-    matched_last args.xml.now args.deepest c.loop-low.low c.loop-low.invariant.0 (omega arith) c.loop-low.invariant.1
+returns c = matched_last c.args.xml.now c.args.deepest (c.loop-k.k * window) (omega arith) (omega arith) c.loop-k.invariant

@@ -1,45 +1,28 @@
+-- The first token is a root's tag, with one element open behind it or none; each goal begins with what stands behind it.
 use native.Mathlib.Omega.{arith}
 use Rattle.xml.specs.How.Scan.{window}
-use Rattle.xml.proofs.LexerLaws.{lexed_is}
-use Rattle.xml.proofs.PassLaws.{pass_end, pass_bad, pass_closes, pass_label, root_ready, pass_opens, pass_empty}
+use Rattle.xml.proofs.PassLaws.{Root, root_opens, root_empty, root_ready, pass_root, no_root}
 use Rattle.xml.proofs.document.scan.Goals as goal
+use Rattle.xml.proofs.document.scan.Goals.{in-Opens, in-Empty}
+
+pub returns-in_default : goal.returns-in_default
+returns-in_default c = no_root _ _ window _ c.next_token.ensures c.in_default.not-Opens c.in_default.not-Empty
 
 pub counted-tally-requires : goal.counted-tally-requires
 counted-tally-requires c =
-    let w = ((lexed_is c.next_token-seen.ensures c.in-Opens.is)).on in
+    let r : Root c.args.xml.now c.args.low window c.match-next_token.depth.1 c.match-next_token.depth.0 =
+    elim c.match-next_token.branch [ in-Opens w ↦ rw w.depth-is (root_opens _ _ _ _ w.in-Opens.ensures) | in-Empty w ↦ rw w.depth-is (root_empty _ _ _ _ w.in-Empty.ensures) ] in
+    let p = r.spot in
     (omega arith, omega arith, omega arith)
 
 pub scan_from-requires : goal.scan_from-requires
 scan_from-requires c =
-    let w = ((lexed_is c.next_token-seen.ensures c.in-Opens.is)).on in
-    root_ready _ (c.args.low) window _ _ _ _ c.counted-tally.ensures w 1 (omega arith)
+    let r : Root c.args.xml.now c.args.low window c.match-next_token.depth.1 c.match-next_token.depth.0 =
+    elim c.match-next_token.branch [ in-Opens w ↦ rw w.depth-is (root_opens _ _ _ _ w.in-Opens.ensures) | in-Empty w ↦ rw w.depth-is (root_empty _ _ _ _ w.in-Empty.ensures) ] in
+    root_ready _ _ _ _ r _ c.counted-tally.ensures
 
-pub returns-in-Opens : goal.returns-in-Opens
-returns-in-Opens c =
-    pass_opens _ (c.args.low) window _ _ _ _ c.counted-tally.ensures ((lexed_is c.next_token-seen.ensures c.in-Opens.is)) _ c.scan_from.ensures
-
-pub counted-tally-requires-in-Empty : goal.counted-tally-requires-in-Empty
-counted-tally-requires-in-Empty c =
-    let w = ((lexed_is c.next_token-seen.ensures c.in-Empty.is)).on in
-    (omega arith, omega arith, omega arith)
-
-pub scan_from-requires-in-Empty : goal.scan_from-requires-in-Empty
-scan_from-requires-in-Empty c =
-    let w = ((lexed_is c.next_token-seen.ensures c.in-Empty.is)).on in
-    root_ready _ (c.args.low) window _ _ _ _ c.counted-tally-in-Empty.ensures w 0 (omega arith)
-
-pub returns-in-Empty : goal.returns-in-Empty
-returns-in-Empty c =
-    pass_empty _ (c.args.low) window _ _ _ _ c.counted-tally-in-Empty.ensures ((lexed_is c.next_token-seen.ensures c.in-Empty.is)) _ c.scan_from-in-Empty.ensures
-
-pub returns-in-Closes : goal.returns-in-Closes
-returns-in-Closes c = pass_closes _ (c.args.low) window _ _ _ ((lexed_is c.next_token-seen.ensures c.in-Closes.is))
-
-pub returns-in-Label : goal.returns-in-Label
-returns-in-Label c = pass_label _ (c.args.low) window _ _ _ ((lexed_is c.next_token-seen.ensures c.in-Label.is))
-
-pub returns-in-End : goal.returns-in-End
-returns-in-End c = pass_end _ (c.args.low) window ((lexed_is c.next_token-seen.ensures c.in-End.is))
-
-pub returns-in-Bad : goal.returns-in-Bad
-returns-in-Bad c = pass_bad _ (c.args.low) window ((lexed_is c.next_token-seen.ensures c.in-Bad.is))
+pub returns : goal.returns
+returns c =
+    let r : Root c.args.xml.now c.args.low window c.match-next_token.depth.1 c.match-next_token.depth.0 =
+    elim c.match-next_token.branch [ in-Opens w ↦ rw w.depth-is (root_opens _ _ _ _ w.in-Opens.ensures) | in-Empty w ↦ rw w.depth-is (root_empty _ _ _ _ w.in-Empty.ensures) ] in
+    pass_root _ _ _ _ r _ c.counted-tally.ensures _ c.scan_from.ensures

@@ -10,15 +10,15 @@ returns-in_default c =
 
 pub blanks_end-t-requires : goal.blanks_end-t-requires
 blanks_end-t-requires c =
-    let h = c.label_part_end.ensures.on (c.in-At.e) c.in-At.is in
+    let h = c.label_part_end.ensures.on (c.in-Some.e) c.in-Some.is in
     omega arith
-
-pub returns-then-byte_is : goal.returns-then-byte_is
-returns-then-byte_is c =
-    let args = c.args in
-    texting_read args.xml.now args.i (c.in-At.e) c.blanks_end-t.result ((sym c.label_part_end.ensures.is ∙ c.in-At.is)) c.blanks_end-t.ensures (sym c.byte_is.ensures ∙ c.if-byte_is.true)
 
 pub returns : goal.returns
 returns c =
     let args = c.args in
-    texting_unended args.xml.now args.i (c.in-At.e) c.blanks_end-t.result ((sym c.label_part_end.ensures.is ∙ c.in-At.is)) c.blanks_end-t.ensures (sym c.byte_is.ensures ∙ c.if-byte_is.false)
+    texting_read args.xml.now args.i (c.in-Some.e) c.blanks_end-t.result ((sym c.label_part_end.ensures.is ∙ c.in-Some.is)) c.blanks_end-t.ensures (sym c.byte_is.ensures ∙ c.if-not-byte_is.false)
+
+pub returns-then-not-byte_is : goal.returns-then-not-byte_is
+returns-then-not-byte_is c =
+    let args = c.args in
+    texting_unended args.xml.now args.i (c.in-Some.e) c.blanks_end-t.result ((sym c.label_part_end.ensures.is ∙ c.in-Some.is)) c.blanks_end-t.ensures (sym c.byte_is.ensures ∙ c.if-not-byte_is.true)

@@ -1,9 +1,0 @@
-use mathlib.Core.Path.{refl}
-use borrow.Author.Tests.{eq-eqb, ne_eqb}
-use Rattle.rights.proofs.vocabulary.lowered.Goals as goal
-
-pub returns-then-o-eq-BEFORE : goal.returns-then-o-eq-BEFORE
-returns-then-o-eq-BEFORE c = rw (eq-eqb _ _ c.if-o-eq-BEFORE.true) refl
-
-pub returns : goal.returns
-returns c = rw (ne_eqb _ _ c.if-o-eq-BEFORE.false) refl
