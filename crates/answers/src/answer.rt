@@ -3,6 +3,7 @@
 // A view or a query that surely fits is put at once.
 // The time is in proportion to the nodes looked at and the bytes of the answer.
 ghost use Rattle.std.specs.Prelude.{◌≡◌, ℕ, List, ◌∷◌, [], ◌+◌, ◌-◌, ◌*◌, ◌%◌, ◌^◌, ◌≤◌, ◌<◌, leb, length, drop, replicate};
+ghost use Rattle.std.proofs.Math.Seq.{paste};
 ghost use Rattle.rights.specs.Limits.{label_max, records_max};
 ghost use Rattle.rights.specs.PathText.{decimal};
 ghost use Rattle.rights.specs.Nodes.{label_at};
@@ -32,6 +33,20 @@ fn surely_fits(n: usize, room: usize) -> bool
     NODE_TEXT_MAX * n + END_TEXT_MAX <= room
 }
 
+// Copies s into d at byte `to`.
+// Kept: a loop, for `copy_from_slice` needs memmove of C's library, and include/timetable.h promises memcpy and memset alone.
+fn copy(d: &mut [u8], to: usize, s: &[u8])
+    requires { to + length s.now ≤ length d.old }
+    ensures { d.new ≡ paste d.old to s.now (length s.now) }
+{
+    let n = s.len();
+    let mut j = 0;
+    while j < n {
+        d[to + j] = s[j];
+        j += 1;
+    }
+}
+
 // Puts s into the area at byte `at` where it fits; the place after it, fit or not.
 pub(crate) fn put_bytes(area: &mut [u8], at: usize, s: &[u8]) -> usize
     requires { at + length s.now < 2 ^ 64 }
@@ -39,7 +54,7 @@ pub(crate) fn put_bytes(area: &mut [u8], at: usize, s: &[u8]) -> usize
 {
     let r = at + s.len();
     if r <= area.len() {
-        area[at..r].copy_from_slice(s);
+        copy(area, at, s);
     }
     r
 }
