@@ -23,8 +23,8 @@ overflow_add-counts-then-marks-i-eq1 c =
     let level : ℕ = c.level-level.result in
     let le = c.level-level.ensures in
     let g : List ℕ = c.loop-i.counts in
-    let down = laws.filled 0 0 g (level + 1) (level + 17) (omega arith) (omega arith) c.fill.new.self c.fill.ensures.after in
-    omega (arith, laws.counts_small g _ c.loop-i.i level down c.loop-i.invariant.1 level (omega arith), c.args.shown.now.fits.few)
+    let down = laws.filled 0 0 g _ _ (omega arith) (omega arith) c.fill.new.self c.fill.ensures.after in
+    omega (arith, down.below level (omega arith), c.loop-i.invariant.1 level (omega arith), c.args.shown.now.fits.few)
 
 pub loop-i-preserved : goal.loop-i-preserved
 loop-i-preserved c =
