@@ -42,7 +42,9 @@ fn same_name(xml: &[u8], p: usize, name: Span) -> bool
     xml[p..p + n] == xml[name.start..name.end] && !label_byte(xml[p + n])
 }
 
-// One node more, of a level and with a label.
+// One node more, of a level and with a label. It is inlined into the loop over the tokens, so that no tally goes
+// through memory.
+#[inline(always)]
 fn counted(t: Tally, level: usize, xml: &[u8], label: Span) -> Tally
     requires { (t.nodes + 1 < 2 ^ 64) × (label.start ≤ label.end) × (label.end ≤ length xml.now) }
     ensures { result ≡ tallied t (node level (name_in xml.now label)) }
@@ -139,7 +141,9 @@ fn scan_rest(xml: &[u8], low: usize, first: Pass, places: &mut [usize]) -> Optio
     }
 }
 
-// The rest of a pass after the root's tag, whose name stands at `root`.
+// The rest of a pass after the root's tag, whose name stands at `root`. It is never inlined, so that the stack of the
+// window is taken only where there is a root.
+#[inline(never)]
 fn scan_from(xml: &[u8], low: usize, root: usize, first: Pass) -> Option<Tally>
     requires { Ready xml.now (replicate window root) first }
     ensures { (f : ℕ) → length xml.now - first.at < f → result ≡ told_at xml.now low (replicate window root) f first }
