@@ -341,7 +341,7 @@ none_written s = (
     go h (inl e) = e
     go h (inr x) = absurd (h x.0 x.1 x.2)
 
--- Some most one good command is written so
+-- At most one good command is written so
 
 abbrev right_named : List ℕ → Right
 right_named w = cond (eqb (length w) 8) position (cond (eqb (length w) 4) read (cond (eqb (get_or w 0 0) 105) insert (cond (eqb (get_or w 0 0) 117) update delete)))

@@ -299,7 +299,7 @@ tree_sound s at j = after_elim (open_end s at) (λ e. tail_end (length s) 1 e (d
               nodes = rw o (ap (λ (ns : List Node). node 0 lab ∷ ns) (n ∙ append-nil (nodes_in 1 ts)));
             }
 
--- Some most one good tree is written so
+-- At most one good tree is written so
 pub label_unique : (l m x y : List ℕ) → all label_byte l ≡ true → all label_byte m ≡ true → label_byte (get_or x 0 0) ≡ false → label_byte (get_or y 0 0) ≡ false → l ++ x ≡ m ++ y → (l ≡ m) × (x ≡ y)
 label_unique l m x y a b p q e =
     let n : length l ≡ length m = sym (run_over label_byte l x a p) ∙ ap (run label_byte) e ∙ run_over label_byte m y b q in (

@@ -16,7 +16,7 @@ unfoldable pub open_end : List ℕ → ℕ → Option ℕ
 open_end s at = cond (eqb (byte_at s at) 40) (label_end s (at + 1)) None
 
 -- What follows a label where depth trees are open is `)`, or a space and a further tree; s stands at place at, and what is read is the place after the
--- `)` of the outermost. Some most f parts are read; each part takes a byte or more, so the length of s is enough.
+-- `)` of the outermost. At most f parts are read; each part takes a byte or more, so the length of s is enough.
 unfoldable pub tail_end : ℕ → ℕ → ℕ → List ℕ → Option ℕ
 tail_end zero depth at s = None
 tail_end (suc f) depth at s =

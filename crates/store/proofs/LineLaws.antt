@@ -5,10 +5,10 @@ use Rattle.std.specs.Prelude.{Result, Ok, Err, IsErrAnd}
 use Prim.Native.Nat.{ℕ, min, suc, ◌+◌, ◌-◌, ◌*◌, ◌≤◌, ◌<◌}
 use mathlib.Core.Path.{◌≡◌, refl, sym, ap, ◌∙◌, subst}
 use mathlib.Core.List.{List, [], ◌∷◌, ◌++◌, append_assoc}
-use mathlib.Core.Bool.{Bool, true, false, ◌&&◌, and-eq-true_iff}
+use mathlib.Core.Bool.{Bool, true, false, ◌&&◌, beq, and-eq-true_iff}
 use native.Mathlib.Omega.{arith}
-use borrow.Author.Tests.{leb-true, leb-false, not-false}
-use lib.Dec.{leb}
+use borrow.Author.Tests.{leb-true, le-leb, lt-leb, leb-false, not-false}
+use lib.Dec.{leb, ltb}
 use lib.ListN.{length, get_or, take, drop, replicate, length-append, length-drop, length-replicate, drop_of_length-le}
 use lib.Seq.{take_at, take_all, take-nil}
 use Rattle.rights.specs.Record.{node_record, pasted}
@@ -128,6 +128,13 @@ root_stage g h = by_case (leb 2 g)
     let y : ◌≡◌ {A = ℕ} 0 1 = cc in
     omega arith))
     (λ q. omega (arith, leb-false 2 g q))
+
+-- the stage of a form beside the stage of the state
+pub stage_late : (k g : ℕ) → k < g → false ≡ in_stage k g
+stage_late k g h = rw (lt-leb g k h)
+
+pub stage_even : (k g : ℕ) → g ≤ k → beq (ltb 2 k) (leb 2 g) ≡ in_stage k g
+stage_even k g h = rw (le-leb g k h)
 
 -- a line that is short enough finds room for its tree
 pub form_room : (line : List ℕ) → line_ok line ≡ true → 16 * length line ≤ length (replicate {A = ℕ} 16384 0)

@@ -39,7 +39,7 @@ deepest_more m i j d l tree ej h ed el =
     rw (s, level_first (i * 32) tree, ← el, ← e)
 
 -- std's `max` of two levels is the deeper of them
-greater : (a b : ℕ) (o : Ordering) → MatchOrdering o (b < a) (b ≡ a) (a < b) → cond (is_lt o) a b ≡ cond (ltb a b) b a
+pub greater : (a b : ℕ) (o : Ordering) → MatchOrdering o (b < a) (b ≡ a) (a < b) → cond (is_lt o) a b ≡ cond (ltb a b) b a
 greater a b Less h = rw (le-ltb a b (omega arith))
 greater a b Equal h = rw (le-ltb a b (omega arith)) h
 greater a b Greater h = rw (lt-ltb a b h)
@@ -71,14 +71,14 @@ module _ (deep n i : ℕ) (t ms : List ℕ) (inside : i < n) (many : n ≤ lengt
   unfolding too_deep
   place_step = let h : i < length ms = omega arith in rw (chunks_cons n i t inside, marks_drop ms i h, level_first (4 + i * 32) t)
 
-  deep_stop : (not (eqb (get_or ms i 0) 0) && ltb 11 (get_or t (4 + i * 32) 0 + deep)) ≡ true → true ≡ too_deep deep (marks_of (drop i ms)) (chunks (n - i) (drop (4 + i * 32) t))
+  pub deep_stop : (not (eqb (get_or ms i 0) 0) && ltb 11 (get_or t (4 + i * 32) 0 + deep)) ≡ true → true ≡ too_deep deep (marks_of (drop i ms)) (chunks (n - i) (drop (4 + i * 32) t))
   deep_stop e = rw (place_step, e)
 
-  deep_step : (not (eqb (get_or ms i 0) 0) && ltb 11 (get_or t (4 + i * 32) 0 + deep)) ≡ false
+  pub deep_step : (not (eqb (get_or ms i 0) 0) && ltb 11 (get_or t (4 + i * 32) 0 + deep)) ≡ false
       → too_deep deep (marks_of (drop i ms)) (chunks (n - i) (drop (4 + i * 32) t)) ≡ too_deep deep (marks_of (drop (i + 1) ms)) (chunks (n - (i + 1)) (drop (4 + (i + 1) * 32) t))
   deep_step e = rw (place_step, e)
 
-deep_none : (deep n i : ℕ) (t ms : List ℕ) → n ≤ i → too_deep deep (marks_of (drop i ms)) (chunks (n - i) (drop (4 + i * 32) t)) ≡ false
+pub deep_none : (deep n i : ℕ) (t ms : List ℕ) → n ≤ i → too_deep deep (marks_of (drop i ms)) (chunks (n - i) (drop (4 + i * 32) t)) ≡ false
 unfolding chunks too_deep
 deep_none deep n i t ms h = let z : n - i ≡ 0 = omega arith in rw z
 

@@ -31,11 +31,11 @@ module _ (s : List ℕ) (low w : ℕ) where
   unfolding tokens_from
   first x t e = let z : t - 0 ≡ t = omega arith in rw (e, z)
 
-  pass_end : LexedAt s 0 End → None ≡ kind_within low w (tokens s)
+  pub pass_end : LexedAt s 0 End → None ≡ kind_within low w (tokens s)
   unfolding tokens_from
   pass_end l = rw l.is (sym (kind_none low w))
 
-  pass_bad : LexedAt s 0 Bad → None ≡ kind_within low w (tokens s)
+  pub pass_bad : LexedAt s 0 Bad → None ≡ kind_within low w (tokens s)
   unfolding tokens_from
   pass_bad l = rw l.is
 
@@ -46,10 +46,10 @@ module _ (s : List ℕ) (low w : ℕ) where
     abbrev rest : Tokens
     rest = tokens_from (length s) (drop v.next s)
 
-    pass_closes : LexedAt s 0 (Closes v) → None ≡ kind_within low w (tokens s)
+    pub pass_closes : LexedAt s 0 (Closes v) → None ≡ kind_within low w (tokens s)
     pass_closes l = rw (first (closes name) v.next l.is) (sym (kind_closes low w name rest))
 
-    pass_label : LexedAt s 0 (Label v) → None ≡ kind_within low w (tokens s)
+    pub pass_label : LexedAt s 0 (Label v) → None ≡ kind_within low w (tokens s)
     pass_label l = rw (first (text name) v.next l.is) (sym (kind_text low w name rest))
 
     names : Spot s 0 v.start v.end v.next → map (name_at s) (replicate w v.start) ≡ replicate w name

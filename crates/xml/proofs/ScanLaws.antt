@@ -105,7 +105,7 @@ module _ {s places : List ℕ} {p : Pass} (low : ℕ) (here : Ready s places p) 
   unfolding tokens_from told
   steps_end l z = record { is = λ f. rw (l.is, z); on = tt }
 
-  steps_bad : LexedAt s p.at Bad → Steps s low places places p (Break None)
+  pub steps_bad : LexedAt s p.at Bad → Steps s low places places p (Break None)
   unfolding tokens_from
   steps_bad l = record { is = λ f. rw l.is; on = tt }
 
@@ -160,11 +160,11 @@ module _ {s places : List ℕ} {p : Pass} (low : ℕ) (here : Ready s places p) 
       on = ready places p.depth tally w (behind w) (omega arith) (rw c (omega arith));
     }
 
-    steps_empty : LexedAt s p.at (Empty v) → (p.depth ≡ 0 → ⊥) → (tally : Tally) → tally ≡ tallied p.tally (node p.depth name)
+    pub steps_empty : LexedAt s p.at (Empty v) → (p.depth ≡ 0 → ⊥) → (tally : Tally) → tally ≡ tallied p.tally (node p.depth name)
         → Steps s low places places p (Continue (record { at = v.next; depth = p.depth; tally = tally }))
     steps_empty l = leaf_on l.on (empty name) l.is (told_empty low (map (name_at s) places) p.tally name)
 
-    steps-label : LexedAt s p.at (Label v) → (p.depth ≡ 0 → ⊥) → (tally : Tally) → tally ≡ tallied p.tally (node p.depth name)
+    pub steps-label : LexedAt s p.at (Label v) → (p.depth ≡ 0 → ⊥) → (tally : Tally) → tally ≡ tallied p.tally (node p.depth name)
         → Steps s low places places p (Continue (record { at = v.next; depth = p.depth; tally = tally }))
     steps-label l = leaf_on l.on (text name) l.is (told_text low (map (name_at s) places) p.tally name)
 

@@ -42,10 +42,10 @@ module _ {s table : List ℕ} {p : Cursor} (here : Roomy s table p) where
   none_left x e o zero = refl
   none_left x e o (suc f) = rw e (o (λ y n. own_nodes p.depth y ++ nodes_from f (depth_after p.depth y) (drop n (drop p.at s))))
 
-  put_end : LexedAt s p.at End → PutNext s table table p None
+  pub put_end : LexedAt s p.at End → PutNext s table table p None
   put_end l = (refl, none_left end l.is (λ h. refl))
 
-  put_bad : LexedAt s p.at Bad → PutNext s table table p None
+  pub put_bad : LexedAt s p.at Bad → PutNext s table table p None
   put_bad l = (refl, none_left bad l.is (λ h. refl))
 
   module _ (v : Span) where
@@ -67,10 +67,10 @@ module _ {s table : List ℕ} {p : Cursor} (here : Roomy s table p) where
     pub room_opens : LexedAt s p.at (Opens v) → Room
     room_opens l = room_for (opens name) l.is refl l.on
 
-    room_empty : LexedAt s p.at (Empty v) → Room
+    pub room_empty : LexedAt s p.at (Empty v) → Room
     room_empty l = room_for (empty name) l.is refl l.on
 
-    room_label : LexedAt s p.at (Label v) → Room
+    pub room_label : LexedAt s p.at (Label v) → Room
     room_label l = room_for (text name) l.is refl l.on
 
     put-own : (x : Token) → lex (drop p.at s) ≡ token x (v.next - p.at) → own_nodes p.depth x ≡ own → Spot s p.at v.start v.end v.next → (d : ℕ) → d ≡ depth_after p.depth x → d ≤ p.depth + 1
@@ -94,11 +94,11 @@ module _ {s table : List ℕ} {p : Cursor} (here : Roomy s table p) where
         → Put s table after p (record { at = v.next; depth = p.depth + 1; nodes = p.nodes + 1 })
     put_opens l = put-own (opens name) l.is refl l.on (p.depth + 1) refl (omega arith)
 
-    put_empty : LexedAt s p.at (Empty v) → (after : List ℕ) → after ≡ pasted table (4 + p.nodes * 32) (node_record p.depth name)
+    pub put_empty : LexedAt s p.at (Empty v) → (after : List ℕ) → after ≡ pasted table (4 + p.nodes * 32) (node_record p.depth name)
         → Put s table after p (record { at = v.next; depth = p.depth; nodes = p.nodes + 1 })
     put_empty l = put-own (empty name) l.is refl l.on p.depth refl (omega arith)
 
-    put-label : LexedAt s p.at (Label v) → (after : List ℕ) → after ≡ pasted table (4 + p.nodes * 32) (node_record p.depth name)
+    pub put-label : LexedAt s p.at (Label v) → (after : List ℕ) → after ≡ pasted table (4 + p.nodes * 32) (node_record p.depth name)
         → Put s table after p (record { at = v.next; depth = p.depth; nodes = p.nodes + 1 })
     put-label l = put-own (text name) l.is refl l.on p.depth refl (omega arith)
 
