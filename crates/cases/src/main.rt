@@ -12,6 +12,9 @@
 // Any other line is left out. tests/make_cases.py writes the lines, and their answers from document 01.
 ghost use Rattle.std.specs.Prelude.{◌≡◌, ◌≤◌, ◌<◌, length};
 
+#[cfg(test)]
+mod tests;
+
 use std::io::Read;
 use trials::{
     TrialError, trial_path, trial_policy, trial_rights, trial_select, trial_table, trial_word,
